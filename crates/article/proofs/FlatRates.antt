@@ -1,0 +1,41 @@
+-- The code's table is the article's percentages in units: one test over the whole table, one law for every entry. Assumes nothing.
+use mathlib.Core.Path.{_≡_, refl, ap, _∙_}
+use mathlib.Core.List.{List, [], _∷_, map}
+use Prim.Native.Nat.{ℕ, zero, suc, _-_, _*_, _/_, _≤_}
+use native.Mathlib.Nat.{mul-le-mul-right}
+use native.Mathlib.Omega.{arith}
+use Rattle.lists.proofs.Entries.{bounded}
+use lib.ListN.{getD, List·getD-map}
+use Rattle.article.specs.Rate.{percents, flatRate}
+
+-- the table as src/rate.rt has it
+abbrev pub table : List (List ℕ)
+table =
+    (1460 ∷ 1460 ∷ 2920 ∷ 5840 ∷ 5840 ∷ [])
+    ∷ (2920 ∷ 4380 ∷ 5840 ∷ 7300 ∷ 7300 ∷ [])
+    ∷ []
+
+abbrev units : ℕ → ℕ
+units percent = percent * (146000 / 100)
+
+tested : table ≡ map (map units) percents
+unfolding percents
+tested = refl
+
+pub flat-right : (class period : ℕ) → getD (getD table class []) (period - 1) 0 ≡ flatRate class period
+unfolding flatRate
+flat-right class period =
+    ap (λ (t : List (List ℕ)). getD (getD t class []) (period - 1) 0) tested
+    ∙ ap (λ (row : List ℕ). getD row (period - 1) 0) (List·getD-map (map units) percents class [])
+    ∙ List·getD-map units (getD percents class []) (period - 1) 0
+
+percent-high : (class at : ℕ) → getD (getD percents class []) at 0 ≤ 5
+unfolding percents
+percent-high zero at = bounded 5 (1 ∷ 1 ∷ 2 ∷ 4 ∷ 4 ∷ []) tt at
+percent-high (suc zero) at = bounded 5 (2 ∷ 3 ∷ 4 ∷ 5 ∷ 5 ∷ []) tt at
+percent-high (suc (suc class)) at = omega arith
+
+-- no bond's rate is above 5 percent
+pub flat-high : (class period : ℕ) → flatRate class period ≤ 7300
+unfolding flatRate
+flat-high class period = mul-le-mul-right 1460 (percent-high class (period - 1))

@@ -1,0 +1,4 @@
+pub mod Ranges
+pub mod Periods
+pub mod FlatRates
+pub mod PairRates

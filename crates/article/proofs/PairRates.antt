@@ -1,0 +1,37 @@
+-- Laws of a pair's rate and of what it saves. Assumes nothing.
+use mathlib.Core.Path.{_≡_}
+use mathlib.Core.Bool.{true, false, false≢true}
+use Prim.Native.Nat.{ℕ, _+_, _*_, _≤_, min, max}
+use native.Mathlib.Omega.{arith}
+use Rattle.article.specs.Pair.{ruleRate, permits, pairRate, savingRate, ruleOf, Fair}
+use Rattle.article.specs.declared.pair.Rule.{Rule}
+use Rattle.article.specs.declared.pair.Rule.the-variants.{Difference, HalfSum, NotAllowed}
+use Rattle.article.specs.declared.pair.Leg.{Leg}
+
+-- the difference is the excess of the greater rate over the lesser, never negative
+pub difference-excess : (a b : ℕ) → min a b + ruleRate Difference a b ≡ max a b
+unfolding ruleRate
+difference-excess a b = omega arith
+
+pub rule-rate-le : (r : Rule) (a b : ℕ) → ruleRate r a b ≤ a + b
+unfolding ruleRate
+rule-rate-le Difference a b = omega arith
+rule-rate-le HalfSum a b = omega arith
+rule-rate-le NotAllowed a b = omega arith
+
+-- a pair's rate and its saving rate are together the two rates
+pub rate-and-saving : (l s : Leg) → pairRate l s + savingRate l s ≡ l .rate + s .rate
+unfolding savingRate pairRate
+rate-and-saving l s = omega (arith, rule-rate-le (ruleOf l s) (l .rate) (s .rate))
+
+-- the saving rate lies between 0 and 43,800
+pub saving-high : (l s : Leg) → Fair l → Fair s → savingRate l s ≤ 43800
+unfolding savingRate
+saving-high l s f g = omega arith
+
+-- a rule that permits makes no rate above the article's highest
+pub permitted-high : (r : Rule) (a b : ℕ) → permits r ≡ true → a ≤ 21900 → b ≤ 21900 → ruleRate r a b ≤ 21900
+unfolding ruleRate
+permitted-high Difference a b p f g = omega arith
+permitted-high HalfSum a b p f g = omega arith
+permitted-high NotAllowed a b p f g = absurd (false≢true p)

@@ -1,0 +1,125 @@
+-- A row has no fault exactly when its numbers are within their ranges; a row and its record then give each other back. Assumes nothing.
+use mathlib.Core.Path.{_≡_, refl}
+use mathlib.Core.Bool.{Bool, true, false, cond, not}
+use Prim.Native.Nat.{ℕ, zero, suc, _≤_}
+use native.Mathlib.Omega.{arith}
+use lib.Dec.{eqb, eqb·suc-zero}
+use borrow.Author.Tests.{not-false, ne-eqb}
+use Rattle.lists.proofs.Tests.{within-true, true-within}
+use Rattle.lists.proofs.Firsts.{first-none}
+use Rattle.lists.specs.Choice.{firstOf, within}
+use Rattle.article.specs.Holding.{Ranges, InRange, Kept, faultOf, sideNumber, kindNumber, issuerNumber, sideOf, kindOf, issuerOf, rowOf, holdingOf}
+use Rattle.article.specs.declared.holding.Side.{Side}
+use Rattle.article.specs.declared.holding.Side.the-variants.{Long, Short}
+use Rattle.article.specs.declared.holding.Kind.{Kind}
+use Rattle.article.specs.declared.holding.Kind.the-variants.{Bond, Coupon, Residual}
+use Rattle.article.specs.declared.holding.Issuer.{Issuer}
+use Rattle.article.specs.declared.holding.Issuer.the-variants.{Canada, Province}
+use Rattle.article.specs.declared.holding.Holding.{Holding}
+use Rattle.article.specs.declared.holding.Row.{Row}
+
+-- a range whose test did not fail
+inside : (low high x : ℕ) → not (within low high x) ≡ false → (low ≤ x) × (x ≤ high)
+inside low high x e = within-true low high x (not-false (within low high x) e)
+
+pub fault-none : (r : Row) → faultOf r ≡ 0 → Ranges r
+unfolding faultOf
+fault-none r e =
+    let (side, e₅) = first-none _ 3 _ e in
+    let (kind, e₆) = first-none _ 4 _ e₅ in
+    let (issuer, e₇) = first-none _ 5 _ e₆ in
+    let (days, e₈) = first-none _ 6 _ e₇ in
+    let (value, _) = first-none _ 7 _ e₈ in
+    record {
+      side = inside 0 1 (r .side) side .1;
+      kind = inside 0 2 (r .kind) kind .1;
+      issuer = inside 0 10 (r .issuer) issuer .1;
+      days-low = inside 1 36500 (r .days) days .0;
+      days-high = inside 1 36500 (r .days) days .1;
+      value-low = inside 1 100000000000 (r .value) value .0;
+      value-high = inside 1 100000000000 (r .value) value .1;
+    }
+
+pub none-fault : (r : Row) → Ranges r → faultOf r ≡ 0
+unfolding faultOf firstOf
+none-fault r g =
+    rw (
+      true-within 0 1 (r .side) (omega arith) (g .side),
+      true-within 0 2 (r .kind) (omega arith) (g .kind),
+      true-within 0 10 (r .issuer) (omega arith) (g .issuer),
+      true-within 1 36500 (r .days) (g .days-low) (g .days-high),
+      true-within 1 100000000000 (r .value) (g .value-low) (g .value-high),
+    )
+
+side-number : (n : ℕ) → n ≤ 1 → sideNumber (sideOf n) ≡ n
+unfolding sideOf
+side-number zero h = refl
+side-number (suc zero) h = refl
+side-number (suc (suc n)) h = omega arith
+
+kind-number : (n : ℕ) → n ≤ 2 → kindNumber (kindOf n) ≡ n
+unfolding kindOf
+kind-number zero h = refl
+kind-number (suc zero) h = refl
+kind-number (suc (suc zero)) h = refl
+kind-number (suc (suc (suc n))) h = omega arith
+
+issuer-number : (n : ℕ) → n ≤ 10 → issuerNumber (issuerOf n) ≡ n
+unfolding issuerOf
+issuer-number zero h = refl
+issuer-number (suc n) h = rw (eqb·suc-zero n) (rw (true-within 1 10 (suc n) (omega arith) h))
+
+-- a record keeps its row's numbers
+pub row-kept : (r : Row) → Ranges r → rowOf (holdingOf r) ≡ r
+unfolding rowOf holdingOf
+row-kept r g = λ i. record {
+  side = side-number (r .side) (g .side) i;
+  kind = kind-number (r .kind) (g .kind) i;
+  issuer = issuer-number (r .issuer) (g .issuer) i;
+  days = r .days;
+  value = r .value;
+}
+
+-- what the record of a row without fault is good for
+pub kept : (r : Row) → faultOf r ≡ 0 → Kept r (holdingOf r)
+kept r e =
+    let g : Ranges r = fault-none r e in
+    record { numbers = row-kept r g; ranges = rw (row-kept r g) g }
+
+side-back : (s : Side) → sideOf (sideNumber s) ≡ s
+unfolding sideOf
+side-back Long = refl
+side-back Short = refl
+
+kind-back : (k : Kind) → kindOf (kindNumber k) ≡ k
+unfolding kindOf
+kind-back Bond = refl
+kind-back Coupon = refl
+kind-back Residual = refl
+
+-- a province within the ranges has a number from 1 to 10: no other is an issuer
+pub province-range : (p : ℕ) → issuerNumber (Province p) ≤ 10 → within 1 10 p ≡ true
+province-range p h = by (within 1 10 p) refl
+  where
+    by : (t : Bool) → within 1 10 p ≡ t → within 1 10 p ≡ true
+    by true e = e
+    by false e =
+        let none : 18446744073709551615 ≤ 10 = rw e at h in
+        absurd (omega arith)
+
+issuer-back : (i : Issuer) → issuerNumber i ≤ 10 → issuerOf (issuerNumber i) ≡ i
+unfolding issuerOf
+issuer-back Canada h = refl
+issuer-back (Province p) h =
+    let e = province-range p h in
+    rw (e, ne-eqb p 0 (λ z. let (a, _) = within-true 1 10 p e in omega arith))
+
+pub holding-kept : (h : Holding) → InRange h → holdingOf (rowOf h) ≡ h
+unfolding rowOf holdingOf
+holding-kept h g = λ i. record {
+  side = side-back (h .side) i;
+  kind = kind-back (h .kind) i;
+  issuer = issuer-back (h .issuer) (g .issuer) i;
+  days = h .days;
+  value = h .value;
+}

@@ -1,0 +1,22 @@
+-- `row_of` is `rowOf`: each field by its own function's promise. Assumes nothing.
+use Rattle.article.specs.Holding.{rowOf}
+use borrow.Author.Needs.{needs}
+use Rattle.article.proofs.holding.row_of.Statement.{statement}
+use Rattle.article.proofs.holding.row_of.Tie as tie
+
+side-number-requires : tie.Need-side-number-requires
+side-number-requires c κs = search needs
+
+kind-number-requires : tie.Need-kind-number-requires
+kind-number-requires c κs = search needs
+
+issuer-number-requires : tie.Need-issuer-number-requires
+issuer-number-requires c κs = search needs
+
+returns : tie.Need-returns
+unfolding rowOf
+returns c = cc
+
+pub row-of-spec : {M : Type 1} → statement M
+row-of-spec =
+    tie.close (tie.spec side-number-requires kind-number-requires issuer-number-requires returns)

@@ -1,0 +1,22 @@
+-- `leg_of` is `legOf`: each field by its own function's promise. Assumes nothing.
+use native.Mathlib.Omega.{arith}
+use Rattle.article.specs.Pair.{legOf}
+use borrow.Author.Needs.{needs}
+use Rattle.article.proofs.pair.leg_of.Statement.{statement}
+use Rattle.article.proofs.pair.leg_of.Tie as tie
+
+row-of-requires : tie.Need-row-of-requires
+row-of-requires c κs = search needs
+
+period-requires : tie.Need-period-requires
+period-requires c κs = search needs
+
+rate-requires : tie.Need-rate-requires
+rate-requires c κs = search needs
+
+returns : tie.Need-returns
+unfolding legOf
+returns c = (cc, omega arith)
+
+pub leg-of-spec : {M : Type 1} → statement M
+leg-of-spec = tie.close (tie.spec row-of-requires period-requires rate-requires returns)

@@ -1,0 +1,112 @@
+-- Document 01, "A holding": the ranges of raw numbers, and the record that numbers within them make. Assumes nothing.
+use mathlib.Core.Path.{_≡_}
+use mathlib.Core.Bool.{Bool, cond, not}
+use mathlib.Core.List.{List, [], _∷_}
+use Prim.Native.Nat.{ℕ, _≤_}
+use lib.Dec.{eqb}
+use Rattle.lists.specs.Choice.{firstOf, within}
+use Rattle.article.specs.declared.holding.Side.{Side}
+use Rattle.article.specs.declared.holding.Side.the-variants.{Long, Short}
+use Rattle.article.specs.declared.holding.Kind.{Kind}
+use Rattle.article.specs.declared.holding.Kind.the-variants.{Bond, Coupon, Residual}
+use Rattle.article.specs.declared.holding.Issuer.{Issuer}
+use Rattle.article.specs.declared.holding.Issuer.the-variants.{Canada, Province}
+use Rattle.article.specs.declared.holding.Holding.{Holding}
+use Rattle.article.specs.declared.holding.Row.{Row}
+use Rattle.article.specs.declared.holding.Built.{Built}
+use Rattle.article.specs.declared.holding.Built.the-variants.{Made, Refused}
+
+-- the ranges of a holding's numbers
+pub record Ranges (r : Row) : Type 0 where
+  pub side : r .side ≤ 1
+  pub kind : r .kind ≤ 2
+  pub issuer : r .issuer ≤ 10
+  pub days-low : 1 ≤ r .days
+  pub days-high : r .days ≤ 36500
+  pub value-low : 1 ≤ r .value
+  pub value-high : r .value ≤ 100000000000
+
+-- 4 side, 5 kind, 6 issuer, 7 days, 8 value outside its range: the first that holds, 0 for none
+unfoldable pub faultOf : Row → ℕ
+faultOf r =
+    firstOf
+    ((not (within 0 1 (r .side)), 4)
+    ∷ (not (within 0 2 (r .kind)), 5)
+    ∷ (not (within 0 10 (r .issuer)), 6)
+    ∷ (not (within 1 36500 (r .days)), 7)
+    ∷ (not (within 1 100000000000 (r .value)), 8)
+    ∷ [])
+    0
+
+-- side: 0 long, 1 short
+abbrev pub sideNumber : Side → ℕ
+sideNumber Long = 0
+sideNumber Short = 1
+
+-- kind: 0 bond or debenture, 1 stripped coupon, 2 residual
+abbrev pub kindNumber : Kind → ℕ
+kindNumber Bond = 0
+kindNumber Coupon = 1
+kindNumber Residual = 2
+
+-- issuer: 0 Canada, 1 to 10 a province; a province of no such number has one that is no issuer's
+abbrev pub issuerNumber : Issuer → ℕ
+issuerNumber Canada = 0
+issuerNumber (Province p) = cond (within 1 10 p) p 18446744073709551615
+
+-- the numbers of a record
+unfoldable pub rowOf : Holding → Row
+rowOf h = record {
+  side = sideNumber (h .side);
+  kind = kindNumber (h .kind);
+  issuer = issuerNumber (h .issuer);
+  days = h .days;
+  value = h .value;
+}
+
+-- a record within the ranges
+abbrev pub InRange : Holding → Type 0
+InRange h = Ranges (rowOf h)
+
+-- the record of a row, case by case
+unfoldable pub sideOf : ℕ → Side
+sideOf n = cond (eqb n 0) Long Short
+
+unfoldable pub kindOf : ℕ → Kind
+kindOf n = cond (eqb n 0) Bond (cond (eqb n 1) Coupon Residual)
+
+unfoldable pub issuerOf : ℕ → Issuer
+issuerOf n = cond (eqb n 0) Canada (Province n)
+
+unfoldable pub holdingOf : Row → Holding
+holdingOf r = record {
+  side = sideOf (r .side);
+  kind = kindOf (r .kind);
+  issuer = issuerOf (r .issuer);
+  days = r .days;
+  value = r .value;
+}
+
+-- the paper's number of what a row makes: 0 for a record, else the refusal's
+abbrev pub numberOf : Built → ℕ
+numberOf (Made h) = 0
+numberOf (Refused n) = n
+
+-- a row without fault makes its record
+unfoldable pub builtOf : Row → Built
+builtOf r = cond (eqb (faultOf r) 0) (Made (holdingOf r)) (Refused (faultOf r))
+
+-- a record that was made has the row's numbers, which are within the ranges
+pub record Kept (row : Row) (h : Holding) : Type 0 where
+  pub numbers : rowOf h ≡ row
+  pub ranges : InRange h
+
+abbrev pub Sound : Row → Built → Type 0
+Sound row (Made h) = Kept row h
+Sound row (Refused n) = Unit {0}
+
+-- what making a record of a row promises
+pub record Builds (row : Row) (r : Built) : Type 0 where
+  pub number : numberOf r ≡ faultOf row
+  pub built : r ≡ builtOf row
+  pub sound : Sound row r

@@ -1,0 +1,107 @@
+-- Document 01, "A pair", from the article's Group XI(2). Assumes nothing.
+use mathlib.Core.Bool.{Bool, true, false, cond, _&&_, _||_}
+use mathlib.Core.Path.{_≡_}
+use mathlib.Core.List.{List, [], _∷_}
+use Prim.Native.Nat.{ℕ, _+_, _-_, _*_, _/_, _≤_, min, max}
+use lib.Dec.{eqb}
+use Rattle.lists.specs.Choice.{firstOf, within}
+use Rattle.article.specs.Answer.{Answer, answer}
+use Rattle.article.specs.Holding.{rowOf}
+use Rattle.article.specs.Rate.{periodOf, rateOf}
+use Rattle.article.specs.declared.holding.Holding.{Holding}
+use Rattle.article.specs.declared.pair.Rule.{Rule}
+use Rattle.article.specs.declared.pair.Rule.the-variants.{Difference, HalfSum, NotAllowed}
+use Rattle.article.specs.declared.pair.Leg.{Leg}
+use Rattle.article.specs.declared.pair.Pair.{Pair}
+use Rattle.article.specs.declared.pair.Pair.the-variants as pairs
+
+-- what a pair asks of a holding: the numbers of its side, kind and issuer, its period, and its rate alone
+unfoldable pub legOf : Holding → Leg
+legOf h = record {
+  side = rowOf h .side;
+  kind = rowOf h .kind;
+  issuer = rowOf h .issuer;
+  period = periodOf (h .days);
+  rate = rateOf h;
+}
+
+unfoldable pub isLong : Leg → Bool
+isLong l = eqb (l .side) 0
+
+unfoldable pub isShort : Leg → Bool
+isShort l = eqb (l .side) 1
+
+unfoldable pub isBond : Leg → Bool
+isBond l = eqb (l .kind) 0
+
+-- strip means coupon or residual
+unfoldable pub isStrip : Leg → Bool
+isStrip l = within 1 2 (l .kind)
+
+unfoldable pub isCanada : Leg → Bool
+isCanada l = eqb (l .issuer) 0
+
+unfoldable pub isProvince : Leg → Bool
+isProvince l = within 1 10 (l .issuer)
+
+-- a bond with a strip or a strip with a strip: they are not both bonds
+unfoldable pub kindsPair : Leg → Leg → Bool
+kindsPair l s = (isBond l && isStrip s) || (isStrip l && isBond s) || (isStrip l && isStrip s)
+
+-- both Canada or both provincial: any two provinces count as one class
+unfoldable pub sameClass : Leg → Leg → Bool
+sameClass l s = (isCanada l && isCanada s) || (isProvince l && isProvince s)
+
+-- one Canada, one provincial
+unfoldable pub mixedClass : Leg → Leg → Bool
+mixedClass l s = (isCanada l && isProvince s) || (isProvince l && isCanada s)
+
+-- the rule by the issuers
+unfoldable pub classRule : Leg → Leg → Rule
+classRule l s = firstOf ((sameClass l s, Difference) ∷ (mixedClass l s, HalfSum) ∷ []) NotAllowed
+
+-- the rule by the kinds and the issuers
+unfoldable pub ruleOf : Leg → Leg → Rule
+ruleOf l s = cond (kindsPair l s) (classRule l s) NotAllowed
+
+abbrev pub permits : Rule → Bool
+permits Difference = true
+permits HalfSum = true
+permits NotAllowed = false
+
+-- one long and one short may be paired if both lie in the same period and their kinds and issuers have a rule
+unfoldable pub allowed : Leg → Leg → Bool
+allowed l s = isLong l && isShort s && eqb (l .period) (s .period) && permits (ruleOf l s)
+
+-- the difference of two rates, never negative; half the sum; where there is no pair, what the two have alone
+unfoldable pub ruleRate : Rule → ℕ → ℕ → ℕ
+ruleRate Difference a b = max a b - min a b
+ruleRate HalfSum a b = (a + b) / 2
+ruleRate NotAllowed a b = a + b
+
+-- the rate of a pair
+unfoldable pub pairRate : Leg → Leg → ℕ
+pairRate l s = ruleRate (ruleOf l s) (l .rate) (s .rate)
+
+-- the sum of the two rates less the pair's rate
+unfoldable pub savingRate : Leg → Leg → ℕ
+savingRate l s = l .rate + s .rate - pairRate l s
+
+-- the paper's number and values of each case: 0 with the pair's rate and the saving rate, or 13
+unfoldable pub told : Pair → Answer
+told (pairs.Allowed rate saving) = answer 0 rate saving
+told pairs.NotAllowed = answer 13 0 0
+
+-- what two legs are told
+unfoldable pub pairOf : Leg → Leg → Answer
+pairOf l s = cond (allowed l s) (answer 0 (pairRate l s) (savingRate l s)) (answer 13 0 0)
+
+-- a leg's rate is at most the article's highest
+abbrev pub Fair : Leg → Type 0
+Fair l = l .rate ≤ 21900
+
+-- what pairing two legs promises
+pub record Pairs (l s : Leg) (r : Pair) : Type 0 where
+  pub answered : told r ≡ pairOf l s
+  pub rate-high : told r .first ≤ 21900
+  pub saving-high : told r .second ≤ 43800

@@ -1,0 +1,64 @@
+-- Document 01, "Rate and period", from the article's Group I, Group II and Group XI(1). Assumes nothing.
+use mathlib.Core.Bool.{Bool, cond}
+use mathlib.Core.List.{List, [], _∷_}
+use Prim.Native.Nat.{ℕ, _+_, _-_, _*_, _/_}
+use lib.Dec.{ltb, leb}
+use lib.ListN.{getD}
+use Rattle.lists.specs.Choice.{count}
+use Rattle.article.specs.declared.holding.Kind.{Kind}
+use Rattle.article.specs.declared.holding.Kind.the-variants.{Bond, Coupon, Residual}
+use Rattle.article.specs.declared.holding.Issuer.{Issuer}
+use Rattle.article.specs.declared.holding.Issuer.the-variants.{Canada, Province}
+use Rattle.article.specs.declared.holding.Holding.{Holding}
+
+-- a term of more than so many years; a year is 365 days here
+unfoldable pub over : ℕ → ℕ → Bool
+over days years = ltb (years * 365) days
+
+-- a term of so many years or more
+unfoldable pub atLeast : ℕ → ℕ → Bool
+atLeast days years = leb (years * 365) days
+
+-- periods 1 to 5: 1 year or less, over 1 year to 3, over 3 to 7, over 7 to 11, over 11 years
+unfoldable pub periodOf : ℕ → ℕ
+periodOf days = 1 + count (over days) (1 ∷ 3 ∷ 7 ∷ 11 ∷ [])
+
+-- the issuer class: Group I, Canada, or Group II, the provinces
+abbrev pub classOf : Issuer → ℕ
+classOf Canada = 0
+classOf (Province p) = 1
+
+-- the margin required in each period, in percent of market value: Group I, then Group II
+unfoldable pub percents : List (List ℕ)
+percents =
+    (1 ∷ 1 ∷ 2 ∷ 4 ∷ 4 ∷ [])
+    ∷ (2 ∷ 3 ∷ 4 ∷ 5 ∷ 5 ∷ [])
+    ∷ []
+
+-- the same in units: a unit is 1/146,000 of a cent, so one percent of a cent is 1,460
+unfoldable pub flatRate : ℕ → ℕ → ℕ
+flatRate class period = getD (getD percents class []) (period - 1) 0 * (146000 / 100)
+
+-- a bond's rate; for 1 year or less it is multiplied by the days to maturity over 365
+unfoldable pub bondRate : ℕ → ℕ → ℕ
+bondRate class days =
+    let flat = flatRate class (periodOf days) in
+    cond (over days 1) flat (flat * days / 365)
+
+-- one and a half times the bond's rate, three times from 20 years
+unfoldable pub stripRate : ℕ → ℕ → ℕ
+stripRate bond days = cond (atLeast days 20) (bond * 3) (bond * 3 / 2)
+
+-- strip means coupon or residual
+unfoldable pub kindRate : Kind → ℕ → ℕ → ℕ
+kindRate Bond bond days = bond
+kindRate Coupon bond days = stripRate bond days
+kindRate Residual bond days = stripRate bond days
+
+-- the rate of a kind, an issuer and a term
+unfoldable pub rateAt : Kind → Issuer → ℕ → ℕ
+rateAt kind issuer days = kindRate kind (bondRate (classOf issuer) days) days
+
+-- the rate of a holding, units per cent of market value
+unfoldable pub rateOf : Holding → ℕ
+rateOf h = rateAt (h .kind) (h .issuer) (h .days)

@@ -1,0 +1,168 @@
+// A holding: the raw numbers of a row, their ranges, and the record that numbers within them make.
+ghost use mathlib.Core.Path.{_≡_};
+ghost use Rattle.article.specs.Holding.{sideOf, kindOf, issuerOf, faultOf, Builds, sideNumber, kindNumber, issuerNumber, rowOf};
+
+pub enum Side {
+    Long,
+    Short,
+}
+
+pub enum Kind {
+    Bond,
+    Coupon,
+    Residual,
+}
+
+pub enum Issuer {
+    Canada,
+    Province(u64),
+}
+
+pub struct Holding {
+    pub side: Side,
+    pub kind: Kind,
+    pub issuer: Issuer,
+    pub days: u64,
+    pub value: u64,
+}
+
+// A holding's numbers as they come, of any size.
+pub struct Row {
+    pub side: u64,
+    pub kind: u64,
+    pub issuer: u64,
+    pub days: u64,
+    pub value: u64,
+}
+
+// What a row makes: a record, or the number of its first fault.
+pub enum Built {
+    Made(Holding),
+    Refused(u64),
+}
+
+// The number of a row's first fault, 4 to 8, or 0 for none.
+pub fn fault(row: Row) -> u64
+    ensures { λ r. ⌜ r ≡ faultOf row ⌝ }
+{
+    if row.side > 1 {
+        return 4;
+    }
+    if row.kind > 2 {
+        return 5;
+    }
+    if row.issuer > 10 {
+        return 6;
+    }
+    if row.days < 1 {
+        return 7;
+    }
+    if row.days > 36500 {
+        return 7;
+    }
+    if row.value < 1 {
+        return 8;
+    }
+    if row.value > 100000000000 {
+        return 8;
+    }
+    0
+}
+
+fn side_of(side: u64) -> Side
+    ensures { λ r. ⌜ r ≡ sideOf side ⌝ }
+{
+    match side {
+        0 => Side::Long,
+        _ => Side::Short,
+    }
+}
+
+fn kind_of(kind: u64) -> Kind
+    ensures { λ r. ⌜ r ≡ kindOf kind ⌝ }
+{
+    match kind {
+        0 => Kind::Bond,
+        1 => Kind::Coupon,
+        _ => Kind::Residual,
+    }
+}
+
+fn issuer_of(issuer: u64) -> Issuer
+    ensures { λ r. ⌜ r ≡ issuerOf issuer ⌝ }
+{
+    match issuer {
+        0 => Issuer::Canada,
+        _ => Issuer::Province(issuer),
+    }
+}
+
+// The record of a row, or the number of its first fault.
+pub fn holding_of(row: Row) -> Built
+    ensures { λ r. ⌜ Builds row r ⌝ }
+{
+    let number = fault(row);
+    if number != 0 {
+        return Built::Refused(number);
+    }
+    let side = side_of(row.side);
+    let kind = kind_of(row.kind);
+    let issuer = issuer_of(row.issuer);
+    Built::Made(Holding {
+        side,
+        kind,
+        issuer,
+        days: row.days,
+        value: row.value,
+    })
+}
+
+// A number that no issuer has.
+const NOBODY: u64 = 18446744073709551615;
+
+fn side_number(side: Side) -> u64
+    ensures { λ r. ⌜ r ≡ sideNumber side ⌝ }
+{
+    match side {
+        Side::Long => 0,
+        Side::Short => 1,
+    }
+}
+
+fn kind_number(kind: Kind) -> u64
+    ensures { λ r. ⌜ r ≡ kindNumber kind ⌝ }
+{
+    match kind {
+        Kind::Bond => 0,
+        Kind::Coupon => 1,
+        Kind::Residual => 2,
+    }
+}
+
+fn issuer_number(issuer: Issuer) -> u64
+    ensures { λ r. ⌜ r ≡ issuerNumber issuer ⌝ }
+{
+    match issuer {
+        Issuer::Canada => 0,
+        Issuer::Province(p) => match p {
+            1..=10 => p,
+            _ => NOBODY,
+        },
+    }
+}
+
+// The numbers of a record.
+pub fn row_of(h: Holding) -> Row
+    ensures { λ r. ⌜ r ≡ rowOf h ⌝ }
+{
+    let side = h.side;
+    let kind = h.kind;
+    let issuer = h.issuer;
+    Row {
+        side: side_number(side),
+        kind: kind_number(kind),
+        issuer: issuer_number(issuer),
+        days: h.days,
+        value: h.value,
+    }
+}

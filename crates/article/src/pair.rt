@@ -1,0 +1,148 @@
+// A pair of a long and a short: whether the article allows it, its rate, and what it saves.
+use crate::holding;
+use crate::holding::Holding;
+use crate::rate;
+ghost use mathlib.Core.Path.{_≡_};
+ghost use Prim.Native.Nat.{_+_, _≤_};
+ghost use Rattle.article.specs.Holding.{InRange};
+ghost use Rattle.article.specs.Pair.{legOf, classRule, ruleOf, permits, ruleRate, Fair, Pairs};
+
+// Which rule a pair has.
+pub enum Rule {
+    Difference,
+    HalfSum,
+    NotAllowed,
+}
+
+// What a pair asks of one leg: the numbers of its side, kind and issuer, its period, and its rate alone.
+pub struct Leg {
+    pub side: u64,
+    pub kind: u64,
+    pub issuer: u64,
+    pub period: u64,
+    pub rate: u64,
+}
+
+// A pair's rate and the rate that it saves, or that the article does not allow it.
+pub enum Pair {
+    Allowed { rate: u64, saving: u64 },
+    NotAllowed,
+}
+
+// What a pair asks of this holding, worked out once.
+pub fn leg_of(h: Holding) -> Leg
+    requires { ⌜ InRange h ⌝ }
+    ensures { λ r. ⌜ (r ≡ legOf h) × Fair r ⌝ }
+{
+    let row = holding::row_of(h);
+    Leg {
+        side: row.side,
+        kind: row.kind,
+        issuer: row.issuer,
+        period: rate::period(h.days),
+        rate: rate::rate(h),
+    }
+}
+
+// The rule by the numbers of the two issuers.
+fn class_rule(long: Leg, short: Leg) -> Rule
+    ensures { λ r. ⌜ r ≡ classRule long short ⌝ }
+{
+    let first = long.issuer;
+    let second = short.issuer;
+    match first {
+        0 => match second {
+            0 => Rule::Difference,
+            1..=10 => Rule::HalfSum,
+            _ => Rule::NotAllowed,
+        },
+        1..=10 => match second {
+            0 => Rule::HalfSum,
+            1..=10 => Rule::Difference,
+            _ => Rule::NotAllowed,
+        },
+        _ => Rule::NotAllowed,
+    }
+}
+
+// The rule by the numbers of the two kinds, and where they pair by those of the two issuers.
+pub fn rule_of(long: Leg, short: Leg) -> Rule
+    ensures { λ r. ⌜ r ≡ ruleOf long short ⌝ }
+{
+    let first = long.kind;
+    let second = short.kind;
+    match first {
+        0 => match second {
+            0 => Rule::NotAllowed,
+            1..=2 => class_rule(long, short),
+            _ => Rule::NotAllowed,
+        },
+        1..=2 => match second {
+            0 => class_rule(long, short),
+            1..=2 => class_rule(long, short),
+            _ => Rule::NotAllowed,
+        },
+        _ => Rule::NotAllowed,
+    }
+}
+
+fn is_permitted(rule: Rule) -> bool
+    ensures { λ r. ⌜ r ≡ permits rule ⌝ }
+{
+    match rule {
+        Rule::Difference => true,
+        Rule::HalfSum => true,
+        Rule::NotAllowed => false,
+    }
+}
+
+// The rate that a rule makes of two rates.
+fn rule_rate(rule: Rule, long: u64, short: u64) -> u64
+    requires { ⌜ (long ≤ 21900) × (short ≤ 21900) ⌝ }
+    ensures { λ r. ⌜ (r ≡ ruleRate rule long short) × (r ≤ long + short) ⌝ }
+{
+    match rule {
+        Rule::Difference => {
+            if long < short {
+                short - long
+            } else {
+                long - short
+            }
+        }
+        Rule::HalfSum => (long + short) / 2,
+        Rule::NotAllowed => long + short,
+    }
+}
+
+// Two legs as a pair.
+pub fn pair_legs(long: Leg, short: Leg) -> Pair
+    requires { ⌜ Fair long × Fair short ⌝ }
+    ensures { λ r. ⌜ Pairs long short r ⌝ }
+{
+    if long.side != 0 {
+        return Pair::NotAllowed;
+    }
+    if short.side != 1 {
+        return Pair::NotAllowed;
+    }
+    if long.period != short.period {
+        return Pair::NotAllowed;
+    }
+    let rule = rule_of(long, short);
+    if !is_permitted(rule) {
+        return Pair::NotAllowed;
+    }
+    let rate = rule_rate(rule, long.rate, short.rate);
+    Pair::Allowed {
+        rate,
+        saving: long.rate + short.rate - rate,
+    }
+}
+
+// Two holdings as a pair.
+pub fn pair_of(long: Holding, short: Holding) -> Pair
+    requires { ⌜ InRange long × InRange short ⌝ }
+    ensures { λ r. ⌜ Pairs (legOf long) (legOf short) r ⌝ }
+{
+    pair_legs(leg_of(long), leg_of(short))
+}

@@ -1,0 +1,46 @@
+-- The value of a test in a definition from what code found on its way, `search tests`; and back from its value to the fact. Assumes nothing.
+use mathlib.Core.Path.{_≡_}
+use mathlib.Core.Logic.{_≢_}
+use mathlib.Core.Bool.{Bool, true, false, and-eq-true-iff, and-false}
+use Prim.Native.Nat.{ℕ, suc, _≤_, _<_}
+use native.Mathlib.Omega.{arith}
+use lib.Dec.{leb, leb·zero}
+use borrow.Author.Tests.{le-leb, lt-leb, lt-ltb, le-ltb, eq-eqb, ne-eqb, leb-true}
+use Rattle.lists.specs.Choice.{within}
+
+-- the end of a range in a `match`, as `..=10`, is tested as below 11
+pub below-leb : (a b : ℕ) → a < suc b → leb a b ≡ true
+below-leb a b h =
+    let k : a ≤ b = omega arith in
+    le-leb a b k
+
+pub ruleset tests = (leb·zero, le-leb, below-leb, lt-leb, lt-ltb, le-ltb, eq-eqb, ne-eqb)
+
+-- a number within its ends
+pub within-true : (low high x : ℕ) → within low high x ≡ true → (low ≤ x) × (x ≤ high)
+unfolding within
+within-true low high x e =
+    let (a, b) = and-eq-true-iff (leb low x) (leb x high) .0 e in
+    (leb-true low x a, leb-true x high b)
+
+pub true-within : (low high x : ℕ) → low ≤ x → x ≤ high → within low high x ≡ true
+unfolding within
+true-within low high x a b = rw (le-leb low x a, le-leb x high b)
+
+-- the arms of a `match` on 0, on 1 to high, and on the rest: `search arms`
+pub zero-out : (high n : ℕ) → n ≡ 0 → within 1 high n ≡ false
+unfolding within
+zero-out high n e =
+    let k : n < 1 = omega arith in
+    rw (lt-leb 1 n k)
+
+pub range-in : (high n : ℕ) → (n ≡ 0 → ⊥) → n < suc high → within 1 high n ≡ true
+range-in high n z h =
+    let k : n ≢ 0 = z in
+    true-within 1 high n (omega arith) (omega arith)
+
+pub above-out : (high n : ℕ) → suc high ≤ n → within 1 high n ≡ false
+unfolding within
+above-out high n h = rw (lt-leb n high h) (and-false (leb 1 n))
+
+pub ruleset arms = (eq-eqb, ne-eqb, zero-out, range-in, above-out)
