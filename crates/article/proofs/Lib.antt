@@ -2,3 +2,7 @@ pub mod Ranges
 pub mod Periods
 pub mod FlatRates
 pub mod PairRates
+pub mod RateTable
+pub mod Rates
+pub mod Legs
+pub mod Article

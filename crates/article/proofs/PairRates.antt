@@ -3,7 +3,7 @@ use mathlib.Core.Path.{_≡_}
 use mathlib.Core.Bool.{true, false, false≢true}
 use Prim.Native.Nat.{ℕ, _+_, _*_, _≤_, min, max}
 use native.Mathlib.Omega.{arith}
-use Rattle.article.specs.Pair.{ruleRate, permits, pairRate, savingRate, ruleOf, Fair}
+use Rattle.article.specs.Pair.{ruleRate, permits, pairRate, savingRate, ruleOf, RateInRange}
 use Rattle.article.specs.declared.pair.Rule.{Rule}
 use Rattle.article.specs.declared.pair.Rule.the-variants.{Difference, HalfSum, NotAllowed}
 use Rattle.article.specs.declared.pair.Leg.{Leg}
@@ -25,7 +25,7 @@ unfolding savingRate pairRate
 rate-and-saving l s = omega (arith, rule-rate-le (ruleOf l s) (l .rate) (s .rate))
 
 -- the saving rate lies between 0 and 43,800
-pub saving-high : (l s : Leg) → Fair l → Fair s → savingRate l s ≤ 43800
+pub saving-high : (l s : Leg) → RateInRange l → RateInRange s → savingRate l s ≤ 43800
 unfolding savingRate
 saving-high l s f g = omega arith
 

@@ -97,8 +97,8 @@ unfoldable pub pairOf : Leg → Leg → Answer
 pairOf l s = cond (allowed l s) (answer 0 (pairRate l s) (savingRate l s)) (answer 13 0 0)
 
 -- a leg's rate is at most the article's highest
-abbrev pub Fair : Leg → Type 0
-Fair l = l .rate ≤ 21900
+abbrev pub RateInRange : Leg → Type 0
+RateInRange l = l .rate ≤ 21900
 
 -- what pairing two legs promises
 pub record Pairs (l s : Leg) (r : Pair) : Type 0 where

@@ -5,7 +5,7 @@ use crate::rate;
 ghost use mathlib.Core.Path.{_≡_};
 ghost use Prim.Native.Nat.{_+_, _≤_};
 ghost use Rattle.article.specs.Holding.{InRange};
-ghost use Rattle.article.specs.Pair.{legOf, classRule, ruleOf, permits, ruleRate, Fair, Pairs};
+ghost use Rattle.article.specs.Pair.{legOf, classRule, ruleOf, permits, ruleRate, RateInRange, Pairs};
 
 // Which rule a pair has.
 pub enum Rule {
@@ -32,7 +32,7 @@ pub enum Pair {
 // What a pair asks of this holding, worked out once.
 pub fn leg_of(h: Holding) -> Leg
     requires { ⌜ InRange h ⌝ }
-    ensures { λ r. ⌜ (r ≡ legOf h) × Fair r ⌝ }
+    ensures { λ r. ⌜ (r ≡ legOf h) × RateInRange r ⌝ }
 {
     let row = holding::row_of(h);
     Leg {
@@ -116,7 +116,7 @@ fn rule_rate(rule: Rule, long: u64, short: u64) -> u64
 
 // Two legs as a pair.
 pub fn pair_legs(long: Leg, short: Leg) -> Pair
-    requires { ⌜ Fair long × Fair short ⌝ }
+    requires { ⌜ RateInRange long × RateInRange short ⌝ }
     ensures { λ r. ⌜ Pairs long short r ⌝ }
 {
     if long.side != 0 {

@@ -1,7 +1,7 @@
 -- The value of a test in a definition from what code found on its way, `search tests`; and back from its value to the fact. Assumes nothing.
-use mathlib.Core.Path.{_≡_}
+use mathlib.Core.Path.{_≡_, refl}
 use mathlib.Core.Logic.{_≢_}
-use mathlib.Core.Bool.{Bool, true, false, and-eq-true-iff, and-false}
+use mathlib.Core.Bool.{Bool, true, false, cond, and-eq-true-iff, and-false}
 use Prim.Native.Nat.{ℕ, suc, _≤_, _<_}
 use native.Mathlib.Omega.{arith}
 use lib.Dec.{leb, leb·zero}
@@ -44,3 +44,8 @@ unfolding within
 above-out high n h = rw (lt-leb n high h) (and-false (leb 1 n))
 
 pub ruleset arms = (eq-eqb, ne-eqb, zero-out, range-in, above-out)
+
+-- what holds of each answer, where the test has the value that picks it, holds of the one that is picked
+pub by-test : {A : Type 0} (P : A → Type 0) (t : Bool) {x y : A} → (t ≡ true → P x) → (t ≡ false → P y) → P (cond t x y)
+by-test P true p q = p refl
+by-test P false p q = q refl

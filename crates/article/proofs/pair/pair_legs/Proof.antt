@@ -6,7 +6,7 @@ use native.Mathlib.Omega.{arith}
 use borrow.Author.Tests.{not-true, not-false, eq-eqb}
 use Rattle.lists.proofs.Tests.{arms}
 use Rattle.article.proofs.PairRates.{permitted-high, saving-high}
-use Rattle.article.specs.Pair.{allowed, isLong, isShort, ruleOf, permits, ruleRate, pairRate, savingRate, told, pairOf, Fair, Pairs}
+use Rattle.article.specs.Pair.{allowed, isLong, isShort, ruleOf, permits, ruleRate, pairRate, savingRate, told, pairOf, RateInRange, Pairs}
 use Rattle.article.specs.declared.pair.Rule.{Rule}
 use Rattle.article.specs.declared.pair.Leg.{Leg}
 use Rattle.article.specs.declared.pair.Pair.the-variants.{Allowed, NotAllowed}
@@ -25,7 +25,7 @@ module _ (l s : Leg) where
     unfolding allowed isLong isShort
     decided = rw (eq-eqb _ _ long, eq-eqb _ _ short, eq-eqb _ _ period, asked, found)
 
-    a-pair : (rate : ℕ) → ok ≡ true → Fair l → Fair s → rate ≡ ruleRate rule (l .rate) (s .rate) → Pairs l s (Allowed rate (l .rate + s .rate - rate))
+    a-pair : (rate : ℕ) → ok ≡ true → RateInRange l → RateInRange s → rate ≡ ruleRate rule (l .rate) (s .rate) → Pairs l s (Allowed rate (l .rate + s .rate - rate))
     unfolding told pairOf pairRate savingRate
     a-pair rate e f g r = rw (r, found) (record {
       answered = rw (decided ∙ e);

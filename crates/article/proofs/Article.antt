@@ -1,0 +1,81 @@
+-- The page specs/Article.antt, proved. Assumes nothing.
+use mathlib.Core.Path.{_≡_, refl, ap, sym, _∙_}
+use mathlib.Core.Bool.{Bool, true, false, cond, false≢true}
+use Prim.Native.Nat.{ℕ, _+_, _*_, _≤_, min, max}
+use native.Mathlib.Omega.{arith}
+use lib.Dec.{eqb}
+use borrow.Author.Tests.{eq-eqb, ne-eqb}
+use Rattle.lists.proofs.Tests.{by-test}
+use Rattle.article.proofs.Ranges.{fault-none, none-fault, row-kept}
+use Rattle.article.proofs.RateTable.{rate-table}
+use Rattle.article.proofs.Rates.{rate-high, half-exact}
+use Rattle.article.proofs.PairRates.{difference-excess, rate-and-saving, saving-high}
+use Rattle.article.proofs.Legs.{Meets, allowed-meets, meets-allowed, bonds-no-rule, kinds-pair, class-rule}
+use Rattle.article.specs.Article.{Rows, MayPair, Pairing, Article}
+use Rattle.article.specs.Holding.{InRange, sideNumber, kindNumber, rowOf}
+use Rattle.article.specs.Rate.{classOf, rateOf}
+use Rattle.article.specs.Pair.{legOf, kindsPair, classRule, ruleOf, ruleRate, permits, allowed, pairRate}
+use Rattle.article.specs.declared.holding.Side.{Side}
+use Rattle.article.specs.declared.holding.Side.the-variants.{Long, Short}
+use Rattle.article.specs.declared.holding.Kind.the-variants.{Bond}
+use Rattle.article.specs.declared.holding.Holding.{Holding}
+use Rattle.article.specs.declared.holding.Row.{Row}
+use Rattle.article.specs.declared.pair.Rule.{Rule}
+use Rattle.article.specs.declared.pair.Rule.the-variants.{Difference, HalfSum, NotAllowed}
+
+is-long : (s : Side) → sideNumber s ≡ 0 → s ≡ Long
+is-long Long e = refl
+is-long Short e = absurd (omega arith)
+
+is-short : (s : Side) → sideNumber s ≡ 1 → s ≡ Short
+is-short Long e = absurd (omega arith)
+is-short Short e = refl
+
+module _ (l s : Holding) (f : InRange l) (g : InRange s) where
+  allowed-may : allowed (legOf l) (legOf s) ≡ true → MayPair l s
+  unfolding legOf rowOf
+  allowed-may e =
+      let m = allowed-meets _ _ e in
+      record {
+        long = is-long (l .side) (m .long);
+        short = is-short (s .side) (m .short);
+        period = m .period;
+        not-bonds = λ a b. false≢true (ap permits (sym (bonds-no-rule (legOf l) (legOf s) (ap kindNumber a) (ap kindNumber b))) ∙ m .rule);
+      }
+
+  -- the rule that two holdings have if they may be paired
+  rule-is : MayPair l s → ruleOf (legOf l) (legOf s) ≡ cond (eqb (classOf (l .issuer)) (classOf (s .issuer))) Difference HalfSum
+  unfolding ruleOf legOf rowOf
+  rule-is m =
+      rw (kinds-pair (legOf l) (legOf s) (l .kind) (s .kind) refl refl (m .not-bonds))
+      (class-rule (legOf l) (legOf s) (l .issuer) (s .issuer) refl refl (f .issuer) (g .issuer))
+
+  may-allowed : MayPair l s → allowed (legOf l) (legOf s) ≡ true
+  unfolding legOf rowOf
+  may-allowed m = meets-allowed _ _ (record {
+    long = ap sideNumber (m .long);
+    short = ap sideNumber (m .short);
+    period = m .period;
+    rule = ap permits (rule-is m) ∙ by-test (λ (r : Rule). permits r ≡ true) (eqb (classOf (l .issuer)) (classOf (s .issuer))) (λ _. refl) (λ _. refl);
+  })
+
+  -- the pair's rate by that rule
+  rate-by : (r : Rule) → ruleOf (legOf l) (legOf s) ≡ r → pairRate (legOf l) (legOf s) ≡ ruleRate r (rateOf l) (rateOf s)
+  unfolding pairRate
+  rate-by r e = rw e (unfold legOf in refl)
+
+  pairing : Pairing l s
+  pairing = record {
+    permitted = (allowed-may, may-allowed);
+    difference = λ m e. rw (rate-by Difference (rule-is m ∙ rw (eq-eqb _ _ e))) (difference-excess (rateOf l) (rateOf s));
+    half-sum = λ m e. rw (rate-by HalfSum (rule-is m ∙ rw (ne-eqb _ _ e))) (half-exact l s);
+    saving = unfold legOf in rate-and-saving (legOf l) (legOf s);
+    saving-range = saving-high (legOf l) (legOf s) (unfold legOf in rate-high l) (unfold legOf in rate-high s);
+  }
+
+pub article : Article
+article = record {
+  rows = λ r. record { no-fault = (fault-none r, none-fault r); kept = row-kept r };
+  rates = rate-table;
+  pairs = pairing;
+}

@@ -1,0 +1,41 @@
+-- THE PAGE TO READ FIRST: what document 01 says of rates and pairs, in its own words, over the definitions beside it.
+-- `article` of proofs/Article.antt proves it. Assumes nothing.
+use mathlib.Core.Path.{_≡_}
+use mathlib.Core.Bool.{true}
+use mathlib.Core.Logic.{_↔_}
+use Prim.Native.Nat.{ℕ, _+_, _*_, _≤_, min, max}
+use Rattle.article.specs.Holding.{Ranges, InRange, faultOf, rowOf, holdingOf}
+use Rattle.article.specs.Rate.{periodOf, classOf, rateOf}
+use Rattle.article.specs.RateTable.{RateTable}
+use Rattle.article.specs.Pair.{legOf, allowed, pairRate, savingRate}
+use Rattle.article.specs.declared.holding.Side.the-variants.{Long, Short}
+use Rattle.article.specs.declared.holding.Kind.the-variants.{Bond}
+use Rattle.article.specs.declared.holding.Holding.{Holding}
+use Rattle.article.specs.declared.holding.Row.{Row}
+
+-- a row is refused exactly when a number is outside its range; a row within them makes a record that keeps its numbers
+pub record Rows (r : Row) : Type 0 where
+  pub no-fault : (faultOf r ≡ 0) ↔ Ranges r
+  pub kept : Ranges r → rowOf (holdingOf r) ≡ r
+
+-- one long and one short may be paired if both lie in the same period and they are not both bonds
+pub record MayPair (l s : Holding) : Type 0 where
+  pub long : l .side ≡ Long
+  pub short : s .side ≡ Short
+  pub period : periodOf (l .days) ≡ periodOf (s .days)
+  pub not-bonds : l .kind ≡ Bond → s .kind ≡ Bond → ⊥
+
+pub record Pairing (l s : Holding) : Type 0 where
+  pub permitted : (allowed (legOf l) (legOf s) ≡ true) ↔ MayPair l s
+  -- both Canada or both provincial: the greater rate is the lesser and the pair's, so that this is never negative
+  pub difference : MayPair l s → classOf (l .issuer) ≡ classOf (s .issuer) → min (rateOf l) (rateOf s) + pairRate (legOf l) (legOf s) ≡ max (rateOf l) (rateOf s)
+  -- one Canada, one provincial: half the sum of the rates, with nothing lost by halving
+  pub half-sum : MayPair l s → (classOf (l .issuer) ≡ classOf (s .issuer) → ⊥) → 2 * pairRate (legOf l) (legOf s) ≡ rateOf l + rateOf s
+  -- the saving rate is the sum of the two rates less the pair's rate, between 0 and 43,800
+  pub saving : pairRate (legOf l) (legOf s) + savingRate (legOf l) (legOf s) ≡ rateOf l + rateOf s
+  pub saving-range : savingRate (legOf l) (legOf s) ≤ 43800
+
+pub record Article : Type 0 where
+  pub rows : (r : Row) → Rows r
+  pub rates : (days : ℕ) → RateTable days
+  pub pairs : (l s : Holding) → InRange l → InRange s → Pairing l s
