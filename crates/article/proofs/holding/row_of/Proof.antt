@@ -15,7 +15,7 @@ issuer-number-requires c κs = search needs
 
 returns : tie.Need-returns
 unfolding rowOf
-returns c = cc
+returns c = rw (c .before .before .side-number .ensures, c .before .kind-number .ensures, c .issuer-number .ensures)
 
 pub row-of-spec : {M : Type 1} → statement M
 row-of-spec =

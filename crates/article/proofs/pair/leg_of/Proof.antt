@@ -1,5 +1,4 @@
 -- `leg_of` is `legOf`: each field by its own function's promise. Assumes nothing.
-use native.Mathlib.Omega.{arith}
 use Rattle.article.specs.Pair.{legOf}
 use borrow.Author.Needs.{needs}
 use Rattle.article.proofs.pair.leg_of.Statement.{statement}
@@ -16,7 +15,7 @@ rate-requires c κs = search needs
 
 returns : tie.Need-returns
 unfolding legOf
-returns c = (cc, omega arith)
+returns c = (rw (c .before .before .row-of .ensures, c .before .period .ensures .0, c .rate .ensures .0), c .rate .ensures .1)
 
 pub leg-of-spec : {M : Type 1} → statement M
 leg-of-spec = tie.close (tie.spec row-of-requires period-requires rate-requires returns)
