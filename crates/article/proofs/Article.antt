@@ -6,20 +6,20 @@ use native.Mathlib.Omega.{arith}
 use lib.Dec.{eqb}
 use borrow.Author.Tests.{eq-eqb, ne-eqb}
 use Rattle.lists.proofs.Tests.{by-test}
-use Rattle.article.proofs.Ranges.{fault-none, none-fault, row-kept}
+use Rattle.holding.proofs.Ranges.{fault-none, none-fault, row-kept}
 use Rattle.article.proofs.RateTable.{rate-table}
 use Rattle.article.proofs.Rates.{rate-high, half-exact}
 use Rattle.article.proofs.PairRates.{difference-excess, rate-and-saving, saving-high}
 use Rattle.article.proofs.Legs.{Meets, allowed-meets, meets-allowed, bonds-no-rule, kinds-pair, class-rule}
 use Rattle.article.specs.Article.{Rows, MayPair, Pairing, Article}
-use Rattle.article.specs.Holding.{InRange, sideNumber, kindNumber, rowOf}
+use Rattle.holding.specs.Holding.{InRange, sideNumber, kindNumber, rowOf}
 use Rattle.article.specs.Rate.{classOf, rateOf}
 use Rattle.article.specs.Pair.{legOf, kindsPair, classRule, ruleOf, ruleRate, permits, allowed, pairRate}
-use Rattle.article.specs.declared.holding.Side.{Side}
-use Rattle.article.specs.declared.holding.Side.the-variants.{Long, Short}
-use Rattle.article.specs.declared.holding.Kind.the-variants.{Bond}
-use Rattle.article.specs.declared.holding.Holding.{Holding}
-use Rattle.article.specs.declared.holding.Row.{Row}
+use Rattle.holding.specs.declared.Side.{Side}
+use Rattle.holding.specs.declared.Side.the-variants.{Long, Short}
+use Rattle.holding.specs.declared.Kind.the-variants.{Bond}
+use Rattle.holding.specs.declared.Holding.{Holding}
+use Rattle.holding.specs.declared.Row.{Row}
 use Rattle.article.specs.declared.pair.Rule.{Rule}
 use Rattle.article.specs.declared.pair.Rule.the-variants.{Difference, HalfSum, NotAllowed}
 

@@ -7,14 +7,14 @@ use lib.Dec.{eqb}
 use borrow.Author.Tests.{eq-eqb, ne-eqb, eqb-true}
 use Rattle.lists.specs.Choice.{within, firstOf}
 use Rattle.lists.proofs.Tests.{zero-out, within-true}
-use Rattle.article.proofs.Ranges.{province-range}
-use Rattle.article.specs.Holding.{kindNumber, issuerNumber}
+use Rattle.holding.proofs.Ranges.{province-range}
+use Rattle.holding.specs.Holding.{kindNumber, issuerNumber}
 use Rattle.article.specs.Rate.{classOf}
 use Rattle.article.specs.Pair.{isLong, isShort, isBond, isStrip, isCanada, isProvince, kindsPair, sameClass, mixedClass, classRule, ruleOf, permits, allowed}
-use Rattle.article.specs.declared.holding.Kind.{Kind}
-use Rattle.article.specs.declared.holding.Kind.the-variants.{Bond, Coupon, Residual}
-use Rattle.article.specs.declared.holding.Issuer.{Issuer}
-use Rattle.article.specs.declared.holding.Issuer.the-variants.{Canada, Province}
+use Rattle.holding.specs.declared.Kind.{Kind}
+use Rattle.holding.specs.declared.Kind.the-variants.{Bond, Coupon, Residual}
+use Rattle.holding.specs.declared.Issuer.{Issuer}
+use Rattle.holding.specs.declared.Issuer.the-variants.{Canada, Province}
 use Rattle.article.specs.declared.pair.Rule.{Rule}
 use Rattle.article.specs.declared.pair.Rule.the-variants.{Difference, HalfSum, NotAllowed}
 use Rattle.article.specs.declared.pair.Leg.{Leg}

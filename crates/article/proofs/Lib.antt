@@ -1,4 +1,3 @@
-pub mod Ranges
 pub mod Periods
 pub mod FlatRates
 pub mod PairRates

@@ -11,9 +11,9 @@ use Rattle.lists.proofs.Tests.{by-test}
 use Rattle.article.proofs.FlatRates.{flat-high}
 use Rattle.article.specs.Rate.{over, atLeast, periodOf, percents, flatRate, bondRate, stripRate, kindRate, classOf, rateAt, rateOf}
 use Rattle.article.specs.Pair.{ruleRate}
-use Rattle.article.specs.declared.holding.Kind.{Kind}
-use Rattle.article.specs.declared.holding.Kind.the-variants.{Bond, Coupon, Residual}
-use Rattle.article.specs.declared.holding.Holding.{Holding}
+use Rattle.holding.specs.declared.Kind.{Kind}
+use Rattle.holding.specs.declared.Kind.the-variants.{Bond, Coupon, Residual}
+use Rattle.holding.specs.declared.Holding.{Holding}
 use Rattle.article.specs.declared.pair.Rule.the-variants.{HalfSum}
 
 -- n times a whole number

@@ -4,14 +4,14 @@ use mathlib.Core.Path.{_≡_}
 use mathlib.Core.Bool.{true}
 use mathlib.Core.Logic.{_↔_}
 use Prim.Native.Nat.{ℕ, _+_, _*_, _≤_, min, max}
-use Rattle.article.specs.Holding.{Ranges, InRange, faultOf, rowOf, holdingOf}
+use Rattle.holding.specs.Holding.{Ranges, InRange, faultOf, rowOf, holdingOf}
 use Rattle.article.specs.Rate.{periodOf, classOf, rateOf}
 use Rattle.article.specs.RateTable.{RateTable}
 use Rattle.article.specs.Pair.{legOf, allowed, pairRate, savingRate}
-use Rattle.article.specs.declared.holding.Side.the-variants.{Long, Short}
-use Rattle.article.specs.declared.holding.Kind.the-variants.{Bond}
-use Rattle.article.specs.declared.holding.Holding.{Holding}
-use Rattle.article.specs.declared.holding.Row.{Row}
+use Rattle.holding.specs.declared.Side.the-variants.{Long, Short}
+use Rattle.holding.specs.declared.Kind.the-variants.{Bond}
+use Rattle.holding.specs.declared.Holding.{Holding}
+use Rattle.holding.specs.declared.Row.{Row}
 
 -- a row is refused exactly when a number is outside its range; a row within them makes a record that keeps its numbers
 pub record Rows (r : Row) : Type 0 where

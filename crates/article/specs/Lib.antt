@@ -1,5 +1,4 @@
 pub mod Answer
-pub mod Holding
 pub mod Rate
 pub mod Pair
 pub mod RateTable

@@ -6,9 +6,9 @@ use Prim.Native.Nat.{ℕ, _+_, _-_, _*_, _/_, _≤_, min, max}
 use lib.Dec.{eqb}
 use Rattle.lists.specs.Choice.{firstOf, within}
 use Rattle.article.specs.Answer.{Answer, answer}
-use Rattle.article.specs.Holding.{rowOf}
+use Rattle.holding.specs.Holding.{rowOf}
 use Rattle.article.specs.Rate.{periodOf, rateOf}
-use Rattle.article.specs.declared.holding.Holding.{Holding}
+use Rattle.holding.specs.declared.Holding.{Holding}
 use Rattle.article.specs.declared.pair.Rule.{Rule}
 use Rattle.article.specs.declared.pair.Rule.the-variants.{Difference, HalfSum, NotAllowed}
 use Rattle.article.specs.declared.pair.Leg.{Leg}

@@ -5,11 +5,11 @@ use Prim.Native.Nat.{ℕ, _+_, _-_, _*_, _/_}
 use lib.Dec.{ltb, leb}
 use lib.ListN.{getD}
 use Rattle.lists.specs.Choice.{count}
-use Rattle.article.specs.declared.holding.Kind.{Kind}
-use Rattle.article.specs.declared.holding.Kind.the-variants.{Bond, Coupon, Residual}
-use Rattle.article.specs.declared.holding.Issuer.{Issuer}
-use Rattle.article.specs.declared.holding.Issuer.the-variants.{Canada, Province}
-use Rattle.article.specs.declared.holding.Holding.{Holding}
+use Rattle.holding.specs.declared.Kind.{Kind}
+use Rattle.holding.specs.declared.Kind.the-variants.{Bond, Coupon, Residual}
+use Rattle.holding.specs.declared.Issuer.{Issuer}
+use Rattle.holding.specs.declared.Issuer.the-variants.{Canada, Province}
+use Rattle.holding.specs.declared.Holding.{Holding}
 
 -- a term of more than so many years; a year is 365 days here
 unfoldable pub over : ℕ → ℕ → Bool

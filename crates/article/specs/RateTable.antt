@@ -2,8 +2,8 @@
 use mathlib.Core.Path.{_≡_}
 use Prim.Native.Nat.{ℕ, _*_, _≤_, _<_}
 use Rattle.article.specs.Rate.{rateAt}
-use Rattle.article.specs.declared.holding.Kind.the-variants.{Bond, Coupon, Residual}
-use Rattle.article.specs.declared.holding.Issuer.the-variants.{Canada, Province}
+use Rattle.holding.specs.declared.Kind.the-variants.{Bond, Coupon, Residual}
+use Rattle.holding.specs.declared.Issuer.the-variants.{Canada, Province}
 
 -- the four rates at a term: Canada bond, Canada strip, province bond, province strip
 pub record RatesAt (days a b c d : ℕ) : Type 0 where

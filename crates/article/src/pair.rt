@@ -1,10 +1,9 @@
 // A pair of a long and a short: whether the article allows it, its rate, and what it saves.
-use crate::holding;
-use crate::holding::Holding;
 use crate::rate;
+use holding::Holding;
 ghost use mathlib.Core.Path.{_≡_};
 ghost use Prim.Native.Nat.{_+_, _≤_};
-ghost use Rattle.article.specs.Holding.{InRange};
+ghost use Rattle.holding.specs.Holding.{InRange};
 ghost use Rattle.article.specs.Pair.{legOf, classRule, ruleOf, permits, ruleRate, RateInRange, Pairs};
 
 // Which rule a pair has.

@@ -1,10 +1,10 @@
 // The rate of a holding: margin units per cent of market value, a unit being 1/146,000 of a cent.
-use crate::holding::Holding;
-use crate::holding::Issuer;
-use crate::holding::Kind;
+use holding::Holding;
+use holding::Issuer;
+use holding::Kind;
 ghost use mathlib.Core.Path.{_≡_};
 ghost use Prim.Native.Nat.{_≤_, _<_};
-ghost use Rattle.article.specs.Holding.{InRange};
+ghost use Rattle.holding.specs.Holding.{InRange};
 ghost use Rattle.article.specs.Rate.{periodOf, classOf, bondRate, stripRate, rateOf};
 
 // Issuer class (Canada, the provinces) by period: the article's percentages in units.

@@ -1,9 +1,9 @@
 -- `fault` is `faultOf`: the tests made on the way to a return decide the list of faults. Assumes nothing.
 use Rattle.lists.proofs.Tests.{tests}
 use Rattle.lists.specs.Choice.{firstOf, within}
-use Rattle.article.specs.Holding.{faultOf}
-use Rattle.article.proofs.holding.fault.Statement.{statement}
-use Rattle.article.proofs.holding.fault.Tie as tie
+use Rattle.holding.specs.Holding.{faultOf}
+use Rattle.holding.proofs.fault.Statement.{statement}
+use Rattle.holding.proofs.fault.Tie as tie
 
 returns : tie.Need-returns
 unfolding faultOf firstOf within

@@ -1,8 +1,8 @@
 -- `issuer_of` is `issuerOf`. Assumes nothing.
 use Rattle.lists.proofs.Tests.{tests}
-use Rattle.article.specs.Holding.{issuerOf}
-use Rattle.article.proofs.holding.issuer_of.Statement.{statement}
-use Rattle.article.proofs.holding.issuer_of.Tie as tie
+use Rattle.holding.specs.Holding.{issuerOf}
+use Rattle.holding.proofs.issuer_of.Statement.{statement}
+use Rattle.holding.proofs.issuer_of.Tie as tie
 
 returns : tie.Need-returns
 unfolding issuerOf

@@ -8,15 +8,15 @@ use borrow.Author.Tests.{not-false, ne-eqb}
 use Rattle.lists.proofs.Tests.{within-true, true-within}
 use Rattle.lists.proofs.Firsts.{first-none}
 use Rattle.lists.specs.Choice.{firstOf, within}
-use Rattle.article.specs.Holding.{Ranges, InRange, Kept, faultOf, sideNumber, kindNumber, issuerNumber, sideOf, kindOf, issuerOf, rowOf, holdingOf}
-use Rattle.article.specs.declared.holding.Side.{Side}
-use Rattle.article.specs.declared.holding.Side.the-variants.{Long, Short}
-use Rattle.article.specs.declared.holding.Kind.{Kind}
-use Rattle.article.specs.declared.holding.Kind.the-variants.{Bond, Coupon, Residual}
-use Rattle.article.specs.declared.holding.Issuer.{Issuer}
-use Rattle.article.specs.declared.holding.Issuer.the-variants.{Canada, Province}
-use Rattle.article.specs.declared.holding.Holding.{Holding}
-use Rattle.article.specs.declared.holding.Row.{Row}
+use Rattle.holding.specs.Holding.{Ranges, InRange, Kept, faultOf, sideNumber, kindNumber, issuerNumber, sideOf, kindOf, issuerOf, rowOf, holdingOf}
+use Rattle.holding.specs.declared.Side.{Side}
+use Rattle.holding.specs.declared.Side.the-variants.{Long, Short}
+use Rattle.holding.specs.declared.Kind.{Kind}
+use Rattle.holding.specs.declared.Kind.the-variants.{Bond, Coupon, Residual}
+use Rattle.holding.specs.declared.Issuer.{Issuer}
+use Rattle.holding.specs.declared.Issuer.the-variants.{Canada, Province}
+use Rattle.holding.specs.declared.Holding.{Holding}
+use Rattle.holding.specs.declared.Row.{Row}
 
 -- a range whose test did not fail
 inside : (low high x : ℕ) → not (within low high x) ≡ false → (low ≤ x) × (x ≤ high)

@@ -1,6 +1,6 @@
 // A holding: the raw numbers of a row, their ranges, and the record that numbers within them make.
 ghost use mathlib.Core.Path.{_≡_};
-ghost use Rattle.article.specs.Holding.{sideOf, kindOf, issuerOf, faultOf, Builds, sideNumber, kindNumber, issuerNumber, rowOf};
+ghost use Rattle.holding.specs.Holding.{sideOf, kindOf, issuerOf, faultOf, Builds, sideNumber, kindNumber, issuerNumber, rowOf};
 
 pub enum Side {
     Long,

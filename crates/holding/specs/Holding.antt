@@ -5,16 +5,16 @@ use mathlib.Core.List.{List, [], _∷_}
 use Prim.Native.Nat.{ℕ, _≤_}
 use lib.Dec.{eqb}
 use Rattle.lists.specs.Choice.{firstOf, within}
-use Rattle.article.specs.declared.holding.Side.{Side}
-use Rattle.article.specs.declared.holding.Side.the-variants.{Long, Short}
-use Rattle.article.specs.declared.holding.Kind.{Kind}
-use Rattle.article.specs.declared.holding.Kind.the-variants.{Bond, Coupon, Residual}
-use Rattle.article.specs.declared.holding.Issuer.{Issuer}
-use Rattle.article.specs.declared.holding.Issuer.the-variants.{Canada, Province}
-use Rattle.article.specs.declared.holding.Holding.{Holding}
-use Rattle.article.specs.declared.holding.Row.{Row}
-use Rattle.article.specs.declared.holding.Built.{Built}
-use Rattle.article.specs.declared.holding.Built.the-variants.{Made, Refused}
+use Rattle.holding.specs.declared.Side.{Side}
+use Rattle.holding.specs.declared.Side.the-variants.{Long, Short}
+use Rattle.holding.specs.declared.Kind.{Kind}
+use Rattle.holding.specs.declared.Kind.the-variants.{Bond, Coupon, Residual}
+use Rattle.holding.specs.declared.Issuer.{Issuer}
+use Rattle.holding.specs.declared.Issuer.the-variants.{Canada, Province}
+use Rattle.holding.specs.declared.Holding.{Holding}
+use Rattle.holding.specs.declared.Row.{Row}
+use Rattle.holding.specs.declared.Built.{Built}
+use Rattle.holding.specs.declared.Built.the-variants.{Made, Refused}
 
 -- the ranges of a holding's numbers
 pub record Ranges (r : Row) : Type 0 where

@@ -1,11 +1,11 @@
 -- `holding_of` builds what `Builds` says: a row without fault makes its record, any other is refused with its fault. Assumes nothing.
 use mathlib.Core.Path.{_≡_, sym, _∙_}
 use borrow.Author.Tests.{eq-eqb, ne-eqb}
-use Rattle.article.proofs.Ranges.{kept}
-use Rattle.article.specs.Holding.{faultOf, builtOf, holdingOf}
+use Rattle.holding.proofs.Ranges.{kept}
+use Rattle.holding.specs.Holding.{faultOf, builtOf, holdingOf}
 use borrow.Author.Needs.{needs}
-use Rattle.article.proofs.holding.holding_of.Statement.{statement}
-use Rattle.article.proofs.holding.holding_of.Tie as tie
+use Rattle.holding.proofs.holding_of.Statement.{statement}
+use Rattle.holding.proofs.holding_of.Tie as tie
 
 fault-requires : tie.Need-fault-requires
 fault-requires c κs = search needs

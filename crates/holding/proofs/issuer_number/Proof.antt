@@ -2,8 +2,8 @@
 use Rattle.lists.proofs.Tests.{tests}
 use Rattle.lists.specs.Choice.{within}
 use borrow.Author.Needs.{needs}
-use Rattle.article.proofs.holding.issuer_number.Statement.{statement}
-use Rattle.article.proofs.holding.issuer_number.Tie as tie
+use Rattle.holding.proofs.issuer_number.Statement.{statement}
+use Rattle.holding.proofs.issuer_number.Tie as tie
 
 enum-told : tie.Need-enum-told
 enum-told c = search needs

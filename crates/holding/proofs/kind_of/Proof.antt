@@ -1,8 +1,8 @@
 -- `kind_of` is `kindOf`. Assumes nothing.
 use Rattle.lists.proofs.Tests.{tests}
-use Rattle.article.specs.Holding.{kindOf}
-use Rattle.article.proofs.holding.kind_of.Statement.{statement}
-use Rattle.article.proofs.holding.kind_of.Tie as tie
+use Rattle.holding.specs.Holding.{kindOf}
+use Rattle.holding.proofs.kind_of.Statement.{statement}
+use Rattle.holding.proofs.kind_of.Tie as tie
 
 returns : tie.Need-returns
 unfolding kindOf

@@ -1,8 +1,8 @@
 -- `side_of` is `sideOf`. Assumes nothing.
 use Rattle.lists.proofs.Tests.{tests}
-use Rattle.article.specs.Holding.{sideOf}
-use Rattle.article.proofs.holding.side_of.Statement.{statement}
-use Rattle.article.proofs.holding.side_of.Tie as tie
+use Rattle.holding.specs.Holding.{sideOf}
+use Rattle.holding.proofs.side_of.Statement.{statement}
+use Rattle.holding.proofs.side_of.Tie as tie
 
 returns : tie.Need-returns
 unfolding sideOf

@@ -1,8 +1,8 @@
 -- `row_of` is `rowOf`: each field by its own function's promise. Assumes nothing.
-use Rattle.article.specs.Holding.{rowOf}
+use Rattle.holding.specs.Holding.{rowOf}
 use borrow.Author.Needs.{needs}
-use Rattle.article.proofs.holding.row_of.Statement.{statement}
-use Rattle.article.proofs.holding.row_of.Tie as tie
+use Rattle.holding.proofs.row_of.Statement.{statement}
+use Rattle.holding.proofs.row_of.Tie as tie
 
 side-number-requires : tie.Need-side-number-requires
 side-number-requires c κs = search needs
