@@ -31,8 +31,8 @@ flat-right class period =
 
 percent-high : (class at : ℕ) → getD (getD percents class []) at 0 ≤ 5
 unfolding percents
-percent-high zero at = bounded 5 (1 ∷ 1 ∷ 2 ∷ 4 ∷ 4 ∷ []) tt at
-percent-high (suc zero) at = bounded 5 (2 ∷ 3 ∷ 4 ∷ 5 ∷ 5 ∷ []) tt at
+percent-high zero at = bounded 5 (1 ∷ 1 ∷ 2 ∷ 4 ∷ 4 ∷ []) refl at
+percent-high (suc zero) at = bounded 5 (2 ∷ 3 ∷ 4 ∷ 5 ∷ 5 ∷ []) refl at
 percent-high (suc (suc class)) at = omega arith
 
 -- no bond's rate is above 5 percent

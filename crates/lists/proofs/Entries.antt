@@ -1,24 +1,30 @@
--- A bound on every entry of a list, by one computed test. Assumes nothing.
-use mathlib.Core.Bool.{Bool, true, false, _&&_}
+-- What one computed test over a list says of every entry. Assumes nothing.
+use mathlib.Core.Path.{_≡_}
+use mathlib.Core.Bool.{Bool, true, _&&_, and-eq-true-iff}
 use mathlib.Core.List.{List, [], _∷_}
 use Prim.Native.Nat.{ℕ, zero, suc, _≤_}
 use native.Mathlib.Omega.{arith}
-use lib.Dec.{T, leb, leb→le}
+use lib.Dec.{leb}
 use lib.ListN.{getD}
+use borrow.Author.Tests.{leb-true}
+use Rattle.lists.specs.Each.{Each}
 
-abbrev pub each : (ℕ → Bool) → List ℕ → Bool
-each test [] = true
-each test (x ∷ xs) = test x && each test xs
+abbrev pub every : {A : Type 0} → (A → Bool) → List A → Bool
+every test [] = true
+every test (x ∷ xs) = test x && every test xs
 
-left : (a b : Bool) → T (a && b) → T a
-left true b t = tt
-left false b t = t
+-- a test that passes everywhere gives each entry what it gives one
+pub each-by : {A : Type 0} (P : A → Type 0) (test : A → Bool) → ((x : A) → test x ≡ true → P x) → (xs : List A) → every test xs ≡ true → Each P xs
+each-by P test f [] e = tt
+each-by P test f (x ∷ xs) e =
+    let (a, b) = and-eq-true-iff (test x) (every test xs) .0 e in
+    (f x a, each-by P test f xs b)
 
-right : (a b : Bool) → T (a && b) → T b
-right true b t = t
-right false b t = absurd t
-
-pub bounded : (m : ℕ) (l : List ℕ) → T (each (λ x. leb x m) l) → (i : ℕ) → getD l i 0 ≤ m
-bounded m [] t i = omega arith
-bounded m (x ∷ xs) t zero = leb→le x m (left (leb x m) (each (λ y. leb y m) xs) t)
-bounded m (x ∷ xs) t (suc i) = bounded m xs (right (leb x m) (each (λ y. leb y m) xs) t) i
+-- a bound on a list of numbers
+pub bounded : (m : ℕ) (l : List ℕ) → every (λ x. leb x m) l ≡ true → (i : ℕ) → getD l i 0 ≤ m
+bounded m l e i = at l (each-by (_≤ m) (λ x. leb x m) (λ x. leb-true x m) l e) i
+  where
+    at : (l : List ℕ) → Each (_≤ m) l → (i : ℕ) → getD l i 0 ≤ m
+    at [] h i = omega arith
+    at (x ∷ xs) h zero = h .0
+    at (x ∷ xs) h (suc i) = at xs (h .1) i
