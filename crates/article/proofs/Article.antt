@@ -5,23 +5,25 @@ use Prim.Native.Nat.{ℕ, _+_, _*_, _≤_, min, max}
 use native.Mathlib.Omega.{arith}
 use lib.Dec.{eqb}
 use borrow.Author.Tests.{eq-eqb, ne-eqb}
+use Rattle.lists.specs.Choice.{within}
 use Rattle.lists.proofs.Tests.{by-test}
 use Rattle.holding.proofs.Ranges.{fault-none, none-fault, row-kept}
 use Rattle.article.proofs.RateTable.{rate-table}
 use Rattle.article.proofs.Rates.{rate-high, half-exact}
 use Rattle.article.proofs.PairRates.{difference-excess, rate-and-saving, saving-high}
-use Rattle.article.proofs.Legs.{Meets, allowed-meets, meets-allowed, bonds-no-rule, kinds-pair, class-rule}
-use Rattle.article.specs.Article.{Rows, MayPair, Pairing, Article}
-use Rattle.holding.specs.Holding.{InRange, sideNumber, kindNumber, rowOf}
+use Rattle.article.proofs.Legs.{Meets, allowed-meets, meets-allowed, bonds-no-rule, kinds-pair, class-rule, no-class-long, no-class-short, no-rule}
+use Rattle.article.specs.Article.{MayPair, Pairing, Stranger, Article}
+use Rattle.holding.specs.Holding.{InRange, sideNumber, kindNumber, issuerNumber, rowOf}
 use Rattle.article.specs.Rate.{classOf, rateOf}
-use Rattle.article.specs.Pair.{legOf, kindsPair, classRule, ruleOf, ruleRate, permits, allowed, pairRate}
+use Rattle.article.specs.Pair.{legOf, isCanada, isProvince, ruleOf, ruleRate, permits, allowed, pairRate}
 use Rattle.holding.specs.declared.Side.{Side}
 use Rattle.holding.specs.declared.Side.the-variants.{Long, Short}
-use Rattle.holding.specs.declared.Kind.the-variants.{Bond}
+use Rattle.holding.specs.declared.Issuer.{Issuer}
+use Rattle.holding.specs.declared.Issuer.the-variants.{Province}
 use Rattle.holding.specs.declared.Holding.{Holding}
 use Rattle.holding.specs.declared.Row.{Row}
 use Rattle.article.specs.declared.pair.Rule.{Rule}
-use Rattle.article.specs.declared.pair.Rule.the-variants.{Difference, HalfSum, NotAllowed}
+use Rattle.article.specs.declared.pair.Rule.the-variants.{Difference, HalfSum}
 
 is-long : (s : Side) → sideNumber s ≡ 0 → s ≡ Long
 is-long Long e = refl
@@ -73,9 +75,25 @@ module _ (l s : Holding) (f : InRange l) (g : InRange s) where
     saving-range = saving-high (legOf l) (legOf s) (unfold legOf in rate-high l) (unfold legOf in rate-high s);
   }
 
+module _ (p : ℕ) (stray : within 1 10 p ≡ false) where
+  stray-number : (i : Issuer) → i ≡ Province p → issuerNumber i ≡ 18446744073709551615
+  stray-number i e = ap issuerNumber e ∙ rw stray
+
+  stray-leg : (h : Holding) → h .issuer ≡ Province p → (isCanada (legOf h) ≡ false) × (isProvince (legOf h) ≡ false)
+  unfolding isCanada isProvince legOf rowOf within
+  stray-leg h e = (rw (stray-number (h .issuer) e), rw (stray-number (h .issuer) e))
+
+  stranger : Stranger p
+  stranger = record {
+    out-of-range = λ h e g. unfold rowOf in omega (arith, g .issuer, stray-number (h .issuer) e);
+    as-long = λ l s e. let (c, n) = stray-leg l e in no-rule _ _ (no-class-long _ _ c n);
+    as-short = λ l s e. let (c, n) = stray-leg s e in no-rule _ _ (no-class-short _ _ c n);
+  }
+
 pub article : Article
 article = record {
   rows = λ r. record { no-fault = (fault-none r, none-fault r); kept = row-kept r };
+  strangers = stranger;
   rates = rate-table;
   pairs = pairing;
 }

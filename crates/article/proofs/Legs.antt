@@ -1,12 +1,12 @@
 -- What an allowed pair of legs means, and which rule two records within the ranges have. Assumes nothing.
 use mathlib.Core.Path.{_≡_, refl, ap, sym, _∙_}
-use mathlib.Core.Bool.{Bool, true, false, cond, _&&_, and-eq-true-iff, false≢true}
+use mathlib.Core.Bool.{Bool, true, false, cond, _&&_, and-eq-true-iff, and-false}
 use Prim.Native.Nat.{ℕ, _≤_}
 use native.Mathlib.Omega.{arith}
 use lib.Dec.{eqb}
 use borrow.Author.Tests.{eq-eqb, ne-eqb, eqb-true}
 use Rattle.lists.specs.Choice.{within, firstOf}
-use Rattle.lists.proofs.Tests.{zero-out, within-true}
+use Rattle.lists.proofs.Tests.{zero-out, within-true, by-test}
 use Rattle.holding.proofs.Ranges.{province-range}
 use Rattle.holding.specs.Holding.{kindNumber, issuerNumber}
 use Rattle.article.specs.Rate.{classOf}
@@ -88,3 +88,19 @@ class-rule l s (Province m) (Province n) a b f g =
     let (c, p) = province-leg l m a f in
     let (d, q) = province-leg s n b g in
     rw (c, p, q)
+
+-- a leg of no class has no rule with any other
+module _ (l s : Leg) where
+  pub no-class-long : isCanada l ≡ false → isProvince l ≡ false → permits (ruleOf l s) ≡ false
+  unfolding ruleOf classRule sameClass mixedClass firstOf
+  no-class-long a b = rw (a, b) (by-test (λ (r : Rule). permits r ≡ false) (kindsPair l s) (λ _. refl) (λ _. refl))
+
+  pub no-class-short : isCanada s ≡ false → isProvince s ≡ false → permits (ruleOf l s) ≡ false
+  unfolding ruleOf classRule sameClass mixedClass firstOf
+  no-class-short a b =
+      rw (a, b, and-false (isCanada l), and-false (isProvince l))
+      (by-test (λ (r : Rule). permits r ≡ false) (kindsPair l s) (λ _. refl) (λ _. refl))
+
+  pub no-rule : permits (ruleOf l s) ≡ false → allowed l s ≡ false
+  unfolding allowed
+  no-rule e = rw e (and-false (isLong l && isShort s && eqb (l .period) (s .period)))

@@ -1,15 +1,17 @@
 -- THE PAGE TO READ FIRST: what document 01 says of rates and pairs, in its own words, over the definitions beside it.
 -- `article` of proofs/Article.antt proves it. Assumes nothing.
 use mathlib.Core.Path.{_≡_}
-use mathlib.Core.Bool.{true}
+use mathlib.Core.Bool.{true, false}
 use mathlib.Core.Logic.{_↔_}
 use Prim.Native.Nat.{ℕ, _+_, _*_, _≤_, min, max}
+use Rattle.lists.specs.Choice.{within}
 use Rattle.holding.specs.Holding.{Ranges, InRange, faultOf, rowOf, holdingOf}
 use Rattle.article.specs.Rate.{periodOf, classOf, rateOf}
 use Rattle.article.specs.RateTable.{RateTable}
 use Rattle.article.specs.Pair.{legOf, allowed, pairRate, savingRate}
 use Rattle.holding.specs.declared.Side.the-variants.{Long, Short}
 use Rattle.holding.specs.declared.Kind.the-variants.{Bond}
+use Rattle.holding.specs.declared.Issuer.the-variants.{Province}
 use Rattle.holding.specs.declared.Holding.{Holding}
 use Rattle.holding.specs.declared.Row.{Row}
 
@@ -35,7 +37,14 @@ pub record Pairing (l s : Holding) : Type 0 where
   pub saving : pairRate (legOf l) (legOf s) + savingRate (legOf l) (legOf s) ≡ rateOf l + rateOf s
   pub saving-range : savingRate (legOf l) (legOf s) ≤ 43800
 
+-- a province of another number is no issuer: no record within the ranges has it, and it is in no pair
+pub record Stranger (p : ℕ) : Type 0 where
+  pub out-of-range : (h : Holding) → h .issuer ≡ Province p → InRange h → ⊥
+  pub as-long : (l s : Holding) → l .issuer ≡ Province p → allowed (legOf l) (legOf s) ≡ false
+  pub as-short : (l s : Holding) → s .issuer ≡ Province p → allowed (legOf l) (legOf s) ≡ false
+
 pub record Article : Type 0 where
   pub rows : (r : Row) → Rows r
+  pub strangers : (p : ℕ) → within 1 10 p ≡ false → Stranger p
   pub rates : (days : ℕ) → RateTable days
   pub pairs : (l s : Holding) → InRange l → InRange s → Pairing l s
