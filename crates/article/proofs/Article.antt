@@ -1,7 +1,7 @@
 -- The page specs/Article.antt, proved. Assumes nothing.
 use mathlib.Core.Path.{_≡_, refl, ap, sym, _∙_}
-use mathlib.Core.Bool.{Bool, true, false, cond, false≢true}
-use Prim.Native.Nat.{ℕ, _+_, _*_, _≤_, min, max}
+use mathlib.Core.Bool.{true, false, cond, false≢true}
+use Prim.Native.Nat.{ℕ}
 use native.Mathlib.Omega.{arith}
 use lib.Dec.{eqb}
 use borrow.Author.Tests.{eq-eqb, ne-eqb}
@@ -11,7 +11,7 @@ use Rattle.holding.proofs.Ranges.{fault-none, none-fault, row-kept}
 use Rattle.article.proofs.RateTable.{rate-table}
 use Rattle.article.proofs.Rates.{rate-high, half-exact}
 use Rattle.article.proofs.PairRates.{difference-excess, rate-and-saving, saving-high}
-use Rattle.article.proofs.Legs.{Meets, allowed-meets, meets-allowed, bonds-no-rule, kinds-pair, class-rule, no-class-long, no-class-short, no-rule}
+use Rattle.article.proofs.Legs.{allowed-meets, meets-allowed, bonds-no-rule, kinds-pair, class-rule, no-class-long, no-class-short, no-rule}
 use Rattle.article.specs.Article.{MayPair, Pairing, Stranger, Article}
 use Rattle.holding.specs.Holding.{InRange, sideNumber, kindNumber, issuerNumber, rowOf}
 use Rattle.article.specs.Rate.{classOf, rateOf}
@@ -21,7 +21,6 @@ use Rattle.holding.specs.declared.Side.the-variants.{Long, Short}
 use Rattle.holding.specs.declared.Issuer.{Issuer}
 use Rattle.holding.specs.declared.Issuer.the-variants.{Province}
 use Rattle.holding.specs.declared.Holding.{Holding}
-use Rattle.holding.specs.declared.Row.{Row}
 use Rattle.article.specs.declared.pair.Rule.{Rule}
 use Rattle.article.specs.declared.pair.Rule.the-variants.{Difference, HalfSum}
 

@@ -15,13 +15,16 @@ table =
     ∷ (2920 ∷ 4380 ∷ 5840 ∷ 7300 ∷ 7300 ∷ [])
     ∷ []
 
+-- percent of a cent, in units
 abbrev units : ℕ → ℕ
 units percent = percent * (146000 / 100)
 
+-- the test, computed
 tested : table ≡ map (map units) percents
 unfolding percents
 tested = refl
 
+-- the law, for every class and period
 pub flat-right : (class period : ℕ) → getD (getD table class []) (period - 1) 0 ≡ flatRate class period
 unfolding flatRate
 flat-right class period =
@@ -31,8 +34,8 @@ flat-right class period =
 
 percent-high : (class at : ℕ) → getD (getD percents class []) at 0 ≤ 5
 unfolding percents
-percent-high zero at = bounded 5 (1 ∷ 1 ∷ 2 ∷ 4 ∷ 4 ∷ []) refl at
-percent-high (suc zero) at = bounded 5 (2 ∷ 3 ∷ 4 ∷ 5 ∷ 5 ∷ []) refl at
+percent-high zero at = bounded 5 (getD percents 0 []) refl at
+percent-high (suc zero) at = bounded 5 (getD percents 1 []) refl at
 percent-high (suc (suc class)) at = omega arith
 
 -- no bond's rate is above 5 percent

@@ -1,7 +1,7 @@
 -- Laws of a pair's rate and of what it saves. Assumes nothing.
 use mathlib.Core.Path.{_≡_}
-use mathlib.Core.Bool.{true, false, false≢true}
-use Prim.Native.Nat.{ℕ, _+_, _*_, _≤_, min, max}
+use mathlib.Core.Bool.{true, false≢true}
+use Prim.Native.Nat.{ℕ, _+_, _≤_, min, max}
 use native.Mathlib.Omega.{arith}
 use Rattle.article.specs.Pair.{ruleRate, permits, pairRate, savingRate, ruleOf, RateInRange}
 use Rattle.article.specs.declared.pair.Rule.{Rule}

@@ -1,8 +1,8 @@
 -- Document 01, "A pair", from the article's Group XI(2). Assumes nothing.
 use mathlib.Core.Bool.{Bool, true, false, cond, _&&_, _||_}
 use mathlib.Core.Path.{_≡_}
-use mathlib.Core.List.{List, [], _∷_}
-use Prim.Native.Nat.{ℕ, _+_, _-_, _*_, _/_, _≤_, min, max}
+use mathlib.Core.List.{[], _∷_}
+use Prim.Native.Nat.{ℕ, _+_, _-_, _/_, _≤_, min, max}
 use lib.Dec.{eqb}
 use Rattle.lists.specs.Choice.{firstOf, within}
 use Rattle.article.specs.Answer.{Answer, answer}
@@ -56,24 +56,25 @@ sameClass l s = (isCanada l && isCanada s) || (isProvince l && isProvince s)
 unfoldable pub mixedClass : Leg → Leg → Bool
 mixedClass l s = (isCanada l && isProvince s) || (isProvince l && isCanada s)
 
--- the rule by the issuers
+-- both Canada or both provincial: the difference; one Canada, one provincial: half the sum
 unfoldable pub classRule : Leg → Leg → Rule
 classRule l s = firstOf ((sameClass l s, Difference) ∷ (mixedClass l s, HalfSum) ∷ []) NotAllowed
 
--- the rule by the kinds and the issuers
+-- which rule applies, one decision over the issuers and kinds of the two legs
 unfoldable pub ruleOf : Leg → Leg → Rule
 ruleOf l s = cond (kindsPair l s) (classRule l s) NotAllowed
 
+-- a rule that allows the pair
 abbrev pub permits : Rule → Bool
 permits Difference = true
 permits HalfSum = true
 permits NotAllowed = false
 
--- one long and one short may be paired if both lie in the same period and their kinds and issuers have a rule
+-- one long and one short may be paired if both lie in the same period and a rule applies to their kinds and issuers
 unfoldable pub allowed : Leg → Leg → Bool
 allowed l s = isLong l && isShort s && eqb (l .period) (s .period) && permits (ruleOf l s)
 
--- the difference of two rates, never negative; half the sum; where there is no pair, what the two have alone
+-- the rate that a rule makes of two: their difference, never negative; half their sum; without a rule, what the two have alone
 unfoldable pub ruleRate : Rule → ℕ → ℕ → ℕ
 ruleRate Difference a b = max a b - min a b
 ruleRate HalfSum a b = (a + b) / 2
@@ -87,7 +88,7 @@ pairRate l s = ruleRate (ruleOf l s) (l .rate) (s .rate)
 unfoldable pub savingRate : Leg → Leg → ℕ
 savingRate l s = l .rate + s .rate - pairRate l s
 
--- the paper's number and values of each case: 0 with the pair's rate and the saving rate, or 13
+-- the paper's number and values of each answer: 0 with the pair's rate and the saving rate, or 13
 unfoldable pub told : Pair → Answer
 told (pairs.Allowed rate saving) = answer 0 rate saving
 told pairs.NotAllowed = answer 13 0 0

@@ -11,7 +11,7 @@ use Rattle.holding.specs.declared.Issuer.{Issuer}
 use Rattle.holding.specs.declared.Issuer.the-variants.{Canada, Province}
 use Rattle.holding.specs.declared.Holding.{Holding}
 
--- a term of more than so many years; a year is 365 days here
+-- a term of more than so many years. A year is 365 days here
 unfoldable pub over : ℕ → ℕ → Bool
 over days years = ltb (years * 365) days
 
@@ -19,33 +19,33 @@ over days years = ltb (years * 365) days
 unfoldable pub atLeast : ℕ → ℕ → Bool
 atLeast days years = leb (years * 365) days
 
--- periods 1 to 5: 1 year or less, over 1 year to 3, over 3 to 7, over 7 to 11, over 11 years
+-- 1 year or less, over 1 year to 3, over 3 to 7, over 7 to 11, over 11 years: periods 1 to 5, each end inside the earlier period
 unfoldable pub periodOf : ℕ → ℕ
 periodOf days = 1 + count (over days) (1 ∷ 3 ∷ 7 ∷ 11 ∷ [])
 
--- the issuer class: Group I, Canada, or Group II, the provinces
+-- the issuer class, as a place in the table: Group I, Canada; Group II, the provinces
 abbrev pub classOf : Issuer → ℕ
 classOf Canada = 0
 classOf (Province p) = 1
 
--- the margin required in each period, in percent of market value: Group I, then Group II
+-- the margin required in each period, in percent of market value: 1, 1, 2, 4, 4 in Group I and 2, 3, 4, 5, 5 in Group II
 unfoldable pub percents : List (List ℕ)
 percents =
     (1 ∷ 1 ∷ 2 ∷ 4 ∷ 4 ∷ [])
     ∷ (2 ∷ 3 ∷ 4 ∷ 5 ∷ 5 ∷ [])
     ∷ []
 
--- the same in units: a unit is 1/146,000 of a cent, so one percent of a cent is 1,460
+-- the same as a rate, units per cent of market value: a unit is 1/146,000 of a cent
 unfoldable pub flatRate : ℕ → ℕ → ℕ
 flatRate class period = getD (getD percents class []) (period - 1) 0 * (146000 / 100)
 
--- a bond's rate; for 1 year or less it is multiplied by the days to maturity over 365
+-- a bond's rate: for 1 year or less multiplied by the number of days to maturity divided by 365
 unfoldable pub bondRate : ℕ → ℕ → ℕ
 bondRate class days =
     let flat = flatRate class (periodOf days) in
     cond (over days 1) flat (flat * days / 365)
 
--- one and a half times the bond's rate, three times from 20 years
+-- a strip's rate: one and a half times the bond's at the strip's own term, three times from 20 years
 unfoldable pub stripRate : ℕ → ℕ → ℕ
 stripRate bond days = cond (atLeast days 20) (bond * 3) (bond * 3 / 2)
 

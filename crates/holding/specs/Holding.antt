@@ -1,7 +1,7 @@
 -- Document 01, "A holding": the ranges of raw numbers, and the record that numbers within them make. Assumes nothing.
 use mathlib.Core.Path.{_≡_}
-use mathlib.Core.Bool.{Bool, cond, not}
-use mathlib.Core.List.{List, [], _∷_}
+use mathlib.Core.Bool.{cond, not}
+use mathlib.Core.List.{[], _∷_}
 use Prim.Native.Nat.{ℕ, _≤_}
 use lib.Dec.{eqb}
 use Rattle.lists.specs.Choice.{firstOf, within}
@@ -16,7 +16,7 @@ use Rattle.holding.specs.declared.Row.{Row}
 use Rattle.holding.specs.declared.Built.{Built}
 use Rattle.holding.specs.declared.Built.the-variants.{Made, Refused}
 
--- the ranges of a holding's numbers
+-- side 0 and 1, kind 0 to 2, issuer 0 to 10, days 1 to 36,500, market value 1 to 100,000,000,000 cents
 pub record Ranges (r : Row) : Type 0 where
   pub side : r .side ≤ 1
   pub kind : r .kind ≤ 2
@@ -49,7 +49,7 @@ kindNumber Bond = 0
 kindNumber Coupon = 1
 kindNumber Residual = 2
 
--- issuer: 0 Canada, 1 to 10 a province; a province of no such number has one that is no issuer's
+-- issuer: 0 Canada, 1 to 10 a province in the order AB BC MB NB NL NS ON PE QC SK; a province of no such number is given one that no issuer has
 abbrev pub issuerNumber : Issuer → ℕ
 issuerNumber Canada = 0
 issuerNumber (Province p) = cond (within 1 10 p) p 18446744073709551615
@@ -64,11 +64,11 @@ rowOf h = record {
   value = h .value;
 }
 
--- a record within the ranges
+-- a record whose numbers are within the ranges
 abbrev pub InRange : Holding → Type 0
 InRange h = Ranges (rowOf h)
 
--- the record of a row, case by case
+-- from a number to its case
 unfoldable pub sideOf : ℕ → Side
 sideOf n = cond (eqb n 0) Long Short
 
@@ -78,6 +78,7 @@ kindOf n = cond (eqb n 0) Bond (cond (eqb n 1) Coupon Residual)
 unfoldable pub issuerOf : ℕ → Issuer
 issuerOf n = cond (eqb n 0) Canada (Province n)
 
+-- the record of a row: it keeps its issuer as Canada or as a province with its number, and its kind as one of three named cases
 unfoldable pub holdingOf : Row → Holding
 holdingOf r = record {
   side = sideOf (r .side);

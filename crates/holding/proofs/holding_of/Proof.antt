@@ -29,7 +29,8 @@ issuer-of-requires c κs = search needs
 
 returns-2 : tie.Need-returns-2
 unfolding builtOf holdingOf
-returns-2 c = let row = c .before .before .before .before .before .args .row in
+returns-2 c =
+    let row = c .before .before .before .before .before .args .row in
     let none : faultOf row ≡ 0 = sym (c .before .before .before .before .fault .ensures) ∙ c .before .before .before .if1 .left in
     rw (c .before .before .side-of .ensures, c .before .kind-of .ensures, c .issuer-of .ensures)
     (record { number = sym none; built = rw (eq-eqb _ 0 none); sound = kept row none })

@@ -49,13 +49,15 @@ mul-result c =
 
 returns : tie.Need-returns
 unfolding bondRate over
-returns c = let a = c .before .before .before .before .args in
+returns c =
+    let a = c .before .before .before .before .args in
     rw (entry _ _ _ _ (c .before .before .before .class-of .ensures .0) (c .before .before .period .ensures .0), le-ltb 365 (a .days) (c .if1 .taken))
     (refl, omega (arith, early (classOf (a .issuer)) (periodOf (a .days)) (a .days) (c .if1 .taken)))
 
 returns-2 : tie.Need-returns-2
 unfolding bondRate over
-returns-2 c = let a = c .before .before .before .before .args in
+returns-2 c =
+    let a = c .before .before .before .before .args in
     rw (entry _ _ _ _ (c .before .before .before .class-of .ensures .0) (c .before .before .period .ensures .0), lt-ltb 365 (a .days) (c .if1 .left))
     (refl, flat-high (classOf (a .issuer)) (periodOf (a .days)))
 
