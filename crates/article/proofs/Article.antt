@@ -7,7 +7,7 @@ use lib.Dec.{eqb}
 use borrow.Author.Tests.{eq-eqb, ne-eqb}
 use Rattle.lists.specs.Choice.{within}
 use Rattle.lists.proofs.Tests.{by-test}
-use Rattle.holding.proofs.Ranges.{fault-none, none-fault, row-kept}
+use Rattle.holding.proofs.Ranges.{fault-none, none-fault, row-kept, holding-kept}
 use Rattle.article.proofs.RateTable.{rate-table}
 use Rattle.article.proofs.Rates.{rate-high, half-exact}
 use Rattle.article.proofs.PairRates.{difference-excess, rate-and-saving, saving-high}
@@ -92,6 +92,7 @@ module _ (p : ℕ) (stray : within 1 10 p ≡ false) where
 pub article : Article
 article = record {
   rows = λ r. record { no-fault = (fault-none r, none-fault r); kept = row-kept r };
+  records = holding-kept;
   strangers = stranger;
   rates = rate-table;
   pairs = pairing;

@@ -15,7 +15,7 @@ use Rattle.holding.specs.declared.Issuer.the-variants.{Province}
 use Rattle.holding.specs.declared.Holding.{Holding}
 use Rattle.holding.specs.declared.Row.{Row}
 
--- a row is refused exactly when a number is outside its range; a row within them makes a record that keeps its numbers
+-- a row is refused exactly when a number is outside its range; any other makes a record that keeps its numbers
 pub record Rows (r : Row) : Type 0 where
   pub no-fault : (faultOf r ≡ 0) ↔ Ranges r
   pub kept : Ranges r → rowOf (holdingOf r) ≡ r
@@ -27,6 +27,7 @@ pub record MayPair (l s : Holding) : Type 0 where
   pub period : periodOf (l .days) ≡ periodOf (s .days)
   pub not-bonds : l .kind ≡ Bond → s .kind ≡ Bond → ⊥
 
+-- what two holdings within the ranges have as a pair
 pub record Pairing (l s : Holding) : Type 0 where
   pub permitted : (allowed (legOf l) (legOf s) ≡ true) ↔ MayPair l s
   -- both Canada or both provincial: the greater rate is the lesser and the pair's, so that this is never negative
@@ -43,8 +44,11 @@ pub record Stranger (p : ℕ) : Type 0 where
   pub as-long : (l s : Holding) → l .issuer ≡ Province p → allowed (legOf l) (legOf s) ≡ false
   pub as-short : (l s : Holding) → s .issuer ≡ Province p → allowed (legOf l) (legOf s) ≡ false
 
+-- the page
 pub record Article : Type 0 where
   pub rows : (r : Row) → Rows r
+  -- a record within the ranges is the record of its numbers
+  pub records : (h : Holding) → InRange h → holdingOf (rowOf h) ≡ h
   pub strangers : (p : ℕ) → within 1 10 p ≡ false → Stranger p
   pub rates : (days : ℕ) → RateTable days
   pub pairs : (l s : Holding) → InRange l → InRange s → Pairing l s
