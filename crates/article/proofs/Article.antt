@@ -13,7 +13,7 @@ use Rattle.article.proofs.Rates.{rate-high, half-exact}
 use Rattle.article.proofs.PairRates.{difference-excess, rate-and-saving, saving-high}
 use Rattle.article.proofs.Legs.{allowed-meets, meets-allowed, bonds-no-rule, kinds-pair, class-rule, no-class-long, no-class-short, no-rule}
 use Rattle.article.specs.Article.{MayPair, Pairing, Stranger, Article}
-use Rattle.holding.specs.Holding.{InRange, sideNumber, kindNumber, issuerNumber, rowOf}
+use Rattle.holding.specs.Holding.{InRange, sideNumber, kindNumber, noIssuer, issuerNumber, rowOf}
 use Rattle.article.specs.Rate.{classOf, rateOf}
 use Rattle.article.specs.Pair.{legOf, isCanada, isProvince, ruleOf, ruleRate, permits, allowed, pairRate}
 use Rattle.holding.specs.declared.Side.{Side}
@@ -75,7 +75,7 @@ module _ (l s : Holding) (f : InRange l) (g : InRange s) where
   }
 
 module _ (p : ℕ) (stray : within 1 10 p ≡ false) where
-  stray-number : (i : Issuer) → i ≡ Province p → issuerNumber i ≡ 18446744073709551615
+  stray-number : (i : Issuer) → i ≡ Province p → issuerNumber i ≡ noIssuer
   stray-number i e = ap issuerNumber e ∙ rw stray
 
   stray-leg : (h : Holding) → h .issuer ≡ Province p → (isCanada (legOf h) ≡ false) × (isProvince (legOf h) ≡ false)

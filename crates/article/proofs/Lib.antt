@@ -1,5 +1,6 @@
 pub mod Periods
 pub mod FlatRates
+pub mod Terms
 pub mod PairRates
 pub mod RateTable
 pub mod Rates

@@ -2,13 +2,13 @@
 use mathlib.Core.Path.{_≡_}
 use mathlib.Core.List.{[]}
 use Prim.Native.Nat.{ℕ, _+_, _-_, _*_, _≤_}
-use native.Mathlib.Nat.{mul-le-mul}
 use native.Mathlib.Omega.{arith}
 use lib.Dec.{ltb}
 use lib.ListN.{getD}
 use borrow.Author.Tests.{ltb-false}
 use Rattle.lists.proofs.Tests.{by-test}
 use Rattle.article.proofs.FlatRates.{flat-high}
+use Rattle.article.proofs.Terms.{small}
 use Rattle.article.specs.Rate.{over, atLeast, periodOf, percents, flatRate, bondRate, stripRate, kindRate, classOf, rateAt, rateOf}
 use Rattle.article.specs.Pair.{ruleRate}
 use Rattle.holding.specs.declared.Kind.{Kind}
@@ -49,12 +49,10 @@ half-exact l s =
     omega arith
 
 -- in period 1 the days are at most the year's
-bond-high : (class d : ℕ) → bondRate class d ≤ 7300
+pub bond-high : (class d : ℕ) → bondRate class d ≤ 7300
 unfolding bondRate over
 bond-high class d =
-    let flat = flatRate class (periodOf d) in
-    let high = flat-high class (periodOf d) in
-    by-test (_≤ 7300) (ltb (1 * 365) d) (λ _. high) (λ e. omega (arith, mul-le-mul high (ltb-false 365 d e)))
+    by-test (_≤ 7300) (ltb (1 * 365) d) (λ _. flat-high class (periodOf d)) (λ e. omega (arith, small class d (ltb-false 365 d e)))
 
 strip-high : (bond d : ℕ) → bond ≤ 7300 → stripRate bond d ≤ 21900
 unfolding stripRate

@@ -8,7 +8,7 @@ use borrow.Author.Tests.{not-false, ne-eqb}
 use Rattle.lists.proofs.Tests.{within-true, true-within}
 use Rattle.lists.proofs.Firsts.{first-none}
 use Rattle.lists.specs.Choice.{firstOf, within}
-use Rattle.holding.specs.Holding.{Ranges, InRange, Kept, faultOf, sideNumber, kindNumber, issuerNumber, sideOf, kindOf, issuerOf, rowOf, holdingOf}
+use Rattle.holding.specs.Holding.{Ranges, InRange, Kept, faultOf, sideNumber, kindNumber, noIssuer, issuerNumber, sideOf, kindOf, issuerOf, rowOf, holdingOf}
 use Rattle.holding.specs.declared.Side.{Side}
 use Rattle.holding.specs.declared.Side.the-variants.{Long, Short}
 use Rattle.holding.specs.declared.Kind.{Kind}
@@ -104,7 +104,7 @@ province-range p h = by (within 1 10 p) refl
     by : (t : Bool) → within 1 10 p ≡ t → within 1 10 p ≡ true
     by true e = e
     by false e =
-        let none : 18446744073709551615 ≤ 10 = rw e at h in
+        let none : noIssuer ≤ 10 = rw e at h in
         absurd (omega arith)
 
 issuer-back : (i : Issuer) → issuerNumber i ≤ 10 → issuerOf (issuerNumber i) ≡ i

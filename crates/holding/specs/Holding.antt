@@ -49,10 +49,14 @@ kindNumber Bond = 0
 kindNumber Coupon = 1
 kindNumber Residual = 2
 
+-- a number that no issuer has
+abbrev pub noIssuer : ℕ
+noIssuer = 18446744073709551615
+
 -- issuer: 0 Canada, 1 to 10 a province in the order AB BC MB NB NL NS ON PE QC SK; a province of no such number is given one that no issuer has
 abbrev pub issuerNumber : Issuer → ℕ
 issuerNumber Canada = 0
-issuerNumber (Province p) = cond (within 1 10 p) p 18446744073709551615
+issuerNumber (Province p) = cond (within 1 10 p) p noIssuer
 
 -- the numbers of a record
 unfoldable pub rowOf : Holding → Row

@@ -118,7 +118,7 @@ pub fn holding_of(row: Row) -> Built
 }
 
 // A number that no issuer has.
-const NOBODY: u64 = 18446744073709551615;
+const NO_ISSUER: u64 = 18446744073709551615;
 
 fn side_number(side: Side) -> u64
     ensures { λ r. ⌜ r ≡ sideNumber side ⌝ }
@@ -146,7 +146,7 @@ fn issuer_number(issuer: Issuer) -> u64
         Issuer::Canada => 0,
         Issuer::Province(p) => match p {
             1..=10 => p,
-            _ => NOBODY,
+            _ => NO_ISSUER,
         },
     }
 }

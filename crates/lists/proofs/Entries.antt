@@ -1,12 +1,12 @@
 -- What one computed test over a list says of every entry. Assumes nothing.
-use mathlib.Core.Path.{_≡_}
-use mathlib.Core.Bool.{Bool, true, _&&_, and-eq-true-iff}
+use mathlib.Core.Path.{_≡_, refl}
+use mathlib.Core.Bool.{Bool, true, false, _&&_, and-eq-true-iff, false≢true}
 use mathlib.Core.List.{List, [], _∷_}
 use Prim.Native.Nat.{ℕ, zero, suc, _≤_}
 use native.Mathlib.Omega.{arith}
-use lib.Dec.{leb}
+use lib.Dec.{leb, eqb}
 use lib.ListN.{getD}
-use borrow.Author.Tests.{leb-true}
+use borrow.Author.Tests.{leb-true, eqb-true}
 use Rattle.lists.specs.Each.{Each}
 
 abbrev pub every : {A : Type 0} → (A → Bool) → List A → Bool
@@ -28,3 +28,18 @@ bounded m l e i = at l (each-by (_≤ m) (λ x. leb x m) (λ x. leb-true x m) l 
     at [] h i = omega arith
     at (x ∷ xs) h zero = h .0
     at (x ∷ xs) h (suc i) = at xs (h .1) i
+
+-- two lists of numbers, entry by entry
+abbrev pub same : List ℕ → List ℕ → Bool
+same [] [] = true
+same [] (y ∷ ys) = false
+same (x ∷ xs) [] = false
+same (x ∷ xs) (y ∷ ys) = eqb x y && same xs ys
+
+pub same-true : (xs ys : List ℕ) → same xs ys ≡ true → xs ≡ ys
+same-true [] [] e = refl
+same-true [] (y ∷ ys) e = absurd (false≢true e)
+same-true (x ∷ xs) [] e = absurd (false≢true e)
+same-true (x ∷ xs) (y ∷ ys) e =
+    let (a, b) = and-eq-true-iff (eqb x y) (same xs ys) .0 e in
+    λ i. eqb-true x y a i ∷ same-true xs ys b i

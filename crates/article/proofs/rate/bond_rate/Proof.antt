@@ -1,13 +1,13 @@
 -- `bond_rate` is `bondRate`: the table's entry is the article's flat rate, and in period 1 the year's fraction of it is taken. Assumes nothing.
-use mathlib.Core.Path.{_≡_, refl, _∙_}
+use mathlib.Core.Path.{_≡_, refl, sym, _∙_}
 use mathlib.Core.List.{[]}
 use Prim.Native.Nat.{ℕ, _*_, _/_, _-_, _≤_, _<_}
-use native.Mathlib.Nat.{mul-le-mul}
 use native.Mathlib.Omega.{arith}
 use lib.ListN.{getD}
-use borrow.Author.Tests.{le-ltb, lt-ltb}
-use Rattle.article.proofs.FlatRates.{table, flat-right, flat-high}
-use Rattle.article.specs.Rate.{bondRate, over, flatRate, periodOf}
+use Rattle.article.proofs.FlatRates.{table, flat-right}
+use Rattle.article.proofs.Terms.{small, within-year, over-year}
+use Rattle.article.proofs.Rates.{bond-high}
+use Rattle.article.specs.Rate.{bondRate, flatRate, periodOf}
 use borrow.Author.Needs.{needs}
 use Rattle.article.proofs.rate.bond_rate.Statement.{statement}
 use Rattle.article.proofs.rate.bond_rate.Tie as tie
@@ -17,17 +17,18 @@ module _ (class period issuer-class days flat : ℕ) (read : flat ≡ getD (getD
   entry : flat ≡ flatRate issuer-class (periodOf days)
   entry = read ∙ flat-right class period ∙ (λ i. flatRate (p i) (q i))
 
-  -- within a year the product is small
-  small : days ≤ 365 → flat * days ≤ 7300 * 365
-  small h = rw entry (mul-le-mul (flat-high issuer-class (periodOf days)) h)
+  fits : days ≤ 365 → flat * days ≤ 7300 * 365
+  fits h = rw entry (small issuer-class days h)
 
   early : days ≤ 365 → (flat * days / 365 ≡ bondRate issuer-class days) × (flat * days / 365 ≤ 7300)
-  unfolding bondRate over
-  early h = (rw (le-ltb 365 days h, entry), omega (arith, small h))
+  early h =
+      let e : flat * days / 365 ≡ bondRate issuer-class days = rw entry (sym (within-year issuer-class days h)) in
+      (e, rw e (bond-high issuer-class days))
 
   late : 365 < days → (flat ≡ bondRate issuer-class days) × (flat ≤ 7300)
-  unfolding bondRate over
-  late h = (rw (lt-ltb 365 days h, entry), rw entry (flat-high issuer-class (periodOf days)))
+  late h =
+      let e : flat ≡ bondRate issuer-class days = entry ∙ sym (over-year issuer-class days h) in
+      (e, rw e (bond-high issuer-class days))
 
 class-of-requires : tie.Need-class-of-requires
 class-of-requires c κs = search needs
@@ -53,7 +54,7 @@ index-2-flat c = search needs
 mul-result : tie.Need-mul-result
 mul-result c =
     let at-period = c .before .before in
-    omega (arith, small _ _ _ _ _ refl (at-period .before .class-of .ensures .0) (at-period .period .ensures .0) (c .if1 .taken))
+    omega (arith, fits _ _ _ _ _ refl (at-period .before .class-of .ensures .0) (at-period .period .ensures .0) (c .if1 .taken))
 
 returns : tie.Need-returns
 returns c =
