@@ -1,4 +1,4 @@
--- THE PAGE TO READ FIRST: what document 01 says of rates and pairs, in its own words, over the definitions beside it.
+-- THE PAGE OF HOLDINGS, RATES AND PAIRS: what document 01 says of them, in its own words, over the definitions beside it.
 -- `article` of proofs/Article.antt proves it. Assumes nothing.
 use mathlib.Core.Path.{_≡_}
 use mathlib.Core.Bool.{true, false}

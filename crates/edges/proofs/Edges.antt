@@ -3,17 +3,26 @@ use mathlib.Core.Path.{_≡_, refl}
 use mathlib.Core.Bool.{Bool, true}
 use Rattle.lists.specs.Choice.{within, firstOf, count}
 use Rattle.lists.specs.Each.{Each}
+use Rattle.lists.specs.Order.{insert, ordered}
+use Rattle.lists.specs.Sums.{sumTo, sumOf, only}
+use Rattle.lists.specs.Tables.{listTo, turns, inTurn}
 use Rattle.lists.proofs.Entries.{every, each-by, same, same-true}
-use Rattle.holding.specs.Holding.{faultOf, holdingOf, sideOf, kindOf, issuerOf, rowOf}
+use Rattle.holding.specs.Holding.{rowFaults, faultOf, holdingOf, sideOf, kindOf, issuerOf, rowOf}
 use Rattle.article.specs.Rate.{over, atLeast, periodOf, percents, flatRate, bondRate, stripRate, kindRate, rateAt, rateOf}
 use Rattle.article.specs.Pair.{legOf, isLong, isShort, isBond, isStrip, isCanada, isProvince, kindsPair, sameClass, mixedClass, classRule, ruleOf, ruleRate, allowed, pairRate, savingRate, pairOf}
-use Rattle.edges.specs.Edges.{Case, Holds, alone, together, table}
+use Rattle.pairing.specs.Pairing as theory
+use Rattle.pairing.specs.Pairing.{used, saving, pairUnits, pricedTotal}
+use Rattle.ranking.specs.Ranking.{ranksBefore, rankingOf}
+use Rattle.proposal.specs.Submission.{bookOf, termsOf, priced}
+use Rattle.proposal.specs.Figures.{remainder, margin, unitsOf, remaindersOf, ranked, centsOf}
+use Rattle.proposal.specs.Outcome.{atPlace, holdingFaults, pairFaults, lineFaults, atHolding, bookFaults, atLine, linesFaults, uncovered, atPair, atLong, gaps, totalsDiffer, totalsFaults, sizeFaults, faults, accepted, outcome}
+use Rattle.edges.specs.Edges.{Case, Holds, alone, together, judged, worked, table}
 
 abbrev test : Case → Bool
 test c = same (c .computed) (c .stated)
 
 tested : every test table ≡ true
-unfolding table alone together within firstOf count faultOf holdingOf sideOf kindOf issuerOf rowOf over atLeast periodOf percents flatRate bondRate stripRate kindRate rateAt rateOf legOf isLong isShort isBond isStrip isCanada isProvince kindsPair sameClass mixedClass classRule ruleOf ruleRate allowed pairRate savingRate pairOf
+unfolding table alone together judged worked within firstOf count insert ordered sumTo sumOf only listTo turns inTurn rowFaults faultOf holdingOf sideOf kindOf issuerOf rowOf over atLeast periodOf percents flatRate bondRate stripRate kindRate rateAt rateOf legOf isLong isShort isBond isStrip isCanada isProvince kindsPair sameClass mixedClass classRule ruleOf ruleRate allowed pairRate savingRate pairOf used theory.savingRate saving pairUnits pricedTotal ranksBefore rankingOf bookOf termsOf priced remainder margin unitsOf remaindersOf ranked centsOf atPlace holdingFaults pairFaults lineFaults atHolding bookFaults atLine linesFaults uncovered atPair atLong gaps totalsDiffer totalsFaults sizeFaults faults accepted outcome
 tested = refl
 
 pub edges : Each Holds table

@@ -1,14 +1,19 @@
 -- Document 01, "Edges" and "Shortcuts that cost margin or hide it": the worked cases in one table, from raw numbers on. Assumes nothing.
 use mathlib.Core.Path.{_≡_}
-use mathlib.Core.Bool.{cond, not}
-use mathlib.Core.List.{List, [], _∷_}
+use mathlib.Core.Bool.{Bool, true, false, cond, not}
+use mathlib.Core.List.{List, [], _∷_, _++_}
 use Prim.Native.Nat.{ℕ}
 use lib.Dec.{eqb}
+use lib.ListN.{replicate}
 use Rattle.lists.specs.Choice.{firstOf}
 use Rattle.holding.specs.Holding.{faultOf, holdingOf}
 use Rattle.holding.specs.declared.Row.{Row}
 use Rattle.article.specs.Rate.{rateOf}
 use Rattle.article.specs.Pair.{legOf, pairOf}
+use Rattle.pairing.specs.declared.Line.{Line}
+use Rattle.proposal.specs.Submission.{Submission, bookOf, priced}
+use Rattle.proposal.specs.Figures.{remainder, margin, unitsOf, remaindersOf, ranked, centsOf}
+use Rattle.proposal.specs.Outcome.{outcome}
 
 -- a case: what is computed, and what document 01 says of it
 pub record Case : Type 0 where
@@ -33,6 +38,20 @@ together l s =
     ∷ [])
     (0 ∷ told .first ∷ told .second ∷ [])
 
+-- a book with its prices and lines, and whether 1 and 2 hold of what is lent: the answer, and after an accepted one the remainders and the
+-- ranking
+unfoldable pub judged : Bool → Bool → List Row → List ℕ → List Line → List ℕ
+judged one two rows prices lines =
+    let s : Submission = record { rows = rows; prices = prices; lines = lines } in
+    let a = outcome one two s in
+    a .number ∷ a .first ∷ a .second ∷ cond (eqb (a .number) 0) (remaindersOf (priced s) lines ++ ranked (priced s) lines) []
+
+-- what lines make of a book, accepted or not: units and cents, and of holding 0 the remainder and its units
+unfoldable pub worked : List Row → List Line → List ℕ
+worked rows lines =
+    let b = bookOf rows [] in
+    unitsOf b lines ∷ centsOf (unitsOf b lines) ∷ remainder b lines 0 ∷ margin b lines 0 ∷ []
+
 abbrev rate : Row → ℕ → Case
 rate r n = record { computed = alone r; stated = 0 ∷ n ∷ [] }
 
@@ -44,6 +63,19 @@ pair l s n saving = record { computed = together l s; stated = 0 ∷ n ∷ savin
 
 abbrev no-pair : Row → Row → ℕ → Case
 no-pair l s n = record { computed = together l s; stated = n ∷ [] }
+
+abbrev proposal : List Row → List ℕ → List Line → List ℕ → Case
+proposal rows prices lines told = record { computed = judged false false rows prices lines; stated = told }
+
+abbrev lent : Bool → Bool → List Row → List Line → List ℕ → Case
+lent one two rows lines told = record { computed = judged one two rows [] lines; stated = told }
+
+abbrev figures : List Row → List Line → List ℕ → Case
+figures rows lines told = record { computed = worked rows lines; stated = told }
+
+-- long, short, amount
+abbrev line : ℕ → ℕ → ℕ → Line
+line long short amount = record { long = long; short = short; amount = amount }
 
 -- side, kind, issuer, days, value
 abbrev row : ℕ → ℕ → ℕ → ℕ → ℕ → Row
@@ -73,6 +105,28 @@ ON = 7
 
 abbrev QC : ℕ
 QC = 9
+
+-- the file's book, its lines by the first amount, and its answer
+abbrev file : List Row
+file = row L C CA 2000 1000000 ∷ row S B CA 2000 600000 ∷ row S R ON 2000 300000 ∷ []
+
+abbrev file-lines : ℕ → List Line
+file-lines amount = line 0 1 amount ∷ line 0 2 300000 ∷ []
+
+-- the book of "Largest saving first", and prices that cover it
+abbrev four : List Row
+four = row L C ON 2000 1000 ∷ row L B ON 2000 1000 ∷ row S C ON 2000 1000 ∷ row S B ON 2000 1000 ∷ []
+
+abbrev four-prices : List ℕ
+four-prices = 8760 ∷ 2920 ∷ 8760 ∷ 2920 ∷ []
+
+-- a coupon and a bond of 1 day, by their values
+abbrev two : ℕ → ℕ → List Row
+two a b = row L C CA 1 a ∷ row S B CA 1 b ∷ []
+
+-- two bonds, which do not pair
+abbrev bonds : List Row
+bonds = row L B CA 1 2 ∷ row S B CA 1 2 ∷ []
 
 unfoldable pub table : List Case
 table =
@@ -128,4 +182,57 @@ table =
     -- the legs the wrong way round; a row with a fault is in no pair
     ∷ no-pair (row S C ON 2000 1000) (row L C ON 2000 1000) 13
     ∷ no-pair (row L C ON 2000 1000) (row S C 11 2000 1000) 6
+    -- the file: 3,285,000,000 units, 22,500 cents; remainders 100,000, 0, 0; ranking 0, 1, 2
+    ∷ proposal file (0 ∷ 5840 ∷ 6570 ∷ []) (file-lines 600000) (0 ∷ 3285000000 ∷ 22500 ∷ 100000 ∷ 0 ∷ 0 ∷ 0 ∷ 1 ∷ 2 ∷ [])
+    -- its line R,0,100000,438000000
+    ∷ figures file (file-lines 600000) (3285000000 ∷ 22500 ∷ 100000 ∷ 438000000 ∷ [])
+    -- third price 6,569: 16 at 0, 2. First price 1: 17. First amount 600,001: 15
+    ∷ proposal file (0 ∷ 5840 ∷ 6569 ∷ []) (file-lines 600000) (16 ∷ 0 ∷ 2 ∷ [])
+    ∷ proposal file (1 ∷ 5840 ∷ 6570 ∷ []) (file-lines 600000) (17 ∷ 0 ∷ 0 ∷ [])
+    ∷ proposal file (0 ∷ 5840 ∷ 6570 ∷ []) (file-lines 600001) (15 ∷ 0 ∷ 0 ∷ [])
+    -- the empty book, and a line on it
+    ∷ proposal [] [] [] (0 ∷ 0 ∷ 0 ∷ [])
+    ∷ proposal [] [] (line 0 0 1 ∷ []) (11 ∷ 0 ∷ 0 ∷ [])
+    -- Canada bond, 1 day, 1 cent: 4 units, 1 cent
+    ∷ proposal (row L B CA 1 1 ∷ []) (0 ∷ []) [] (0 ∷ 4 ∷ 1 ∷ 1 ∷ 0 ∷ [])
+    -- "Largest saving first": each coupon with the other side's bond gives 40 cents; coupon with coupon, which gives 80, is refused
+    ∷ proposal four four-prices (line 0 3 1000 ∷ line 1 2 1000 ∷ []) (0 ∷ 5840000 ∷ 40 ∷ 0 ∷ 0 ∷ 0 ∷ 0 ∷ 0 ∷ 1 ∷ 2 ∷ 3 ∷ [])
+    ∷ figures four (line 0 2 1000 ∷ []) (11680000 ∷ 80 ∷ 0 ∷ 0 ∷ [])
+    ∷ proposal four four-prices (line 0 2 1000 ∷ []) (17 ∷ 0 ∷ 0 ∷ [])
+    -- "Testing cover on the proposed lines only": the line is covered, the pair of 0 and 3 in no line is not
+    ∷ proposal four (8760 ∷ 0 ∷ 8760 ∷ 0 ∷ []) (line 0 2 1000 ∷ []) (16 ∷ 0 ∷ 3 ∷ [])
+    -- "Pairing across 4,015 days because the rates agree"
+    ∷ proposal (row L C CA 4015 100 ∷ row S C CA 4016 100 ∷ []) (8760 ∷ 8760 ∷ []) (line 0 1 100 ∷ []) (13 ∷ 0 ∷ 0 ∷ [])
+    -- "Rounding each line": two lines of 2 units are 4 units, 1 cent and not 2
+    ∷ proposal (two 2 2) (8 ∷ 0 ∷ []) (line 0 1 1 ∷ line 0 1 1 ∷ []) (0 ∷ 4 ∷ 1 ∷ 0 ∷ 0 ∷ 0 ∷ 1 ∷ [])
+    -- 16 goes by the lowest long, then by the lowest short
+    ∷ proposal (row S C ON 2000 1000 ∷ row L C ON 2000 1000 ∷ row S C ON 2000 1000 ∷ row L C ON 2000 1000 ∷ []) (0 ∷ 0 ∷ 0 ∷ 0 ∷ []) [] (16 ∷ 1 ∷ 0 ∷ [])
+    -- the ranking: larger margin first, a tie by lower number
+    ∷ proposal (row L B CA 1 1 ∷ row L B CA 1 3 ∷ row L B CA 1 1 ∷ row L B CA 1 4 ∷ []) (0 ∷ 0 ∷ 0 ∷ 0 ∷ []) [] (0 ∷ 36 ∷ 1 ∷ 1 ∷ 3 ∷ 1 ∷ 4 ∷ 3 ∷ 1 ∷ 0 ∷ 2 ∷ [])
+    -- each refusal of a line, and its place
+    ∷ proposal (two 2 2) (8 ∷ 0 ∷ []) (line 0 1 1 ∷ line 0 2 1 ∷ []) (11 ∷ 1 ∷ 0 ∷ [])
+    ∷ proposal (two 2 2) (8 ∷ 0 ∷ []) (line 0 1 1 ∷ line 1 0 1 ∷ []) (12 ∷ 1 ∷ 0 ∷ [])
+    ∷ proposal (two 2 2) (8 ∷ 0 ∷ []) (line 0 1 1 ∷ line 0 1 0 ∷ []) (14 ∷ 1 ∷ 0 ∷ [])
+    ∷ proposal (two 2 2) (8 ∷ 0 ∷ []) (line 0 1 1 ∷ line 0 1 2 ∷ []) (15 ∷ 1 ∷ 0 ∷ [])
+    ∷ proposal (two 2 1) (8 ∷ 0 ∷ []) (line 0 1 18446744073709551615 ∷ []) (15 ∷ 0 ∷ 0 ∷ [])
+    -- the first of several on one line: 11 before 12, 12 before 14, 13 before 14 and 15; 15 before 16, 16 before 17
+    ∷ proposal (two 2 2) (8 ∷ 0 ∷ []) (line 2 0 1 ∷ []) (11 ∷ 0 ∷ 0 ∷ [])
+    ∷ proposal (two 2 2) (8 ∷ 0 ∷ []) (line 1 0 0 ∷ []) (12 ∷ 0 ∷ 0 ∷ [])
+    ∷ proposal bonds (0 ∷ 0 ∷ []) (line 0 1 0 ∷ []) (13 ∷ 0 ∷ 0 ∷ [])
+    ∷ proposal bonds (0 ∷ 0 ∷ []) (line 0 1 5 ∷ []) (13 ∷ 0 ∷ 0 ∷ [])
+    ∷ proposal (two 2 2) (0 ∷ 0 ∷ []) (line 0 1 3 ∷ []) (15 ∷ 0 ∷ 0 ∷ [])
+    ∷ proposal (two 2 2) (0 ∷ 0 ∷ []) (line 0 1 1 ∷ []) (16 ∷ 0 ∷ 1 ∷ [])
+    -- a holding is finished before the next, its value before its price; holdings come before lines
+    ∷ proposal (two 2 0) (8 ∷ 43801 ∷ []) (line 0 2 1 ∷ []) (8 ∷ 1 ∷ 0 ∷ [])
+    ∷ proposal (two 2 0) (43801 ∷ 0 ∷ []) (line 0 2 1 ∷ []) (10 ∷ 0 ∷ 0 ∷ [])
+    -- 257 holdings: 3; 513 lines: 9; both: 3
+    ∷ proposal (replicate 257 (row L B CA 1 1)) [] [] (3 ∷ 0 ∷ 0 ∷ [])
+    ∷ proposal [] [] (replicate 513 (line 0 0 1)) (9 ∷ 0 ∷ 0 ∷ [])
+    ∷ proposal (replicate 257 (row 2 B CA 1 1)) [] (replicate 513 (line 0 0 1)) (3 ∷ 0 ∷ 0 ∷ [])
+    -- 1, 3, 9, 2, and then the holdings
+    ∷ lent true true (replicate 257 (row 2 B CA 1 1)) (replicate 513 (line 0 0 1)) (1 ∷ 0 ∷ 0 ∷ [])
+    ∷ lent false true (replicate 257 (row 2 B CA 1 1)) (replicate 513 (line 0 0 1)) (3 ∷ 0 ∷ 0 ∷ [])
+    ∷ lent false true (row 2 B CA 1 1 ∷ []) (replicate 513 (line 0 0 1)) (9 ∷ 0 ∷ 0 ∷ [])
+    ∷ lent false true (row 2 B CA 1 1 ∷ []) (line 0 0 1 ∷ []) (2 ∷ 0 ∷ 0 ∷ [])
+    ∷ lent false false (row 2 B CA 1 1 ∷ []) (line 0 0 1 ∷ []) (4 ∷ 0 ∷ 0 ∷ [])
     ∷ []

@@ -6,9 +6,9 @@ use native.Mathlib.Omega.{arith}
 use lib.Dec.{eqb·suc-zero}
 use borrow.Author.Tests.{not-false, ne-eqb}
 use Rattle.lists.proofs.Tests.{within-true, true-within}
-use Rattle.lists.proofs.Firsts.{first-none}
+use Rattle.lists.proofs.Firsts.{None, Listed, none-first}
 use Rattle.lists.specs.Choice.{firstOf, within}
-use Rattle.holding.specs.Holding.{Ranges, InRange, Kept, faultOf, sideNumber, kindNumber, noIssuer, issuerNumber, sideOf, kindOf, issuerOf, rowOf, holdingOf}
+use Rattle.holding.specs.Holding.{Ranges, InRange, Kept, rowFaults, faultOf, sideNumber, kindNumber, noIssuer, issuerNumber, sideOf, kindOf, issuerOf, rowOf, holdingOf}
 use Rattle.holding.specs.declared.Side.{Side}
 use Rattle.holding.specs.declared.Side.the-variants.{Long, Short}
 use Rattle.holding.specs.declared.Kind.{Kind}
@@ -22,14 +22,19 @@ use Rattle.holding.specs.declared.Row.{Row}
 inside : (low high x : ℕ) → not (within low high x) ≡ false → (low ≤ x) × (x ≤ high)
 inside low high x e = within-true low high x (not-false (within low high x) e)
 
-pub fault-none : (r : Row) → faultOf r ≡ 0 → Ranges r
+-- the refusals of a row have numbers, from 1
+pub row-listed : (r : Row) → Listed (rowFaults r)
+unfolding rowFaults
+row-listed r = (omega arith, (omega arith, (omega arith, (omega arith, (omega arith, tt)))))
+
+pub none-of-row : (r : Row) → faultOf r ≡ 0 → None (rowFaults r)
 unfolding faultOf
+none-of-row r e = none-first (λ (n : ℕ). n) (rowFaults r) 0 (row-listed r) e .0
+
+pub fault-none : (r : Row) → faultOf r ≡ 0 → Ranges r
+unfolding rowFaults
 fault-none r e =
-    let (side, e₅) = first-none _ 3 _ e in
-    let (kind, e₆) = first-none _ 4 _ e₅ in
-    let (issuer, e₇) = first-none _ 5 _ e₆ in
-    let (days, e₈) = first-none _ 6 _ e₇ in
-    let (value, _) = first-none _ 7 _ e₈ in
+    let (side, (kind, (issuer, (days, (value, _))))) = none-of-row r e in
     record {
       side = inside 0 1 (r .side) side .1;
       kind = inside 0 2 (r .kind) kind .1;
@@ -41,7 +46,7 @@ fault-none r e =
     }
 
 pub none-fault : (r : Row) → Ranges r → faultOf r ≡ 0
-unfolding faultOf firstOf
+unfolding faultOf rowFaults firstOf
 none-fault r g =
     rw (
       true-within 0 1 (r .side) (omega arith) (g .side),

@@ -1,7 +1,7 @@
 -- Document 01, "A holding": the ranges of raw numbers, and the record that numbers within them make. Assumes nothing.
 use mathlib.Core.Path.{_≡_}
-use mathlib.Core.Bool.{cond, not}
-use mathlib.Core.List.{[], _∷_}
+use mathlib.Core.Bool.{Bool, cond, not}
+use mathlib.Core.List.{List, [], _∷_}
 use Prim.Native.Nat.{ℕ, _≤_}
 use lib.Dec.{eqb}
 use Rattle.lists.specs.Choice.{firstOf, within}
@@ -26,17 +26,19 @@ pub record Ranges (r : Row) : Type 0 where
   pub value-low : 1 ≤ r .value
   pub value-high : r .value ≤ 100000000000
 
--- 4 side, 5 kind, 6 issuer, 7 days, 8 value outside its range: the first that holds, 0 for none
-unfoldable pub faultOf : Row → ℕ
-faultOf r =
-    firstOf
-    ((not (within 0 1 (r .side)), 4)
+-- the refusals of a row, each with its test: 4 side, 5 kind, 6 issuer, 7 days, 8 value outside its range
+unfoldable pub rowFaults : Row → List (Bool × ℕ)
+rowFaults r =
+    (not (within 0 1 (r .side)), 4)
     ∷ (not (within 0 2 (r .kind)), 5)
     ∷ (not (within 0 10 (r .issuer)), 6)
     ∷ (not (within 1 36500 (r .days)), 7)
     ∷ (not (within 1 100000000000 (r .value)), 8)
-    ∷ [])
-    0
+    ∷ []
+
+-- the first that holds, 0 for none
+unfoldable pub faultOf : Row → ℕ
+faultOf r = firstOf (rowFaults r) 0
 
 -- side: 0 long, 1 short
 abbrev pub sideNumber : Side → ℕ

@@ -1,11 +1,11 @@
--- What one computed test over a list says of every entry. Assumes nothing.
+-- What holds of every entry of a list: at each place, and from one computed test. Assumes nothing.
 use mathlib.Core.Path.{_≡_, refl}
 use mathlib.Core.Bool.{Bool, true, false, _&&_, and-eq-true-iff, false≢true}
 use mathlib.Core.List.{List, [], _∷_}
-use Prim.Native.Nat.{ℕ, zero, suc, _≤_}
+use Prim.Native.Nat.{ℕ, zero, suc, _≤_, _<_}
 use native.Mathlib.Omega.{arith}
 use lib.Dec.{leb, eqb}
-use lib.ListN.{getD}
+use lib.ListN.{length, getD}
 use borrow.Author.Tests.{leb-true, eqb-true}
 use Rattle.lists.specs.Each.{Each}
 
@@ -19,6 +19,22 @@ each-by P test f [] e = tt
 each-by P test f (x ∷ xs) e =
     let (a, b) = and-eq-true-iff (test x) (every test xs) .0 e in
     (f x a, each-by P test f xs b)
+
+-- what follows for one entry follows for each
+pub each-so : {A : Type 0} (P Q : A → Type 0) → ((x : A) → P x → Q x) → (xs : List A) → Each P xs → Each Q xs
+each-so P Q f [] h = tt
+each-so P Q f (x ∷ xs) h = (f x (h .0), each-so P Q f xs (h .1))
+
+-- what holds of every entry holds of the one at a place, and back
+module _ {A : Type 0} (P : A → Type 0) (d : A) where
+  pub each-at : (xs : List A) → Each P xs → (i : ℕ) → i < length xs → P (getD xs i d)
+  each-at [] h i m = absurd (omega arith)
+  each-at (x ∷ xs) h zero m = h .0
+  each-at (x ∷ xs) h (suc i) m = each-at xs (h .1) i (omega arith)
+
+  pub at-each : (xs : List A) → ((i : ℕ) → i < length xs → P (getD xs i d)) → Each P xs
+  at-each [] h = tt
+  at-each (x ∷ xs) h = (h 0 (omega arith), at-each xs (λ i m. h (suc i) (omega arith)))
 
 -- a bound on a list of numbers
 pub bounded : (m : ℕ) (l : List ℕ) → every (λ x. leb x m) l ≡ true → (i : ℕ) → getD l i 0 ≤ m

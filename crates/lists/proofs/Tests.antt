@@ -1,11 +1,11 @@
 -- The value of a test in a definition from what code found on its way, `search tests`; and back from its value to the fact. Assumes nothing.
-use mathlib.Core.Path.{_≡_, refl}
+use mathlib.Core.Path.{_≡_, refl, sym}
 use mathlib.Core.Logic.{_≢_}
-use mathlib.Core.Bool.{Bool, true, false, cond, and-eq-true-iff, and-false}
+use mathlib.Core.Bool.{Bool, true, false, cond, _||_, and-eq-true-iff, and-false, false≢true}
 use Prim.Native.Nat.{ℕ, suc, _≤_, _<_}
 use native.Mathlib.Omega.{arith}
-use lib.Dec.{leb, leb·zero}
-use borrow.Author.Tests.{le-leb, lt-leb, lt-ltb, le-ltb, eq-eqb, ne-eqb, leb-true}
+use lib.Dec.{leb, ltb, eqb, leb·zero}
+use borrow.Author.Tests.{le-leb, lt-leb, lt-ltb, le-ltb, eq-eqb, ne-eqb, leb-true, ltb-true, ltb-false, eqb-true, eqb-false}
 use Rattle.lists.specs.Choice.{within}
 
 -- the end of a range in a `match`, as `..=10`, is tested as below 11
@@ -49,3 +49,24 @@ pub ruleset arms = (eq-eqb, ne-eqb, zero-out, range-in, above-out)
 pub by-test : {A : Type 0} (P : A → Type 0) (t : Bool) {x y : A} → (t ≡ true → P x) → (t ≡ false → P y) → P (cond t x y)
 by-test P true p q = p refl
 by-test P false p q = q refl
+
+-- what holds below n and from n on holds everywhere
+pub by-end : (P : ℕ → Type 0) (n : ℕ) → ((k : ℕ) → k < n → P k) → ((k : ℕ) → n ≤ k → P k) → (k : ℕ) → P k
+by-end P n p q k = by (ltb k n) refl
+  where
+    by : (t : Bool) → ltb k n ≡ t → P k
+    by true e = p k (ltb-true k n e)
+    by false e = q k (ltb-false k n e)
+
+-- neither of two tests holds
+pub neither : (s t : Bool) → (s || t) ≡ false → (s ≡ false) × (t ≡ false)
+neither true t e = absurd (false≢true (sym e))
+neither false t e = (refl, e)
+
+-- two numbers are one, or not
+pub same-or-not : {P : Type 0} (a b : ℕ) → (a ≡ b → P) → (a ≢ b → P) → P
+same-or-not {P} a b p q = by (eqb a b) refl
+  where
+    by : (t : Bool) → eqb a b ≡ t → P
+    by true e = p (eqb-true a b e)
+    by false e = q (eqb-false a b e)

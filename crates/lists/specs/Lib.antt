@@ -1,2 +1,5 @@
 pub mod Choice
 pub mod Each
+pub mod Sums
+pub mod Tables
+pub mod Order

@@ -1,0 +1,36 @@
+-- What a row made, by the promise of its builder: the record of a row without fault, or the number of its fault. Assumes nothing.
+use mathlib.Core.Path.{_≡_, sym, ap, subst, _∙_}
+use mathlib.Core.Bool.{Bool, true, false, false≢true}
+use Prim.Native.Nat.{ℕ}
+use borrow.Author.Tests.{eq-eqb}
+use Rattle.holding.specs.Holding.{faultOf, holdingOf, numberOf, builtOf, InRange, Sound, Builds}
+use Rattle.holding.specs.declared.Row.{Row}
+use Rattle.holding.specs.declared.Holding.{Holding}
+use Rattle.holding.specs.declared.Built.{Built}
+use Rattle.holding.specs.declared.Built.the-variants.{Made, Refused}
+
+module _ {r : Row} {b : Built} (p : Builds r b) where
+  made-of-none : faultOf r ≡ 0 → b ≡ Made (holdingOf r)
+  unfolding builtOf
+  made-of-none e = p .built ∙ rw (eq-eqb (faultOf r) 0 e)
+
+  -- its record: it has no fault
+  pub made-row : {h : Holding} → b ≡ Made h → InRange h × (faultOf r ≡ 0) × (h ≡ holdingOf r)
+  made-row {h} e =
+      let kept : Sound r (Made h) = subst (Sound r) e (p .sound) in
+      let none : faultOf r ≡ 0 = sym (p .number) ∙ ap numberOf e in
+      (kept .ranges, none, ap holding (sym e ∙ made-of-none none))
+    where
+      holding : Built → Holding
+      holding (Made x) = x
+      holding (Refused n) = h
+
+  -- the number of its fault
+  pub refused-row : {n : ℕ} → b ≡ Refused n → (n ≡ faultOf r) × (n ≡ 0 → ⊥)
+  refused-row {n} e =
+      let number : n ≡ faultOf r = ap numberOf (sym e) ∙ p .number in
+      (number, λ z. false≢true (ap isMade (sym e ∙ made-of-none (sym number ∙ z))))
+    where
+      isMade : Built → Bool
+      isMade (Made h) = true
+      isMade (Refused m) = false

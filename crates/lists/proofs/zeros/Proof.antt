@@ -1,0 +1,12 @@
+-- `zeros` is 256 zeros. Assumes nothing.
+use mathlib.Core.Path.{refl}
+use Rattle.lists.specs.Tables.{zeros}
+use Rattle.lists.proofs.zeros.Statement.{statement}
+use Rattle.lists.proofs.zeros.Tie as tie
+
+returns : tie.Need-returns
+unfolding zeros
+returns c = refl
+
+pub zeros-spec : {M : Type 1} → statement M
+zeros-spec = tie.close (tie.spec returns)

@@ -1,0 +1,76 @@
+-- None of the refusals holds exactly when none of each sort does, wherever it may stand. Assumes nothing.
+use mathlib.Core.Path.{_≡_}
+use mathlib.Core.Bool.{Bool, false}
+use Prim.Native.Nat.{ℕ, _<_}
+use native.Mathlib.Omega.{arith}
+use lib.Dec.{ltb}
+use lib.ListN.{length, getD, take}
+use Rattle.lists.proofs.Firsts.{None, Numbered, none-append, append-none, none-in-turn, in-turn-none, numbered-append, numbered-in-turn}
+use Rattle.article.specs.Answer.{Answer}
+use Rattle.proposal.specs.Submission.{Submission, priced, noRow, noLine}
+use Rattle.proposal.specs.Outcome.{holdingFaults, lineFaults, atHolding, bookFaults, atLine, linesFaults, uncovered, atPair, atLong, gaps, totalsDiffer, totalsFaults, sizeFaults, fromPairs, fromLines, fromBook, faults}
+use Rattle.proposal.proofs.Places.{none-at, at-none, listed-at, holding-listed, line-listed}
+
+abbrev pub number : Answer → ℕ
+number a = a .number
+
+module _ (one two : Bool) (s : Submission) where
+  -- each test by itself
+  pub record Clear : Type 0 where
+    pub no-1 : one ≡ false
+    pub no-2 : two ≡ false
+    pub no-3 : ltb 256 (length (s .rows)) ≡ false
+    pub no-9 : ltb 512 (length (s .lines)) ≡ false
+    pub holdings : (k : ℕ) → k < length (s .rows) → None (holdingFaults (getD (s .rows) k noRow) (getD (s .prices) k 0))
+    pub lines : (k : ℕ) → k < length (s .lines) → None (lineFaults (priced s) (take k (s .lines)) (getD (s .lines) k noLine))
+    pub pairs : (i j : ℕ) → i < priced s .count → j < priced s .count → uncovered (priced s) i j ≡ false
+    pub totals : totalsDiffer (priced s) (s .lines) ≡ false
+
+  pub none-clear : None (faults one two s) → Clear
+  unfolding faults sizeFaults bookFaults atHolding linesFaults atLine gaps atLong atPair totalsFaults
+  none-clear h =
+      let (first, rest) = append-none (sizeFaults one two s) (fromBook s) h in
+      let (book, rest₁) = append-none (bookFaults (s .rows) (s .prices)) (fromLines s) rest in
+      let (lines, rest₂) = append-none (linesFaults (priced s) (s .lines)) (fromPairs s) rest₁ in
+      let (pairs, last) = append-none (gaps (priced s)) (totalsFaults (priced s) (s .lines)) rest₂ in
+      record {
+        no-1 = first .0;
+        no-3 = first .1 .0;
+        no-9 = first .1 .1 .0;
+        no-2 = first .1 .1 .1 .0;
+        holdings = λ k q. at-none k _ (in-turn-none (atHolding (s .rows) (s .prices)) _ book k q);
+        lines = λ k q. at-none k _ (in-turn-none (atLine (priced s) (s .lines)) _ lines k q);
+        pairs = λ i j p q. in-turn-none (atPair (priced s) i) _ (in-turn-none (atLong (priced s)) _ pairs i p) j q .0;
+        totals = last .0;
+      }
+
+  pub clear-none : Clear → None (faults one two s)
+  unfolding faults sizeFaults bookFaults atHolding linesFaults atLine gaps atLong atPair totalsFaults
+  clear-none c =
+      none-append (sizeFaults one two s) (fromBook s) (c .no-1, (c .no-3, (c .no-9, (c .no-2, tt))))
+      (none-append (bookFaults (s .rows) (s .prices)) (fromLines s) (none-in-turn (atHolding (s .rows) (s .prices)) _ (λ k q. none-at k _ (c .holdings k q)))
+      (none-append (linesFaults (priced s) (s .lines)) (fromPairs s) (none-in-turn (atLine (priced s) (s .lines)) _ (λ k q. none-at k _ (c .lines k q)))
+      (none-append (gaps (priced s)) (totalsFaults (priced s) (s .lines))
+      (none-in-turn (atLong (priced s)) _ (λ i p. none-in-turn (atPair (priced s) i) _ (λ j q. (c .pairs i j p q, tt))))
+      (c .totals, tt))))
+
+  -- every refusal has a number, from 1
+  pub book-numbered : Numbered number (bookFaults (s .rows) (s .prices))
+  unfolding bookFaults atHolding
+  book-numbered = numbered-in-turn number (atHolding (s .rows) (s .prices)) (λ k. listed-at k _ (holding-listed _ _)) _
+
+  pub lines-numbered : Numbered number (linesFaults (priced s) (s .lines))
+  unfolding linesFaults atLine
+  lines-numbered = numbered-in-turn number (atLine (priced s) (s .lines)) (λ k. listed-at k _ (line-listed _ _ _)) _
+
+  pub gaps-numbered : Numbered number (gaps (priced s))
+  unfolding gaps atLong atPair
+  gaps-numbered = numbered-in-turn number (atLong (priced s)) (λ i. numbered-in-turn number (atPair (priced s) i) (λ j. (omega arith, tt)) _) _
+
+  pub numbered : Numbered number (faults one two s)
+  unfolding faults sizeFaults totalsFaults
+  numbered =
+      numbered-append number (sizeFaults one two s) (fromBook s) (omega arith, (omega arith, (omega arith, (omega arith, tt))))
+      (numbered-append number (bookFaults (s .rows) (s .prices)) (fromLines s) book-numbered
+      (numbered-append number (linesFaults (priced s) (s .lines)) (fromPairs s) lines-numbered
+      (numbered-append number (gaps (priced s)) (totalsFaults (priced s) (s .lines)) gaps-numbered (omega arith, tt))))

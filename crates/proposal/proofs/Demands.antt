@@ -1,0 +1,114 @@
+-- The outcome keeps what document 01 demands of the check's answer. Assumes nothing.
+use mathlib.Core.Path.{_≡_, refl, ap}
+use mathlib.Core.Bool.{Bool, true, false, not, _&&_}
+use Prim.Native.Nat.{ℕ, _+_, _<_}
+use native.Mathlib.Omega.{arith}
+use lib.Dec.{ltb}
+use lib.ListN.{length}
+use borrow.Author.Tests.{ltb-false, le-ltb, eqb-true, eq-eqb, not-false}
+use Rattle.lists.proofs.Entries.{at-each}
+use Rattle.lists.proofs.Firsts.{none-first, first-of-none}
+use Rattle.article.specs.Answer.{Answer}
+use Rattle.article.specs.Pair.{legOf, allowed}
+use Rattle.article.specs.declared.pair.Leg.{Leg}
+use Rattle.pairing.specs.Pairing.{savingRate, AllowedPair, IsPairing, Covers, Least}
+use Rattle.pairing.proofs.Least.{least}
+use Rattle.proposal.specs.Submission.{Submission, PricedBook, termsOf, priced, noLine}
+use Rattle.proposal.specs.Figures.{unitsOf}
+use Rattle.proposal.specs.Outcome.{uncovered, totalsDiffer, faults, accepted, outcome}
+use Rattle.proposal.specs.Demands.{Limits, Acceptable, TermsOf, Demands}
+use Rattle.proposal.proofs.PricedBooks.{leg-at, value-at, fair}
+use Rattle.proposal.proofs.Clear.{Clear, none-clear, clear-none, numbered}
+use Rattle.proposal.proofs.Limits.{limits, ranges-none}
+use Rattle.proposal.proofs.KeepsArticle.{none-fits, fits-none, all-within, pair-may, may-pair, fitting-keeps, keeps-fitting}
+use Rattle.proposal.proofs.Figures.{units-sum, rounded}
+
+-- an allowed pair that is not uncovered is covered
+module _ (b : PricedBook) where
+  clear-covers : ((i j : ℕ) → i < b .count → j < b .count → uncovered b i j ≡ false) → Covers (termsOf b) (b .price)
+  unfolding uncovered termsOf
+  clear-covers h i j p q e =
+      let g : (true && ltb (b .price i + b .price j) (savingRate (termsOf b) i j)) ≡ false = rw e at (h i j p q) in
+      ltb-false _ _ g
+
+  covers-clear : Covers (termsOf b) (b .price) → (i j : ℕ) → i < b .count → j < b .count → uncovered b i j ≡ false
+  unfolding uncovered termsOf
+  covers-clear h i j p q = by (allowed (b .leg i) (b .leg j)) refl
+    where
+      by : (t : Bool) → allowed (b .leg i) (b .leg j) ≡ t → (t && ltb (b .price i + b .price j) (savingRate (termsOf b) i j)) ≡ false
+      by true e = le-ltb _ _ (h i j p q e)
+      by false e = refl
+
+module _ (s : Submission) where
+  -- acceptable lines are a pairing at 1
+  pub lines-pair : Acceptable s → IsPairing (termsOf (priced s)) 1 (s .lines)
+  lines-pair a =
+      let f = keeps-fitting s (a .limits) (a .article) in
+      record {
+        pairs = at-each (AllowedPair (termsOf (priced s))) noLine (s .lines) (λ i h. let g = f i h in unfold termsOf in record { long = g .first; short = g .second; pair = g .pair });
+        within = λ k h. unfold termsOf in omega (arith, all-within (priced s) (s .lines) f k);
+      }
+
+  units-least : Acceptable s → Least (termsOf (priced s)) (s .lines) (accepted (priced s) (s .lines) .first)
+  unfolding accepted
+  units-least a =
+      rw (← units-sum (priced s) (s .lines)) (least (termsOf (priced s)) (priced s .price) (s .lines) (fair (priced s)) (a .covered) (lines-pair a) (a .totals))
+
+  -- the terms are the article's
+  terms : Limits s → (i j : ℕ) → i < length (s .rows) → j < length (s .rows) → TermsOf s i j
+  unfolding termsOf legOf
+  terms l i j p q = record {
+    value = value-at s i;
+    rate = ap (λ (x : Leg). x .rate) (leg-at s i p);
+    allowed = (pair-may s l i j p q, may-pair s l i j p q);
+    pair-rate = rw (leg-at s i p, leg-at s j q);
+  }
+
+module _ (one two : Bool) (s : Submission) where
+  clear-acceptable : Clear one two s → Acceptable s
+  unfolding totalsDiffer
+  clear-acceptable c =
+      let l = limits one two s c in
+      record {
+        limits = l;
+        article = fitting-keeps s l (λ k h. none-fits _ _ _ (c .lines k h));
+        covered = clear-covers (priced s) (c .pairs);
+        totals = eqb-true _ _ (not-false _ (c .totals));
+      }
+
+  acceptable-clear : one ≡ false → two ≡ false → Acceptable s → Clear one two s
+  unfolding totalsDiffer
+  acceptable-clear p q a = record {
+    no-1 = p;
+    no-2 = q;
+    no-3 = le-ltb _ _ (a .limits .holdings);
+    no-9 = le-ltb _ _ (a .limits .lines);
+    holdings = λ k h. ranges-none _ _ (a .limits .ranges k h) (a .limits .prices k h);
+    lines = λ k h. fits-none _ _ _ (keeps-fitting s (a .limits) (a .article) k h);
+    pairs = covers-clear (priced s) (a .covered);
+    totals = ap not (eq-eqb _ _ (a .totals));
+  }
+
+  -- the number is 0 exactly when nothing is refused
+  zero-clear : outcome one two s .number ≡ 0 → Clear one two s
+  unfolding outcome
+  zero-clear e = none-clear one two s (none-first (λ (a : Answer). a .number) (faults one two s) _ (numbered one two s) e .0)
+
+  clear-accepted : Clear one two s → outcome one two s ≡ accepted (priced s) (s .lines)
+  unfolding outcome
+  clear-accepted c = first-of-none (faults one two s) _ (clear-none one two s c)
+
+  -- the figures of an outcome that is not a refusal
+  told : outcome one two s .number ≡ 0 → outcome one two s ≡ accepted (priced s) (s .lines)
+  told e = clear-accepted (zero-clear e)
+
+  pub demands : Demands s one two (outcome one two s)
+  demands = record {
+    exactly = (
+      (λ e. let c = zero-clear e in ((c .no-1, c .no-2), clear-acceptable c)),
+      (λ a. unfold accepted in ap (λ (x : Answer). x .number) (clear-accepted (acceptable-clear (a .0 .0) (a .0 .1) (a .1)))),
+    );
+    least = λ e. rw (told e) (units-least s (clear-acceptable (zero-clear e)));
+    terms = terms s;
+    rounding = λ e. rw (told e) (unfold accepted in rounded (unitsOf (priced s) (s .lines)));
+  }

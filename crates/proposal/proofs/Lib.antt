@@ -1,0 +1,10 @@
+pub mod Places
+pub mod PricedBooks
+pub mod Clear
+pub mod Limits
+pub mod KeepsArticle
+pub mod Figures
+pub mod Demands
+pub mod OneFigure
+pub mod Bounds
+pub mod Stages

@@ -1,0 +1,55 @@
+-- What the priced book of a submission has at a holding's number, and that the article's rates are fair. Assumes nothing.
+use mathlib.Core.Path.{_≡_}
+use Prim.Native.Nat.{ℕ, _<_}
+use lib.ListN.{length, getD, List·getD-map}
+use Rattle.lists.proofs.Tables.{length-to, getD-map-in}
+use Rattle.holding.specs.Holding.{InRange, holdingOf}
+use Rattle.holding.specs.declared.Row.{Row}
+use Rattle.holding.proofs.Ranges.{none-fault, kept}
+use Rattle.article.specs.Pair.{legOf, ruleOf, pairRate, RateInRange}
+use Rattle.article.proofs.PairRates.{rule-rate-le}
+use Rattle.article.proofs.Rates.{rate-high}
+use Rattle.pairing.specs.Pairing.{Fair}
+use Rattle.proposal.specs.Demands.{Limits}
+use Rattle.proposal.specs.Submission.{Submission, PricedBook, bookOf, termsOf, priced, noRow, noLeg, holdingAt, rowsOf, linesOf}
+use Rattle.proposal.specs.declared.Book.{Book}
+use Rattle.proposal.specs.declared.Proposal.{Proposal}
+
+module _ (s : Submission) where
+  -- the book has as many holdings as there are rows
+  pub in-book : (k : ℕ) → k < priced s .count → k < length (s .rows)
+  unfolding priced bookOf
+  in-book k h = h
+
+  pub book-in : (k : ℕ) → k < length (s .rows) → k < priced s .count
+  unfolding priced bookOf
+  book-in k h = h
+
+  pub holding-in-range : Limits s → (k : ℕ) → k < length (s .rows) → InRange (holdingAt s k)
+  unfolding holdingAt
+  holding-in-range l k h = kept _ (none-fault _ (l .ranges k h)) .ranges
+
+  pub leg-at : (k : ℕ) → k < length (s .rows) → priced s .leg k ≡ legOf (holdingAt s k)
+  unfolding priced bookOf holdingAt
+  leg-at k h = getD-map-in (λ (r : Row). legOf (holdingOf r)) (s .rows) k noRow noLeg h
+
+  pub value-at : (k : ℕ) → priced s .value k ≡ getD (s .rows) k noRow .value
+  unfolding priced bookOf
+  value-at k = List·getD-map (λ (r : Row). r .value) (s .rows) k noRow
+
+  pub rate-at : (k : ℕ) → k < length (s .rows) → RateInRange (priced s .leg k)
+  rate-at k h = rw (leg-at k h) (unfold legOf in rate-high (holdingAt s k))
+
+-- a pair's rate is no more than its two rates
+pub fair : (b : PricedBook) → Fair (termsOf b)
+unfolding termsOf pairRate
+fair b i j = rule-rate-le (ruleOf (b .leg i) (b .leg j)) (b .leg i .rate) (b .leg j .rate)
+
+-- a book and a proposal by value have as many holdings and lines as they say
+pub rows-count : (book : Book) → length (rowsOf book) ≡ book .count
+unfolding rowsOf
+rows-count book = length-to (book .count) _
+
+pub lines-count : (proposal : Proposal) → length (linesOf proposal) ≡ proposal .count
+unfolding linesOf
+lines-count proposal = length-to (proposal .count) _

@@ -1,0 +1,50 @@
+-- The outcome stage by stage, in the check's order: a stage that finds a fault decides, and one that finds none hands on. Assumes nothing.
+use mathlib.Core.Path.{_≡_, refl, sym, ap, _∙_}
+use mathlib.Core.Bool.{Bool, false}
+use mathlib.Core.List.{List, _++_}
+use Prim.Native.Nat.{_≤_, _<_}
+use lib.ListN.{length}
+use borrow.Author.Tests.{lt-ltb, le-ltb, eq-eqb, ne-eqb}
+use Rattle.lists.specs.Choice.{firstOf}
+use Rattle.lists.proofs.Firsts.{Numbered, first-append, none-first, first-told, skip-none}
+use Rattle.article.specs.Answer.{Answer, answer}
+use Rattle.pairing.specs.Pairing.{saving, pricedTotal}
+use Rattle.pairing.specs.declared.Line.{Line}
+use Rattle.proposal.specs.Submission.{Submission, PricedBook, termsOf, priced}
+use Rattle.proposal.specs.Outcome.{totalsDiffer, totalsFaults, sizeFaults, fromBook, faults, firstFault, accepted, outcome}
+use Rattle.proposal.proofs.Clear.{number}
+
+-- what a stage found of its refusals, with those that follow it
+module _ (o : Answer) (stage rest : List (Bool × Answer)) (z : Answer) (so : o ≡ firstOf (stage ++ rest) z) (f : Answer) (found : f ≡ firstFault stage) where
+  pub refuses : (f .number ≡ 0 → ⊥) → o ≡ f
+  refuses h =
+      so ∙ first-append stage rest z ∙ first-told number stage (answer 0 0 0) (firstOf rest z) refl (λ e. h (ap number found ∙ e)) ∙ sym found
+
+  pub passes : Numbered number stage → f .number ≡ 0 → o ≡ firstOf rest z
+  passes n e = so ∙ skip-none stage rest z (none-first number stage (answer 0 0 0) n (sym (ap number found) ∙ e) .0)
+
+module _ (one two : Bool) (s : Submission) where
+  -- 3: more than 256 holdings
+  pub many-holdings : one ≡ false → 256 < length (s .rows) → outcome one two s ≡ answer 3 0 0
+  unfolding outcome faults sizeFaults firstOf
+  many-holdings p h = rw (p, lt-ltb _ _ h)
+
+  -- 9: more than 512 lines
+  pub many-lines : one ≡ false → length (s .rows) ≤ 256 → 512 < length (s .lines) → outcome one two s ≡ answer 9 0 0
+  unfolding outcome faults sizeFaults firstOf
+  many-lines p h m = rw (p, le-ltb _ _ h, lt-ltb _ _ m)
+
+  -- then holdings, lines, pairs and totals
+  pub from-holdings : one ≡ false → two ≡ false → length (s .rows) ≤ 256 → length (s .lines) ≤ 512 → outcome one two s ≡ firstOf (fromBook s) (accepted (priced s) (s .lines))
+  unfolding outcome faults sizeFaults firstOf
+  from-holdings p q h m = rw (p, le-ltb _ _ h, le-ltb _ _ m, q)
+
+-- 17 at the end
+module _ (b : PricedBook) (lines : List Line) (o z : Answer) (so : o ≡ firstOf (totalsFaults b lines) z) where
+  pub totals-differ : (pricedTotal (termsOf b) (b .price) ≡ saving (termsOf b) lines → ⊥) → o ≡ answer 17 0 0
+  unfolding firstOf totalsFaults totalsDiffer
+  totals-differ h = so ∙ rw (ne-eqb _ _ h)
+
+  pub totals-equal : pricedTotal (termsOf b) (b .price) ≡ saving (termsOf b) lines → o ≡ z
+  unfolding firstOf totalsFaults totalsDiffer
+  totals-equal e = so ∙ rw (eq-eqb _ _ e)

@@ -1,0 +1,62 @@
+-- THE PAGE TO READ FIRST: what document 01 demands of the check's answer, in its own words, over the definitions beside it.
+-- `demands` of proofs/Demands.antt proves it of the outcome. Assumes nothing.
+use mathlib.Core.Path.{_≡_}
+use mathlib.Core.Bool.{Bool, true, false}
+use mathlib.Core.Logic.{_↔_}
+use Prim.Native.Nat.{ℕ, _≤_, _<_}
+use lib.ListN.{length, getD}
+use Rattle.lists.specs.Each.{Each}
+use Rattle.holding.specs.Holding.{Ranges}
+use Rattle.article.specs.Answer.{Answer}
+use Rattle.article.specs.Rate.{rateOf}
+use Rattle.article.specs.Pair.{legOf, pairRate}
+use Rattle.article.specs.Article.{MayPair}
+use Rattle.pairing.specs.Pairing.{used, saving, Covers, pricedTotal, Least}
+use Rattle.pairing.specs.declared.Line.{Line}
+use Rattle.proposal.specs.Submission.{Submission, termsOf, priced, noRow, holdingAt}
+use Rattle.proposal.specs.Figures.{RoundedUp}
+
+module _ (s : Submission) where
+  -- the limits: none of 3 to 10 holds
+  pub record Limits : Type 0 where
+    pub holdings : length (s .rows) ≤ 256
+    pub lines : length (s .lines) ≤ 512
+    pub ranges : (k : ℕ) → k < length (s .rows) → Ranges (getD (s .rows) k noRow)
+    pub prices : (k : ℕ) → k < length (s .rows) → getD (s .prices) k 0 ≤ 43800
+
+  -- a line names a long of the book first and a short second, their pair is allowed, the amount is 1 cent or more
+  pub record KeepsLine (l : Line) : Type 0 where
+    pub long : l .long < length (s .rows)
+    pub short : l .short < length (s .rows)
+    pub pair : MayPair (holdingAt s (l .long)) (holdingAt s (l .short))
+    pub amount : 1 ≤ l .amount
+
+  -- every line does, and no holding's amounts over all lines add up to more than its value
+  pub record KeepsArticle : Type 0 where
+    pub lines : Each KeepsLine (s .lines)
+    pub within : (k : ℕ) → k < length (s .rows) → used (s .lines) k ≤ getD (s .rows) k noRow .value
+
+  -- accepted: covered, and the totals equal, in a proposal that is within the limits and keeps the article
+  pub record Acceptable : Type 0 where
+    pub limits : Limits
+    pub article : KeepsArticle
+    pub covered : Covers (termsOf (priced s)) (priced s .price)
+    pub totals : pricedTotal (termsOf (priced s)) (priced s .price) ≡ saving (termsOf (priced s)) (s .lines)
+
+  -- the terms of two holdings: each one's value and rate, whether they may be paired, and the pair's rate
+  pub record TermsOf (i j : ℕ) : Type 0 where
+    pub value : termsOf (priced s) .value i ≡ getD (s .rows) i noRow .value
+    pub rate : termsOf (priced s) .rate i ≡ rateOf (holdingAt s i)
+    pub allowed : (termsOf (priced s) .allowed i j ≡ true) ↔ MayPair (holdingAt s i) (holdingAt s j)
+    pub pair-rate : termsOf (priced s) .pairRate i j ≡ pairRate (legOf (holdingAt s i)) (legOf (holdingAt s j))
+
+  -- what an answer keeps; `one` and `two` say whether refusals 1 and 2 hold of what is lent
+  pub record Demands (one two : Bool) (a : Answer) : Type 0 where
+    -- a proposal is accepted exactly when lengths, limits, article, cover and equal totals hold
+    pub exactly : (a .number ≡ 0) ↔ (((one ≡ false) × (two ≡ false)) × Acceptable)
+    -- accepted units are the least: the lines are a pairing at 1, its sum is those units, and no pairing at any N is cheaper
+    pub least : a .number ≡ 0 → Least (termsOf (priced s)) (s .lines) (a .first)
+    -- accepted cents are the units rounded up once
+    pub rounding : a .number ≡ 0 → RoundedUp (a .first) (a .second)
+    -- the terms that all this speaks of are the article's
+    pub terms : Limits → (i j : ℕ) → i < length (s .rows) → j < length (s .rows) → TermsOf i j

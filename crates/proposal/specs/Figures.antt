@@ -1,0 +1,46 @@
+-- Document 01, "A proposal and its check": the figures of an accepted proposal. Assumes nothing.
+use mathlib.Core.List.{List}
+use Prim.Native.Nat.{ℕ, _+_, _-_, _*_, _/_, _≤_}
+use Rattle.lists.specs.Sums.{sumTo}
+use Rattle.lists.specs.Tables.{listTo}
+use Rattle.pairing.specs.Pairing.{used, pairUnits}
+use Rattle.pairing.specs.declared.Line.{Line}
+use Rattle.ranking.specs.Ranking.{rankingOf}
+use Rattle.proposal.specs.Submission.{PricedBook, termsOf}
+
+-- the most that one holding's margin can be, and the most that one line can save or one holding's price times value be
+abbrev pub marginLimit : ℕ
+marginLimit = 21900 * 100000000000
+
+abbrev pub savingLimit : ℕ
+savingLimit = 43800 * 100000000000
+
+module _ (b : PricedBook) (lines : List Line) where
+  -- a holding's remainder is its value less its amounts over all lines
+  unfoldable pub remainder : ℕ → ℕ
+  remainder k = b .value k - used lines k
+
+  -- the margin of the remainder
+  unfoldable pub margin : ℕ → ℕ
+  margin k = b .leg k .rate * remainder k
+
+  -- total units: pair rate times amount over the lines, plus rate times remainder over the holdings
+  unfoldable pub unitsOf : ℕ
+  unitsOf = pairUnits (termsOf b) lines + sumTo (b .count) margin
+
+  -- each holding's remainder
+  unfoldable pub remaindersOf : List ℕ
+  remaindersOf = listTo (b .count) remainder
+
+  -- the ranking: holding numbers by margin of the remainder, largest first, ties by lower number
+  unfoldable pub ranked : List ℕ
+  ranked = rankingOf margin (b .count)
+
+-- total cents, rounded up once
+unfoldable pub centsOf : ℕ → ℕ
+centsOf units = (units + 145999) / 146000
+
+-- the smallest whole number that is, times 146,000, at least the units
+pub record RoundedUp (units cents : ℕ) : Type 0 where
+  pub enough : units ≤ cents * 146000
+  pub smallest : (other : ℕ) → units ≤ other * 146000 → cents ≤ other

@@ -1,0 +1,4 @@
+pub mod Submission
+pub mod Figures
+pub mod Outcome
+pub mod Demands

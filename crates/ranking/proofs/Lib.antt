@@ -1,0 +1,4 @@
+pub mod Before
+pub mod Place
+pub mod Placing
+pub mod Ranking

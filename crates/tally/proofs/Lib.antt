@@ -1,0 +1,4 @@
+pub mod OneLine
+pub mod AfterLine
+pub mod Tallies
+pub mod Walk

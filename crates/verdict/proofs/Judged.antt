@@ -1,0 +1,77 @@
+-- From an outcome to what the check promises: of a refusal, and of the figures. Assumes nothing.
+use mathlib.Core.Path.{_≡_, sym, ap, _∙_}
+use mathlib.Core.Bool.{false}
+use mathlib.Core.List.{List}
+use Prim.Native.Nat.{ℕ, _≤_}
+use native.Mathlib.Omega.{arith}
+use lib.ListN.{getD, List·getD-eq-default}
+use borrow.Author.Tests.{ne-eqb}
+use Rattle.lists.specs.Tables.{listTo, front, zeros}
+use Rattle.lists.proofs.Tables.{length-to, getD-every, front-of-zeros}
+use Rattle.article.specs.Answer.{Answer, answer}
+use Rattle.holding.specs.declared.Row.{Row}
+use Rattle.ranking.specs.Ranking.{Ranks}
+use Rattle.ranking.proofs.Ranking.{ranking}
+use Rattle.proposal.specs.Submission.{Submission, bookOf, priced, noRow}
+use Rattle.proposal.specs.Figures.{remainder, margin, unitsOf, remaindersOf, ranked, centsOf, RoundedUp}
+use Rattle.proposal.specs.Outcome.{answerOf, accepted, outcome}
+use Rattle.proposal.specs.declared.Fault.{Fault}
+use Rattle.proposal.proofs.Demands.{demands}
+use Rattle.proposal.proofs.Figures.{rounded, rounded-once}
+use Rattle.proposal.proofs.PricedBooks.{value-at}
+use Rattle.verdict.specs.Judges.{verdictOf, written, refusalOf, Judges}
+use Rattle.verdict.specs.declared.Verdict.the-variants.{Accepted}
+
+module _ (s : Submission) where
+  nothing-written : (xs : List ℕ) → (outcome false false s .number ≡ 0 → ⊥) → zeros 256 ≡ front (written (outcome false false s) xs) (zeros 256)
+  unfolding written front
+  nothing-written xs h = rw (ne-eqb _ _ h)
+
+  all-ranked : Ranks (margin (priced s) (s .lines)) (priced s .count) (ranked (priced s) (s .lines))
+  unfolding ranked
+  all-ranked = ranking (margin (priced s) (s .lines)) (priced s .count) .ranks
+
+  pub refusal-judged : (f : Fault) → (f .number ≡ 0 → ⊥) → outcome false false s ≡ answerOf f → Judges s (refusalOf f)
+  unfolding refusalOf answerOf verdictOf
+  refusal-judged f h e =
+      let refused : outcome false false s .number ≡ 0 → ⊥ = λ z. h (sym (ap (λ (a : Answer). a .number) e) ∙ z) in
+      record {
+        answer = sym e;
+        verdict = rw (e, ne-eqb (f .number) 0 h);
+        remainders = nothing-written _ refused;
+        ranking = nothing-written _ refused;
+        ranks = all-ranked;
+        demands = rw (← e) (demands false false s);
+      }
+
+  -- past the book nothing remains
+  pub nothing-past : (k : ℕ) → priced s .count ≤ k → remainder (priced s) (s .lines) k ≡ 0
+  unfolding remainder priced bookOf
+  nothing-past k h =
+      let none : getD (s .rows) k noRow .value ≡ 0 = ap (λ (r : Row). r .value) (List·getD-eq-default (s .rows) noRow {n = k} h) in
+      omega (arith, value-at s k, none)
+
+  -- the remainders of 256 numbers are those of the book, at the front of zeros
+  all-remainders : priced s .count ≤ 256 → listTo 256 (remainder (priced s) (s .lines)) ≡ front (remaindersOf (priced s) (s .lines)) (zeros 256)
+  unfolding remaindersOf
+  all-remainders h =
+      let n = priced s .count in
+      let f = remainder (priced s) (s .lines) in
+      front-of-zeros 256 (listTo n f) (listTo 256 f) (length-to 256 f) (rw (length-to n f) h)
+      (λ k. getD-every 256 f 0 (λ j q. nothing-past j (omega arith)) k ∙ sym (getD-every n f 0 nothing-past k))
+
+  pub figures-judged : (units cents : ℕ) (left ranking : List ℕ) → priced s .count ≤ 256 → outcome false false s ≡ accepted (priced s) (s .lines)
+      → units ≡ unitsOf (priced s) (s .lines) → RoundedUp units cents → left ≡ listTo 256 (remainder (priced s) (s .lines))
+      → ranking ≡ front (ranked (priced s) (s .lines)) (zeros 256)
+      → Judges s (record { verdict = Accepted units cents; remainders = left; ranking = ranking })
+  unfolding accepted written verdictOf
+  figures-judged units cents left ranking few e u c l r =
+      let told : answer 0 units cents ≡ outcome false false s = rw (rounded-once units cents (centsOf units) c (rounded units), u) (sym e) in
+      record {
+        answer = told;
+        verdict = rw (← told);
+        remainders = rw e (l ∙ all-remainders few);
+        ranking = rw e r;
+        ranks = all-ranked;
+        demands = rw told (demands false false s);
+      }
