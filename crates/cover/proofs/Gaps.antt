@@ -12,8 +12,8 @@ use Rattle.article.proofs.Told.{told-refused, told-allowed}
 use Rattle.article.specs.declared.pair.Leg.{Leg}
 use Rattle.article.specs.declared.pair.Pair.{Pair}
 use Rattle.article.specs.declared.pair.Pair.the-variants.{Allowed, NotAllowed}
-use Rattle.pairing.specs.Pairing as pairing
-use Rattle.proposal.specs.Submission.{termsOf, noLeg}
+use Rattle.proposal.proofs.PricedBooks.{saving-rate}
+use Rattle.proposal.specs.Submission.{noLeg}
 use Rattle.proposal.specs.Outcome.{uncovered, atPair, atLong, gaps}
 use Rattle.positions.specs.Positions.{heldBook}
 use Rattle.positions.specs.declared.Positions.{Positions}
@@ -33,16 +33,16 @@ module _ (p : Positions) where
     not-allowed-none e = (rw (told-refused q e), tt)
 
     pub covered-none : {rate saving : ℕ} → r ≡ Allowed rate saving → saving ≤ price i + price j → None (atPair (heldBook p) i j)
-    unfolding atPair uncovered heldBook termsOf pairing.savingRate article.savingRate
+    unfolding atPair uncovered heldBook
     covered-none e h =
         let told = told-allowed q e in
-        (rw (told .may, ← told .saving-rate) (le-ltb _ _ h), tt)
+        (rw (told .may, saving-rate (heldBook p) i j, ← told .saving-rate) (le-ltb _ _ h), tt)
 
     pub gap-holds : {rate saving : ℕ} → r ≡ Allowed rate saving → price i + price j < saving → uncovered (heldBook p) i j ≡ true
-    unfolding atPair uncovered heldBook termsOf pairing.savingRate article.savingRate
+    unfolding atPair uncovered heldBook
     gap-holds e h =
         let told = told-allowed q e in
-        rw (told .may, ← told .saving-rate) (lt-ltb _ _ h)
+        rw (told .may, saving-rate (heldBook p) i j, ← told .saving-rate) (lt-ltb _ _ h)
 
   -- the lower longs are passed, and at i the lower shorts
   pub first-gap : {i j : ℕ} → Passed (p .count) (atLong (heldBook p)) i → i < p .count → Passed (p .count) (atPair (heldBook p) i) j → j < p .count

@@ -11,6 +11,7 @@ ghost use Rattle.tally.specs.Tally.{Bounded};
 ghost use Rattle.positions.specs.Positions.{heldBook, InBounds};
 ghost use Rattle.figures.specs.Totals.{leftMargin, Totals};
 
+// Total units, total cents, and the ranking at the front of zeros.
 pub struct Figures {
     pub units: u64,
     pub cents: u64,

@@ -1,13 +1,12 @@
 -- Laws of a list given by index, and of a list at the front of zeros. Assumes nothing.
 use mathlib.Core.Path.{_≡_, refl, sym, _∙_}
 use mathlib.Core.Logic.{⊎-elim}
-use mathlib.Core.List.{List, [], _∷_, _++_, map, append-nil}
+use mathlib.Core.List.{List, [], _∷_, _++_, map}
 use Prim.Native.Nat.{ℕ, zero, suc, _+_, _≤_, _<_}
 use native.Mathlib.Nat.{eq-or-lt-of-le}
-use native.Mathlib.Numerals.{add-one}
 use native.Mathlib.Omega.{arith}
-use lib.ListN.{length, getD, take, drop, set, replicate, length-append, length-replicate, length-drop, drop-of-length-le, List·getD-append, List·getD-eq-default}
-use lib.Seq.{getD-at, set-at, drop-cons, append-snoc, take-append-le, take-all, ext-getD, getD-drop}
+use lib.ListN.{length, getD, take, drop, replicate, length-append, length-replicate, length-drop, List·getD-append, List·getD-eq-default}
+use lib.Seq.{getD-at, take-append-le, take-all, ext-getD, getD-drop}
 use Rattle.lists.specs.Tables.{listTo, front, zeros}
 use Rattle.lists.proofs.Tests.{by-end}
 
@@ -106,16 +105,3 @@ length-front m xs h =
 pub front-of-zeros : (m : ℕ) (xs ys : List ℕ) → length ys ≡ m → length xs ≤ m → ((k : ℕ) → getD ys k 0 ≡ getD xs k 0) → ys ≡ front xs (zeros m)
 front-of-zeros m xs ys l h e =
     ext-getD 0 ys (front xs (zeros m)) (l ∙ sym (length-front m xs h)) (λ k q. e k ∙ sym (getD-front m xs k))
-
--- writing a list from the front, entry by entry
-module _ {A : Type 0} (old : List A) where
-  pub front-more : (n : ℕ) (f : ℕ → A) → n < length old → set (front (listTo n f) old) n (f n) ≡ front (listTo (n + 1) f) old
-  unfolding front listTo
-  front-more n f h =
-      rw (add-one, length-to n f, length-to (suc n) f, drop-cons old n (f n) h, set-at (listTo n f) (getD old n (f n)) (drop (suc n) old) (f n) n (length-to n f))
-      (sym (append-snoc (listTo n f) (f n) (drop (suc n) old)))
-
-  -- to its end
-  pub front-all : (xs : List A) → length old ≤ length xs → front xs old ≡ xs
-  unfolding front
-  front-all xs h = rw (drop-of-length-le old h) (append-nil xs)

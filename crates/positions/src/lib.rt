@@ -24,6 +24,7 @@ pub struct Opened {
     pub positions: Positions,
 }
 
+// No leg at any number.
 fn no_legs() -> [Leg; 256]
     ensures { λ r. ⌜ r ≡ replicate 256 noLeg ⌝ }
 {

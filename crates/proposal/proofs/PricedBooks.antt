@@ -1,5 +1,5 @@
--- What the priced book of a submission has at a holding's number, and that the article's rates are fair. Assumes nothing.
-use mathlib.Core.Path.{_≡_}
+-- What the priced book of a submission has at a holding's number, and that its terms are the article's, which are fair. Assumes nothing.
+use mathlib.Core.Path.{_≡_, refl}
 use Prim.Native.Nat.{ℕ, _<_}
 use lib.ListN.{length, getD, List·getD-map}
 use Rattle.lists.proofs.Tables.{length-to, getD-map-in}
@@ -9,7 +9,8 @@ use Rattle.holding.proofs.Ranges.{none-fault, kept}
 use Rattle.article.specs.Pair.{legOf, ruleOf, pairRate, RateInRange}
 use Rattle.article.proofs.PairRates.{rule-rate-le}
 use Rattle.article.proofs.Rates.{rate-high}
-use Rattle.pairing.specs.Pairing.{Fair}
+use Rattle.article.specs.Pair as article
+use Rattle.pairing.specs.Pairing.{savingRate, Fair}
 use Rattle.proposal.specs.Demands.{Limits}
 use Rattle.proposal.specs.Submission.{Submission, PricedBook, bookOf, termsOf, priced, noRow, noLeg, holdingAt, rowsOf, linesOf}
 use Rattle.proposal.specs.declared.Book.{Book}
@@ -44,6 +45,11 @@ module _ (s : Submission) where
 pub fair : (b : PricedBook) → Fair (termsOf b)
 unfolding termsOf pairRate
 fair b i j = rule-rate-le (ruleOf (b .leg i) (b .leg j)) (b .leg i .rate) (b .leg j .rate)
+
+-- the saving rate of two holdings is that of their legs
+pub saving-rate : (b : PricedBook) (i j : ℕ) → savingRate (termsOf b) i j ≡ article.savingRate (b .leg i) (b .leg j)
+unfolding savingRate article.savingRate termsOf
+saving-rate b i j = refl
 
 -- a book and a proposal by value have as many holdings and lines as they say
 pub rows-count : (book : Book) → length (rowsOf book) ≡ book .count

@@ -1,5 +1,5 @@
 -- Laws of the tally of some lines: of none, of one line more, and what it has left of each holding. Assumes nothing.
-use mathlib.Core.Path.{_≡_, sym, _∙_}
+use mathlib.Core.Path.{_≡_, sym, ap, _∙_}
 use mathlib.Core.List.{List, [], _∷_, _++_}
 use Prim.Native.Nat.{ℕ, _+_, _-_, _*_, _≤_, _<_}
 use native.Mathlib.Nat.{le-trans, sub-le}
@@ -15,6 +15,7 @@ use Rattle.article.specs.Pair.{pairRate, savingRate}
 use Rattle.pairing.specs.Pairing as pairing
 use Rattle.pairing.specs.declared.Line.{Line}
 use Rattle.pairing.proofs.Used.{used-append}
+use Rattle.proposal.proofs.PricedBooks.{saving-rate}
 use Rattle.proposal.specs.Submission.{PricedBook, termsOf}
 use Rattle.proposal.specs.Figures.{remainder}
 use Rattle.tally.specs.Tally.{tallyOf, taken}
@@ -43,11 +44,11 @@ module _ (b : PricedBook) where
 
   -- one line more off the tally of those before it
   pub one-more : (lines : List Line) (l : Line) → taken (tallyOf b lines) l (b .leg (l .long)) (b .leg (l .short)) ≡ tallyOf b (lines ++ (l ∷ []))
-  unfolding tallyOf taken remainder termsOf savingRate pairing.savingRate pairing.pairUnits pairing.saving
+  unfolding tallyOf taken remainder termsOf pairing.pairUnits pairing.saving
   one-more lines l = λ i. record {
     left = to-eq 256 _ _ lefts i;
     units = sumOf-more lines l (λ x. pairRate (b .leg (x .long)) (b .leg (x .short)) * x .amount) i;
-    saving = sumOf-more lines l (λ x. savingRate (b .leg (x .long)) (b .leg (x .short)) * x .amount) i;
+    saving = (ap (λ (r : ℕ). pairing.saving (termsOf b) lines + r * l .amount) (sym (saving-rate b (l .long) (l .short))) ∙ sumOf-more lines l (λ x. pairing.savingRate (termsOf b) (x .long) (x .short) * x .amount)) i;
   }
     where
       lefts : (k : ℕ) → k < 256 → getD (listTo 256 (remainder b lines)) k 0 - pairing.used (l ∷ []) k ≡ remainder b (lines ++ (l ∷ [])) k

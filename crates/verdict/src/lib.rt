@@ -6,6 +6,7 @@ ghost use mathlib.Core.Path.{_≡_};
 ghost use Rattle.proposal.specs.Submission.{submitted};
 ghost use Rattle.verdict.specs.Judges.{whole, refusalOf, Judges};
 
+// Accepted with its figures, or refused with number and places.
 pub enum Verdict {
     Accepted {
         units: u64,
@@ -25,6 +26,7 @@ pub struct Judgement {
     pub ranking: [u64; 256],
 }
 
+// A refusal, with nothing in either list.
 fn refused(fault: Fault) -> Judgement
     ensures { λ r. ⌜ r ≡ refusalOf fault ⌝ }
 {

@@ -1,27 +1,18 @@
--- `margins` is the margin of what is left of each holding: before each turn the first i stand at the front of zeros. Assumes nothing.
-use mathlib.Core.Path.{_≡_, ap, _∙_}
-use mathlib.Core.List.{List}
-use Prim.Native.Nat.{ℕ, _+_, _-_, _≤_, _<_}
-use native.Mathlib.Nat.{le-refl, mul-le-mul}
+-- `margins` is the margin of what is left of each holding: before each turn the first i are filled. Assumes nothing.
+use mathlib.Core.Path.{_≡_, refl}
+use Prim.Native.Nat.{_-_, _≤_}
+use native.Mathlib.Nat.{mul-le-mul}
 use native.Mathlib.Omega.{arith}
 use borrow.Author.Needs.{needs}
-use lib.ListN.{set}
-use Rattle.lists.specs.Tables.{listTo, front, zeros}
-use Rattle.lists.proofs.Tables.{length-to, length-zeros, front-more, front-all}
+use Rattle.lists.specs.Tables.{zeros}
+use Rattle.lists.proofs.Filled.{Filled, filled-none, filled-more, filled-whole}
 use Rattle.positions.specs.Positions.{heldBook}
 use Rattle.figures.specs.Totals.{leftMargin}
 use Rattle.figures.proofs.margins.Statement.{statement}
 use Rattle.figures.proofs.margins.Tie as tie
 
--- one margin more, and all
-next : (f : ℕ → ℕ) (i : ℕ) (ms : List ℕ) → i < 256 → ms ≡ front (listTo i f) (zeros 256) → set ms i (f i) ≡ front (listTo (i + 1) f) (zeros 256)
-next f i ms h e = ap (λ (xs : List ℕ). set xs i (f i)) e ∙ front-more (zeros 256) i f (rw (length-zeros 256) h)
-
-all : (f : ℕ → ℕ) (i : ℕ) (ms : List ℕ) → i ≡ 256 → ms ≡ front (listTo i f) (zeros 256) → ms ≡ listTo 256 f
-all f i ms h e = e ∙ front-all (zeros 256) (listTo i f) (rw (length-zeros 256, length-to i f, h) (le-refl 256)) ∙ ap (λ (n : ℕ). listTo n f) h
-
 abbrev Inv-loop : tie.InvT-loop
-Inv-loop positions tally margins₀ i₀ margins i = (i ≤ 256) × (margins ≡ front (listTo i (leftMargin (heldBook positions) tally)) (zeros 256))
+Inv-loop positions tally margins₀ i₀ margins i = (i ≤ 256) × Filled 0 (leftMargin (heldBook positions) tally) i margins
 
 abbrev μ-loop : tie.MeasureT-loop
 μ-loop positions tally margins₀ i₀ margins i = 256 - i
@@ -30,8 +21,8 @@ zeros-requires : tie.Need-zeros-requires Inv-loop μ-loop
 zeros-requires c κs = search needs
 
 loop-holds : tie.Need-loop-holds Inv-loop μ-loop
-unfolding front listTo
-loop-holds c = (search needs, c .zeros .ensures)
+unfolding zeros
+loop-holds c = (search needs, rw (c .zeros .ensures) (filled-none 0 _))
 
 mul-leg : tie.Need-mul-leg Inv-loop μ-loop
 mul-leg c = search needs
@@ -69,12 +60,12 @@ unfolding leftMargin heldBook
 loop-again c =
     let at = c .before .before .before .before in
     let start = at .before .before in
-    (search needs, next (leftMargin (heldBook (start .args .t1)) (start .args .t2)) (at .loop .i) (at .loop .margins) (omega arith) (at .loop .inv .1))
+    (search needs, filled-more 0 (leftMargin (heldBook (start .args .t1)) (start .args .t2)) _ _ _ (omega arith) refl (at .loop .inv .1))
 
 returns : tie.Need-returns Inv-loop μ-loop
 returns c =
-    let start = c .before .before .before in
-    all (leftMargin (heldBook (start .args .t1)) (start .args .t2)) (c .before .loop .i) (c .before .loop .margins) (omega arith) (c .before .loop .inv .1)
+    let end : c .before .loop .i ≡ 256 = omega arith in
+    filled-whole 0 _ _ (rw end at (c .before .loop .inv .1))
 
 pub margins-spec : {M : Type 1} → statement M
 margins-spec =
