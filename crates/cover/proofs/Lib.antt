@@ -1,2 +1,4 @@
 pub mod Gaps
+pub mod Noted
+pub mod RepeatsCovered
 pub mod Totals

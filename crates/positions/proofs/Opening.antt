@@ -66,14 +66,14 @@ module _ (book : Book) (price : List ℕ) where
     -- no holding before it has a fault
     pub passed : Passed (book .count) faultsAt i
     -- of each before it the leg, the value and the price are laid
-    pub legs : Filled noLeg (λ k. legOf (holdingOf (row book k))) i ls
-    pub values : Filled 0 (λ k. row book k .value) i vs
-    pub prices : Filled 0 (λ k. getD price k 0) i ps
+    pub legs : Filled 256 noLeg (λ k. legOf (holdingOf (row book k))) i ls
+    pub values : Filled 256 0 (λ k. row book k .value) i vs
+    pub prices : Filled 256 0 (λ k. getD price k 0) i ps
 
 module _ {book : Book} {price : List ℕ} {ls : List Leg} {vs ps : List ℕ} where
   pub opening-start : ls ≡ replicate 256 noLeg → vs ≡ zeros 256 → ps ≡ zeros 256 → Opening book price ls vs ps 0
   unfolding zeros
-  opening-start el ev ep = rw (el, ev, ep) (record { passed = passed-none; legs = filled-none noLeg _; values = filled-none 0 _; prices = filled-none 0 _ })
+  opening-start el ev ep = rw (el, ev, ep) (record { passed = passed-none; legs = filled-none 256 noLeg _; values = filled-none 256 0 _; prices = filled-none 256 0 _ })
 
   module _ {i : ℕ} (o : Opening book price ls vs ps i) where
     -- a row without fault and a price within its limit: its leg, value and price are laid
@@ -84,9 +84,9 @@ module _ {book : Book} {price : List ℕ} {ls : List Leg} {vs ps : List ℕ} whe
         let room : i < 256 = omega arith in
         record {
           passed = passed-more (o .passed) h (none-at i _ (ranges-none _ _ (fault-none _ e) m));
-          legs = filled-more noLeg _ i ls _ room el (o .legs);
-          values = filled-more 0 _ i vs _ room ev (o .values);
-          prices = filled-more 0 _ i ps _ room ep (o .prices);
+          legs = filled-more 256 noLeg _ i ls _ room el (o .legs);
+          values = filled-more 256 0 _ i vs _ room ev (o .values);
+          prices = filled-more 256 0 _ i ps _ room ep (o .prices);
         }
 
     -- the faults that are passed, as the definition reads them
@@ -121,9 +121,9 @@ module _ {book : Book} {price : List ℕ} {ls : List Leg} {vs ps : List ℕ} whe
         let whole = opening-end h in
         λ j. record {
           count = sym (rows-count book) j;
-          leg = λ k. (filled-as noLeg _ (book .count) ls (whole .legs) k ∙ ap (λ (l : List Leg). getD l k noLeg) (sym (map-to (λ r. legOf (holdingOf r)) (book .count) (row book)))) j;
-          value = λ k. (filled-as 0 _ (book .count) vs (whole .values) k ∙ ap (λ (l : List ℕ). getD l k 0) (sym (map-to (λ r. r .value) (book .count) (row book)))) j;
-          price = λ k. filled-as 0 _ (book .count) ps (whole .prices) k j;
+          leg = λ k. (filled-as 256 noLeg _ (book .count) ls (whole .legs) k ∙ ap (λ (l : List Leg). getD l k noLeg) (sym (map-to (λ r. legOf (holdingOf r)) (book .count) (row book)))) j;
+          value = λ k. (filled-as 256 0 _ (book .count) vs (whole .values) k ∙ ap (λ (l : List ℕ). getD l k 0) (sym (map-to (λ r. r .value) (book .count) (row book)))) j;
+          price = λ k. filled-as 256 0 _ (book .count) ps (whole .prices) k j;
         }
 
     in-ranges : (k : ℕ) → k < i → Ranges (row book k) × (getD price k 0 ≤ 43800)
@@ -133,9 +133,9 @@ module _ {book : Book} {price : List ℕ} {ls : List Leg} {vs ps : List ℕ} whe
     unfolding legOf
     laid-in-bounds few = record {
       count = few;
-      rate = filled-all noLeg _ RateInRange i ls (o .legs) (λ k h. rate-high _) (omega arith);
-      value = filled-all 0 _ (_≤ 100000000000) i vs (o .values) (λ k h. in-ranges k h .0 .value-high) (omega arith);
-      price = filled-all 0 _ (_≤ 43800) i ps (o .prices) (λ k h. in-ranges k h .1) (omega arith);
+      rate = filled-all 256 noLeg _ RateInRange i ls (o .legs) (λ k h. rate-high _) (omega arith);
+      value = filled-all 256 0 _ (_≤ 100000000000) i vs (o .values) (λ k h. in-ranges k h .0 .value-high) (omega arith);
+      price = filled-all 256 0 _ (_≤ 43800) i ps (o .prices) (λ k h. in-ranges k h .1) (omega arith);
     }
 
     -- no holding has a fault

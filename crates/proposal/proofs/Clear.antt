@@ -1,6 +1,7 @@
 -- None of the refusals holds exactly when none of each sort does, wherever it may stand. Assumes nothing.
 use mathlib.Core.Path.{_≡_}
 use mathlib.Core.Bool.{Bool, false}
+use mathlib.Core.List.{List}
 use Prim.Native.Nat.{ℕ, _<_}
 use native.Mathlib.Omega.{arith}
 use lib.Dec.{ltb}
@@ -8,7 +9,7 @@ use lib.ListN.{length, getD, take}
 use Rattle.lists.proofs.Firsts.{None, Numbered, none-append, append-none, none-in-turn, in-turn-none, numbered-append, numbered-in-turn}
 use Rattle.article.specs.Answer.{Answer}
 use Rattle.proposal.specs.Submission.{Submission, priced, noRow, noLine}
-use Rattle.proposal.specs.Outcome.{holdingFaults, lineFaults, atHolding, bookFaults, atLine, linesFaults, uncovered, atPair, atLong, gaps, totalsDiffer, totalsFaults, sizeFaults, fromPairs, fromLines, fromBook, faults}
+use Rattle.proposal.specs.Outcome.{atPlace, holdingFaults, lineFaults, atHolding, bookFaults, atLine, linesFaults, uncovered, atPair, atLong, gaps, totalsDiffer, totalsFaults, sizeFaults, fromPairs, fromLines, fromBook, faults}
 use Rattle.proposal.proofs.Places.{none-at, at-none, listed-at, holding-listed, line-listed}
 
 abbrev pub number : Answer → ℕ
@@ -26,10 +27,14 @@ module _ (one two : Bool) (s : Submission) where
     pub pairs : (i j : ℕ) → i < priced s .count → j < priced s .count → uncovered (priced s) i j ≡ false
     pub totals : totalsDiffer (priced s) (s .lines) ≡ false
 
+  abbrev sizes : List (Bool × ℕ)
+  sizes = sizeFaults one two (length (s .rows)) (length (s .lines))
+
   pub none-clear : None (faults one two s) → Clear
   unfolding faults sizeFaults bookFaults atHolding linesFaults atLine gaps atLong atPair totalsFaults
   none-clear h =
-      let (first, rest) = append-none (sizeFaults one two s) (fromBook s) h in
+      let (at-first, rest) = append-none (atPlace 0 sizes) (fromBook s) h in
+      let first = at-none 0 sizes at-first in
       let (book, rest₁) = append-none (bookFaults (s .rows) (s .prices)) (fromLines s) rest in
       let (lines, rest₂) = append-none (linesFaults (priced s) (s .lines)) (fromPairs s) rest₁ in
       let (pairs, last) = append-none (gaps (priced s)) (totalsFaults (priced s) (s .lines)) rest₂ in
@@ -47,7 +52,7 @@ module _ (one two : Bool) (s : Submission) where
   pub clear-none : Clear → None (faults one two s)
   unfolding faults sizeFaults bookFaults atHolding linesFaults atLine gaps atLong atPair totalsFaults
   clear-none c =
-      none-append (sizeFaults one two s) (fromBook s) (c .no-1, (c .no-3, (c .no-9, (c .no-2, tt))))
+      none-append (atPlace 0 sizes) (fromBook s) (none-at 0 sizes (c .no-1, (c .no-3, (c .no-9, (c .no-2, tt)))))
       (none-append (bookFaults (s .rows) (s .prices)) (fromLines s) (none-in-turn (atHolding (s .rows) (s .prices)) _ (λ k q. none-at k _ (c .holdings k q)))
       (none-append (linesFaults (priced s) (s .lines)) (fromPairs s) (none-in-turn (atLine (priced s) (s .lines)) _ (λ k q. none-at k _ (c .lines k q)))
       (none-append (gaps (priced s)) (totalsFaults (priced s) (s .lines))
@@ -70,7 +75,7 @@ module _ (one two : Bool) (s : Submission) where
   pub numbered : Numbered number (faults one two s)
   unfolding faults sizeFaults totalsFaults
   numbered =
-      numbered-append number (sizeFaults one two s) (fromBook s) (omega arith, (omega arith, (omega arith, (omega arith, tt))))
+      numbered-append number (atPlace 0 sizes) (fromBook s) (listed-at 0 sizes (omega arith, (omega arith, (omega arith, (omega arith, tt)))))
       (numbered-append number (bookFaults (s .rows) (s .prices)) (fromLines s) book-numbered
       (numbered-append number (linesFaults (priced s) (s .lines)) (fromPairs s) lines-numbered
       (numbered-append number (gaps (priced s)) (totalsFaults (priced s) (s .lines)) gaps-numbered (omega arith, tt))))

@@ -11,7 +11,7 @@ use Rattle.article.specs.Answer.{Answer, answer}
 use Rattle.pairing.specs.Pairing.{saving, pricedTotal}
 use Rattle.pairing.specs.declared.Line.{Line}
 use Rattle.proposal.specs.Submission.{Submission, PricedBook, termsOf, priced}
-use Rattle.proposal.specs.Outcome.{totalsDiffer, totalsFaults, sizeFaults, fromBook, faults, firstFault, accepted, outcome}
+use Rattle.proposal.specs.Outcome.{atPlace, totalsDiffer, totalsFaults, sizeFaults, fromBook, faults, firstFault, accepted, outcome}
 use Rattle.proposal.proofs.Clear.{number}
 
 -- what a stage found of its refusals, with those that follow it
@@ -26,17 +26,17 @@ module _ (o : Answer) (stage rest : List (Bool × Answer)) (z : Answer) (so : o 
 module _ (one two : Bool) (s : Submission) where
   -- 3: more than 256 holdings
   pub many-holdings : one ≡ false → 256 < length (s .rows) → outcome one two s ≡ answer 3 0 0
-  unfolding outcome faults sizeFaults firstOf
+  unfolding outcome faults sizeFaults atPlace firstOf
   many-holdings p h = rw (p, lt-ltb _ _ h)
 
   -- 9: more than 512 lines
   pub many-lines : one ≡ false → length (s .rows) ≤ 256 → 512 < length (s .lines) → outcome one two s ≡ answer 9 0 0
-  unfolding outcome faults sizeFaults firstOf
+  unfolding outcome faults sizeFaults atPlace firstOf
   many-lines p h m = rw (p, le-ltb _ _ h, lt-ltb _ _ m)
 
   -- then holdings, lines, pairs and totals
   pub from-holdings : one ≡ false → two ≡ false → length (s .rows) ≤ 256 → length (s .lines) ≤ 512 → outcome one two s ≡ firstOf (fromBook s) (accepted (priced s) (s .lines))
-  unfolding outcome faults sizeFaults firstOf
+  unfolding outcome faults sizeFaults atPlace firstOf
   from-holdings p q h m = rw (p, le-ltb _ _ h, le-ltb _ _ m, q)
 
 -- 17 at the end

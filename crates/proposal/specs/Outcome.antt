@@ -81,14 +81,9 @@ totalsDiffer b lines = not (eqb (pricedTotal (termsOf b) (b .price)) (saving (te
 unfoldable pub totalsFaults : PricedBook → List Line → List (Bool × Answer)
 totalsFaults b lines = (totalsDiffer b lines, answer 17 0 0) ∷ []
 
--- 1, 3, 9, 2: more than 256 holdings, more than 512 lines; `one` and `two` say whether 1 and 2 hold of what is lent
-unfoldable pub sizeFaults : Bool → Bool → Submission → List (Bool × Answer)
-sizeFaults one two s =
-    (one, answer 1 0 0)
-    ∷ (ltb 256 (length (s .rows)), answer 3 0 0)
-    ∷ (ltb 512 (length (s .lines)), answer 9 0 0)
-    ∷ (two, answer 2 0 0)
-    ∷ []
+-- of so many holdings and lines 1, 3 more than 256 holdings, 9 more than 512 lines, 2; `one` and `two` say whether 1 and 2 hold of what is lent
+unfoldable pub sizeFaults : Bool → Bool → ℕ → ℕ → List (Bool × ℕ)
+sizeFaults one two holdings lines = (one, 1) ∷ (ltb 256 holdings, 3) ∷ (ltb 512 lines, 9) ∷ (two, 2) ∷ []
 
 -- check order: 1, 3, 9, 2; each holding in turn; each line in turn; 16; 17
 abbrev pub fromPairs : Submission → List (Bool × Answer)
@@ -101,7 +96,7 @@ abbrev pub fromBook : Submission → List (Bool × Answer)
 fromBook s = bookFaults (s .rows) (s .prices) ++ fromLines s
 
 unfoldable pub faults : Bool → Bool → Submission → List (Bool × Answer)
-faults one two s = sizeFaults one two s ++ fromBook s
+faults one two s = atPlace 0 (sizeFaults one two (length (s .rows)) (length (s .lines))) ++ fromBook s
 
 -- the first that holds of a part of the list, number 0 for none
 abbrev pub firstFault : List (Bool × Answer) → Answer

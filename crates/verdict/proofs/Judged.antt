@@ -1,7 +1,7 @@
 -- From an outcome to what the check promises: of a refusal, and of the figures. Assumes nothing.
 use mathlib.Core.Path.{_≡_, sym, ap, _∙_}
 use mathlib.Core.Bool.{false}
-use mathlib.Core.List.{List}
+use mathlib.Core.List.{List, []}
 use Prim.Native.Nat.{ℕ, _≤_}
 use native.Mathlib.Omega.{arith}
 use lib.ListN.{getD, List·getD-eq-default}
@@ -22,12 +22,18 @@ use Rattle.proposal.proofs.PricedBooks.{value-at}
 use Rattle.verdict.specs.Judges.{verdictOf, written, refusalOf, Judges}
 use Rattle.verdict.specs.declared.Verdict.the-variants.{Accepted}
 
+-- a refusal writes nothing into a list
+pub written-none : (a : Answer) (xs : List ℕ) → (a .number ≡ 0 → ⊥) → written a xs ≡ []
+unfolding written
+written-none a xs h = rw (ne-eqb _ _ h)
+
 module _ (s : Submission) where
   nothing-written : (xs : List ℕ) → (outcome false false s .number ≡ 0 → ⊥) → zeros 256 ≡ front (written (outcome false false s) xs) (zeros 256)
-  unfolding written front
-  nothing-written xs h = rw (ne-eqb _ _ h)
+  unfolding front
+  nothing-written xs h = rw (written-none (outcome false false s) xs h)
 
-  all-ranked : Ranks (margin (priced s) (s .lines)) (priced s .count) (ranked (priced s) (s .lines))
+  -- the ranking has every holding once, in order
+  pub all-ranked : Ranks (margin (priced s) (s .lines)) (priced s .count) (ranked (priced s) (s .lines))
   unfolding ranked
   all-ranked = ranking (margin (priced s) (s .lines)) (priced s .count) .ranks
 

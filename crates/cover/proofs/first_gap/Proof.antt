@@ -1,28 +1,34 @@
--- `first_gap` finds the first gap: each turn of the inner loop passes a short, each of the outer a long. Assumes nothing.
+-- `first_gap` finds the first gap: each turn of the inner loop passes a short, each of the outer a long; one that repeats an earlier one has
+-- no gap where that one has none. Assumes nothing.
 use mathlib.Core.Logic.{⊎-elim}
 use Prim.Native.Nat.{_-_}
 use native.Mathlib.Omega.{arith}
+use borrow.Author.Tests.{eqb-false}
 use Rattle.proposal.specs.Outcome.{answerOf, atPair, atLong}
 use Rattle.positions.specs.Positions.{heldBook}
 use Rattle.lists.proofs.Passed.{Passed, passed-none, passed-more}
-use Rattle.cover.proofs.Gaps.{not-allowed-none, covered-none, gap-holds, first-gap, long-passed, no-gap}
+use Rattle.cover.proofs.Gaps.{covered-none, gap-holds, first-gap, long-passed, not-long, no-gap}
+use Rattle.cover.proofs.RepeatsCovered.{short-repeated, long-repeated}
 use borrow.Author.Needs.{needs}
 use Rattle.cover.proofs.first_gap.Statement.{statement}
 use Rattle.cover.proofs.first_gap.Tie as tie
 
 -- of long i the shorts before j are passed
 abbrev Inv-loop2 : tie.InvT-loop2
-Inv-loop2 positions n i long price j₀ j = Passed n (atPair (heldBook positions) i) j
+Inv-loop2 positions n repeats i long price j₀ j = Passed n (atPair (heldBook positions) i) j
 
 abbrev μ-loop2 : tie.MeasureT-loop2
-μ-loop2 positions n i long price j₀ j = n - j
+μ-loop2 positions n repeats i long price j₀ j = n - j
 
 -- the longs before i are passed
 abbrev Inv-loop : tie.InvT-loop
-Inv-loop positions n i₀ i = Passed n (atLong (heldBook positions)) i
+Inv-loop positions n repeats i₀ i = Passed n (atLong (heldBook positions)) i
 
 abbrev μ-loop : tie.MeasureT-loop
-μ-loop positions n i₀ i = n - i
+μ-loop positions n repeats i₀ i = n - i
+
+repeats-requires : tie.Need-repeats-requires Inv-loop2 μ-loop2 Inv-loop μ-loop
+repeats-requires c κs = search needs
 
 loop-holds : tie.Need-loop-holds Inv-loop2 μ-loop2 Inv-loop μ-loop
 loop-holds c = passed-none
@@ -33,6 +39,12 @@ mul-long c = search needs
 element-copy-out-long : tie.Need-element-copy-out-long Inv-loop2 μ-loop2 Inv-loop μ-loop
 element-copy-out-long c = search needs
 
+mul-if2 : tie.Need-mul-if2 Inv-loop2 μ-loop2 Inv-loop μ-loop
+mul-if2 c = search needs
+
+array-read-if2 : tie.Need-array-read-if2 Inv-loop2 μ-loop2 Inv-loop μ-loop
+array-read-if2 c = search needs
+
 mul-price : tie.Need-mul-price Inv-loop2 μ-loop2 Inv-loop μ-loop
 mul-price c = search needs
 
@@ -42,45 +54,44 @@ element-copy-out-price c = search needs
 loop2-holds : tie.Need-loop2-holds Inv-loop2 μ-loop2 Inv-loop μ-loop
 loop2-holds c = passed-none
 
+mul-if3 : tie.Need-mul-if3 Inv-loop2 μ-loop2 Inv-loop μ-loop
+mul-if3 c = search needs
+
+array-read-if3 : tie.Need-array-read-if3 Inv-loop2 μ-loop2 Inv-loop μ-loop
+array-read-if3 c = search needs
+
 mul-short : tie.Need-mul-short Inv-loop2 μ-loop2 Inv-loop μ-loop
 mul-short c = search needs
 
 element-copy-out-short : tie.Need-element-copy-out-short Inv-loop2 μ-loop2 Inv-loop μ-loop
 element-copy-out-short c = search needs
 
-pair-legs-requires : tie.Need-pair-legs-requires Inv-loop2 μ-loop2 Inv-loop μ-loop
-pair-legs-requires c κs =
-    let bounds = c .before .before .before .before .before .before .before .pre in
+mul-if4 : tie.Need-mul-if4 Inv-loop2 μ-loop2 Inv-loop μ-loop
+mul-if4 c = search needs
+
+element-copy-out-if4 : tie.Need-element-copy-out-if4 Inv-loop2 μ-loop2 Inv-loop μ-loop
+element-copy-out-if4 c = search needs
+
+add-if4 : tie.Need-add-if4 Inv-loop2 μ-loop2 Inv-loop μ-loop
+add-if4 c =
+    let short = c .before .before .before .before in
+    let turn = short .before .before .before .before .before .before .before in
+    let bounds = turn .before .before .pre in
+    omega (arith, bounds .price (turn .loop .i), bounds .price (short .loop2 .j))
+
+saving-requires : tie.Need-saving-requires Inv-loop2 μ-loop2 Inv-loop μ-loop
+saving-requires c κs =
+    let turn = c .before .before .before .before .before .before .before .before .before .before .before in
+    let bounds = turn .before .before .pre in
     (bounds .rate _, bounds .rate _)
-
-enum-told : tie.Need-enum-told Inv-loop2 μ-loop2 Inv-loop μ-loop
-enum-told c = search needs
-
-enum-known-pair : tie.Need-enum-known-pair Inv-loop2 μ-loop2 Inv-loop μ-loop
-enum-known-pair c = search needs
-
-mul-if1 : tie.Need-mul-if1 Inv-loop2 μ-loop2 Inv-loop μ-loop
-mul-if1 c = search needs
-
-element-copy-out-if1 : tie.Need-element-copy-out-if1 Inv-loop2 μ-loop2 Inv-loop μ-loop
-element-copy-out-if1 c = search needs
-
-add-if1 : tie.Need-add-if1 Inv-loop2 μ-loop2 Inv-loop μ-loop
-add-if1 c =
-    let short = c .before .before .before .before .before .before .before in
-    let long = short .before .before .before .before in
-    let bounds = long .before .pre in
-    omega (arith, bounds .price (long .loop .i), bounds .price (short .loop2 .j))
 
 returns : tie.Need-returns Inv-loop2 μ-loop2 Inv-loop μ-loop
 unfolding answerOf
 returns c =
-    let pair = c .before .before .before in
-    let paired = pair .before .before in
-    let short = paired .before .before in
-    let long = short .before .before .before .before in
+    let short = c .before .before .before .before .before in
+    let long = short .before .before .before .before .before .before .before in
     first-gap _ (long .before .loop .inv) (long .loop-test .taken) (short .before .loop2 .inv) (short .loop2-test .taken)
-    (gap-holds _ _ _ (paired .pair-legs .ensures) (pair .pair .given .1) (c .if1 .taken))
+    (gap-holds _ _ _ (c .before .saving .ensures .0) (c .if4 .taken))
 
 add-j : tie.Need-add-j Inv-loop2 μ-loop2 Inv-loop μ-loop
 add-j c = search needs
@@ -90,13 +101,13 @@ loop2-less c = search needs
 
 loop2-again : tie.Need-loop2-again Inv-loop2 μ-loop2 Inv-loop μ-loop
 loop2-again c =
-    let answer = c .before .pair-legs .ensures in
-    let short = c .before .before .before in
+    let short = c .before in
+    let start = short .before .before .before .before .before .before .before .before .before in
     passed-more (short .before .loop2 .inv) (short .loop2-test .taken)
     (⊎-elim
-    (λ w. not-allowed-none _ _ _ answer (w .1 .given .1))
-    (λ w. covered-none _ _ _ answer (w .1 .given .1) (w .4 .left))
-    (c .match .came))
+    (λ w. covered-none _ _ _ (w .3 .ensures .0) (w .4 .left))
+    (λ w. short-repeated _ (start .repeats .ensures) _ (w .left) _ (short .before .loop2 .inv))
+    (c .if3 .came))
 
 add-i : tie.Need-add-i Inv-loop2 μ-loop2 Inv-loop μ-loop
 add-i c = search needs
@@ -106,8 +117,17 @@ loop-less c = search needs
 
 loop-again : tie.Need-loop-again Inv-loop2 μ-loop2 Inv-loop μ-loop
 loop-again c =
-    let long = c .before .before .before .before in
-    passed-more (long .before .loop .inv) (long .loop-test .taken) (long-passed _ _ (c .before .loop2 .inv) (c .loop2-test .left))
+    let long = c .before .before .before in
+    let start = long .before .before in
+    passed-more (long .before .loop .inv) (long .loop-test .taken)
+    (⊎-elim
+    (λ w. long-passed _ _ (w .3 .inv) (w .4 .left))
+    (λ passed-over.
+    ⊎-elim
+    (λ w. long-repeated _ (start .repeats .ensures) _ (eqb-false _ _ (w .1 .left)) (long .before .loop .inv))
+    (λ w. not-long _ _ (w .left))
+    (passed-over .came))
+    (c .if1 .came))
 
 returns-2 : tie.Need-returns-2 Inv-loop2 μ-loop2 Inv-loop μ-loop
 unfolding answerOf
@@ -121,20 +141,23 @@ first-gap-spec =
     μ-loop2
     Inv-loop
     μ-loop
+    repeats-requires
     loop-holds
     mul-long
     element-copy-out-long
+    mul-if2
+    array-read-if2
     mul-price
     element-copy-out-price
     loop2-holds
+    mul-if3
+    array-read-if3
     mul-short
     element-copy-out-short
-    pair-legs-requires
-    enum-told
-    enum-known-pair
-    mul-if1
-    element-copy-out-if1
-    add-if1
+    mul-if4
+    element-copy-out-if4
+    add-if4
+    saving-requires
     returns
     add-j
     loop2-less

@@ -12,7 +12,7 @@ use Rattle.figures.proofs.margins.Statement.{statement}
 use Rattle.figures.proofs.margins.Tie as tie
 
 abbrev Inv-loop : tie.InvT-loop
-Inv-loop positions tally margins₀ i₀ margins i = (i ≤ 256) × Filled 0 (leftMargin (heldBook positions) tally) i margins
+Inv-loop positions tally margins₀ i₀ margins i = (i ≤ 256) × Filled 256 0 (leftMargin (heldBook positions) tally) i margins
 
 abbrev μ-loop : tie.MeasureT-loop
 μ-loop positions tally margins₀ i₀ margins i = 256 - i
@@ -22,7 +22,7 @@ zeros-requires c κs = search needs
 
 loop-holds : tie.Need-loop-holds Inv-loop μ-loop
 unfolding zeros
-loop-holds c = (search needs, rw (c .zeros .ensures) (filled-none 0 _))
+loop-holds c = (search needs, rw (c .zeros .ensures) (filled-none 256 0 _))
 
 mul-leg : tie.Need-mul-leg Inv-loop μ-loop
 mul-leg c = search needs
@@ -60,12 +60,12 @@ unfolding leftMargin heldBook
 loop-again c =
     let at = c .before .before .before .before in
     let start = at .before .before in
-    (search needs, filled-more 0 (leftMargin (heldBook (start .args .t1)) (start .args .t2)) _ _ _ (omega arith) refl (at .loop .inv .1))
+    (search needs, filled-more 256 0 (leftMargin (heldBook (start .args .t1)) (start .args .t2)) _ _ _ (omega arith) refl (at .loop .inv .1))
 
 returns : tie.Need-returns Inv-loop μ-loop
 returns c =
     let end : c .before .loop .i ≡ 256 = omega arith in
-    filled-whole 0 _ _ (rw end at (c .before .loop .inv .1))
+    filled-whole 256 0 _ _ (rw end at (c .before .loop .inv .1))
 
 pub margins-spec : {M : Type 1} → statement M
 margins-spec =

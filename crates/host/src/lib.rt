@@ -1,0 +1,46 @@
+// The check for the desk's Rust host: columns and lent lists as byte slices.
+ghost use Rattle.lent.specs.Columns.{columns};
+ghost use Rattle.lent.specs.Lists.{lent};
+ghost use Rattle.host.specs.Boundary.{Checks};
+
+// The check of a proposal, for the host: returns the refusal number, 0 for accepted. Nothing is presumed of the bytes or the lengths; that a
+// pointer leads to its bytes, and that no other refers to a list meanwhile, is what a slice means, and the host's borrow sees to it.
+#[no_mangle]
+pub extern "C" fn margin_check(
+    side: &[u8],
+    kind: &[u8],
+    issuer: &[u8],
+    days: &[u8],
+    value: &[u8],
+    price: &[u8],
+    long: &[u8],
+    short: &[u8],
+    amount: &[u8],
+    remainder: &mut [u8],
+    ranking: &mut [u8],
+    answer: &mut [u8],
+) -> u64
+    ensures { λ r. ⌜ Checks (columns (now (side .entry)) (now (kind .entry)) (now (issuer .entry)) (now (days .entry)) (now (value .entry)) (now (price .entry)) (now (long .entry)) (now (short .entry)) (now (amount .entry))) (lent (now (remainder .entry)) (now (ranking .entry)) (now (answer .entry))) (lent (now (remainder .exit)) (now (ranking .exit)) (now (answer .exit))) r ⌝ }
+{
+    let number = sizes::lengths(
+        side.len(),
+        kind.len(),
+        issuer.len(),
+        days.len(),
+        value.len(),
+        price.len(),
+        long.len(),
+        short.len(),
+        amount.len(),
+        remainder.len(),
+        ranking.len(),
+        answer.len(),
+    );
+    if number != 0 {
+        return lent::tell(number, 0, 0, answer);
+    }
+    let book = lent::book_of(side, kind, issuer, days, value);
+    let proposal = lent::proposal_of(price, long, short, amount);
+    let judgement = verdict::check(book, proposal);
+    lent::publish(judgement, side.len() / 8, remainder, ranking, answer)
+}

@@ -1,0 +1,2 @@
+pub mod RuleSavings
+pub mod AlikeLegs

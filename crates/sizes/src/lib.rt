@@ -1,0 +1,48 @@
+// The byte lengths of what the host lends.
+ghost use mathlib.Core.Path.{_≡_};
+ghost use Rattle.sizes.specs.Sizes.{sizes, lengthFault};
+
+// The refusal by the lengths of what is lent, in document 01's order 1, 3, 9, 2, or 0.
+pub fn lengths(
+    side: usize,
+    kind: usize,
+    issuer: usize,
+    days: usize,
+    value: usize,
+    price: usize,
+    long: usize,
+    short: usize,
+    amount: usize,
+    remainder: usize,
+    ranking: usize,
+    answer: usize,
+) -> u64
+    ensures { λ r. ⌜ r ≡ lengthFault (sizes side kind issuer days value price long short amount remainder ranking answer) ⌝ }
+{
+    let n = side / 8;
+    let m = long / 8;
+    let book = 8 * n;
+    let lines = 8 * m;
+    let equal = (side == book)
+        & (kind == book)
+        & (issuer == book)
+        & (days == book)
+        & (value == book)
+        & (price == book)
+        & (long == lines)
+        & (short == lines)
+        & (amount == lines);
+    if !equal {
+        return 1;
+    }
+    if n > 256 {
+        return 3;
+    }
+    if m > 512 {
+        return 9;
+    }
+    if (remainder / 8 < n) | (ranking / 8 < n) | (answer < 16) {
+        return 2;
+    }
+    0
+}

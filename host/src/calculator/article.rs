@@ -1,0 +1,172 @@
+//! Article 7204, Groups I, II and XI paragraphs 1 and 2: rates and pairs.
+
+use super::fraction::Fraction;
+use crate::Holding;
+
+/// The days of a year.
+const YEAR: u64 = 365;
+/// A strip of 20 years or more has three times the bond's rate.
+const TWENTY_YEARS: u64 = 20 * YEAR;
+/// The last day of each period but the fifth, which has none.
+const PERIOD_ENDS: [u64; 4] = [YEAR, 3 * YEAR, 7 * YEAR, 11 * YEAR];
+/// A cent has 146,000 units, so one per cent of it has a hundredth of them.
+const UNITS_OF_A_PERCENT: Fraction = Fraction::new(146_000, 100);
+
+/// Per cent of market value by issuer class and period, as the article prints them; in the first period
+/// they are still to be multiplied by days / 365.
+const PERCENT: [[u64; 5]; 2] = [[1, 1, 2, 4, 4], [2, 3, 4, 5, 5]];
+/// What the bond's rate is multiplied by: a bond, a strip, a strip of 20 years or more.
+const MULTIPLE: [Fraction; 3] = [
+    Fraction::new(1, 1),
+    Fraction::new(3, 2),
+    Fraction::new(3, 1),
+];
+
+/// Units per cent of market value by class, multiple and period; in the first period for each day.
+/// The compiler works these out and stops at one that is no whole number.
+const UNITS: [[[u64; 5]; 3]; 2] = units_table();
+
+const fn units_table() -> [[[u64; 5]; 3]; 2] {
+    let mut table = [[[0; 5]; 3]; 2];
+    let mut cell = 0;
+    while cell < 30 {
+        let (class, multiple, period) = (cell / 15, cell / 5 % 3, cell % 5);
+        let term = if period == 0 { YEAR } else { 1 };
+        table[class][multiple][period] = Fraction::new(PERCENT[class][period], term)
+            .times(MULTIPLE[multiple])
+            .times(UNITS_OF_A_PERCENT)
+            .whole();
+        cell += 1;
+    }
+    table
+}
+
+/// Who owes the debt. Any two provinces count as one class.
+#[derive(Clone, Copy, Debug, PartialEq, Eq)]
+pub enum Class {
+    /// The Government of Canada.
+    Canada,
+    /// One of the ten provinces.
+    Province,
+}
+
+/// What the article asks of one holding.
+#[derive(Clone, Copy, Debug)]
+pub struct Position {
+    /// Units per cent of market value.
+    pub rate: u64,
+    /// The period, 0 to 4.
+    pub period: u8,
+    /// The class of the issuer.
+    pub class: Class,
+    /// Whether it is a bond or debenture, not a strip.
+    pub bond: bool,
+}
+
+impl Position {
+    /// The position of a holding whose numbers are in their ranges.
+    pub fn of(holding: &Holding) -> Position {
+        let period = PERIOD_ENDS
+            .iter()
+            .filter(|end| holding.days > **end)
+            .count();
+        let class = if holding.issuer == 0 {
+            Class::Canada
+        } else {
+            Class::Province
+        };
+        let bond = holding.kind == 0;
+        let multiple = match (bond, holding.days >= TWENTY_YEARS) {
+            (true, _) => 0,
+            (false, false) => 1,
+            (false, true) => 2,
+        };
+        let units = UNITS[class as usize][multiple][period];
+        Position {
+            rate: if period == 0 {
+                units * holding.days
+            } else {
+                units
+            },
+            period: period as u8,
+            class,
+            bond,
+        }
+    }
+}
+
+/// Whether a long and a short may be paired.
+pub(crate) fn may_pair(one: &Position, other: &Position) -> bool {
+    one.period == other.period && !(one.bond && other.bond)
+}
+
+/// The rate of a pair that is allowed, in units per cent; nothing where it is not.
+pub fn pair_rate(one: &Position, other: &Position) -> Option<u64> {
+    may_pair(one, other).then(|| allowed_pair_rate(one, other))
+}
+
+/// What a pair saves against its two legs alone, in units per cent; nothing where it is not allowed.
+pub fn saving_rate(one: &Position, other: &Position) -> Option<u64> {
+    pair_rate(one, other).map(|rate| one.rate + other.rate - rate)
+}
+
+#[inline]
+fn allowed_pair_rate(one: &Position, other: &Position) -> u64 {
+    if one.class == other.class {
+        one.rate.abs_diff(other.rate)
+    } else {
+        // Exact, because every rate is even: tests/paper.rs goes through them all.
+        (one.rate + other.rate) / 2
+    }
+}
+
+#[cfg(test)]
+mod tests {
+    use super::{Position, pair_rate, saving_rate};
+    use crate::Holding;
+
+    fn position(kind: u64, issuer: u64, days: u64) -> Position {
+        let (side, value) = (0, 1);
+        Position::of(&Holding {
+            side,
+            kind,
+            issuer,
+            days,
+            value,
+        })
+    }
+
+    #[test]
+    fn periods_hold_their_ends() {
+        let days = [
+            1, 365, 366, 1_095, 1_096, 2_555, 2_556, 4_015, 4_016, 7_299, 7_300, 36_500,
+        ];
+        let periods = days.map(|days| position(1, 0, days).period);
+        assert_eq!(periods, [0, 0, 1, 1, 2, 2, 3, 3, 4, 4, 4, 4]);
+    }
+
+    #[test]
+    fn a_pair_follows_its_rule() {
+        let canada = position(1, 0, 2_000);
+        let ontario = position(2, 7, 2_000);
+        let quebec = position(1, 9, 2_000);
+        assert_eq!(pair_rate(&quebec, &ontario), Some(0));
+        assert_eq!(pair_rate(&canada, &ontario), Some(6_570));
+        assert_eq!(saving_rate(&canada, &ontario), Some(6_570));
+        assert_eq!(pair_rate(&position(0, 7, 2_000), &ontario), Some(2_920));
+        assert_eq!(
+            pair_rate(&position(0, 0, 2_000), &position(0, 7, 2_000)),
+            None
+        );
+        assert_eq!(
+            pair_rate(&position(1, 0, 4_015), &position(1, 0, 4_016)),
+            None
+        );
+        assert_eq!(
+            pair_rate(&position(1, 0, 5_000), &position(1, 0, 8_000)),
+            Some(8_760)
+        );
+        let longest = position(2, 1, 36_500);
+        assert_eq!(saving_rate(&longest, &longest), Some(43_800));
+    }
+}

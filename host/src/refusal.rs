@@ -1,0 +1,239 @@
+//! The refusals of the check, in words.
+
+use std::fmt;
+
+/// Why a proposal was refused, with its place. Holdings and lines count from 0. Later numbers may follow.
+#[derive(Clone, Copy, Debug, PartialEq, Eq, Hash)]
+#[non_exhaustive]
+pub enum Refusal {
+    /// 1: the holding columns, price among them, or the line columns differ in length or hold no whole
+    /// numbers.
+    ColumnsDiffer,
+    /// 2: a list to be written is shorter than what must be written.
+    ListTooShort,
+    /// 3: more than 256 holdings.
+    TooManyHoldings,
+    /// 4: a side that is neither long nor short.
+    SideUnknown {
+        /// The holding at fault.
+        holding: u64,
+    },
+    /// 5: a kind that is neither bond nor coupon nor residual.
+    KindUnknown {
+        /// The holding at fault.
+        holding: u64,
+    },
+    /// 6: an issuer that is neither Canada nor a province.
+    IssuerUnknown {
+        /// The holding at fault.
+        holding: u64,
+    },
+    /// 7: days to maturity outside 1 to 36,500.
+    DaysOutOfRange {
+        /// The holding at fault.
+        holding: u64,
+    },
+    /// 8: a market value outside 1 to 100,000,000,000 cents.
+    ValueOutOfRange {
+        /// The holding at fault.
+        holding: u64,
+    },
+    /// 9: more than 512 lines.
+    TooManyLines,
+    /// 10: a price above 43,800.
+    PriceTooHigh {
+        /// The holding at fault.
+        holding: u64,
+    },
+    /// 11: a line names a number that is not in the book.
+    NotInBook {
+        /// The line at fault.
+        line: u64,
+    },
+    /// 12: a line's first leg is not long, or its second not short.
+    WrongSide {
+        /// The line at fault.
+        line: u64,
+    },
+    /// 13: a line's pair is not allowed.
+    PairNotAllowed {
+        /// The line at fault.
+        line: u64,
+    },
+    /// 14: a line's amount is zero.
+    AmountZero {
+        /// The line at fault.
+        line: u64,
+    },
+    /// 15: a line's amount is above what remains of either leg.
+    AmountAboveRemainder {
+        /// The line at fault.
+        line: u64,
+    },
+    /// 16: the prices of an allowed pair add up to less than its saving rate.
+    PairNotCovered {
+        /// The lowest long with such a pair.
+        long: u64,
+        /// Its lowest short.
+        short: u64,
+    },
+    /// 17: the priced total differs from the saving.
+    TotalsDiffer,
+}
+
+impl Refusal {
+    /// The paper's number, 1 to 17.
+    pub fn number(&self) -> u64 {
+        match self {
+            Refusal::ColumnsDiffer => 1,
+            Refusal::ListTooShort => 2,
+            Refusal::TooManyHoldings => 3,
+            Refusal::SideUnknown { .. } => 4,
+            Refusal::KindUnknown { .. } => 5,
+            Refusal::IssuerUnknown { .. } => 6,
+            Refusal::DaysOutOfRange { .. } => 7,
+            Refusal::ValueOutOfRange { .. } => 8,
+            Refusal::TooManyLines => 9,
+            Refusal::PriceTooHigh { .. } => 10,
+            Refusal::NotInBook { .. } => 11,
+            Refusal::WrongSide { .. } => 12,
+            Refusal::PairNotAllowed { .. } => 13,
+            Refusal::AmountZero { .. } => 14,
+            Refusal::AmountAboveRemainder { .. } => 15,
+            Refusal::PairNotCovered { .. } => 16,
+            Refusal::TotalsDiffer => 17,
+        }
+    }
+
+    /// The place: the holding, the line or the long; 0 where there is none.
+    pub fn place(&self) -> u64 {
+        match *self {
+            Refusal::ColumnsDiffer
+            | Refusal::ListTooShort
+            | Refusal::TooManyHoldings
+            | Refusal::TooManyLines
+            | Refusal::TotalsDiffer => 0,
+            Refusal::SideUnknown { holding }
+            | Refusal::KindUnknown { holding }
+            | Refusal::IssuerUnknown { holding }
+            | Refusal::DaysOutOfRange { holding }
+            | Refusal::ValueOutOfRange { holding }
+            | Refusal::PriceTooHigh { holding } => holding,
+            Refusal::NotInBook { line }
+            | Refusal::WrongSide { line }
+            | Refusal::PairNotAllowed { line }
+            | Refusal::AmountZero { line }
+            | Refusal::AmountAboveRemainder { line } => line,
+            Refusal::PairNotCovered { long, .. } => long,
+        }
+    }
+
+    /// The second place: the short of an uncovered pair, otherwise 0.
+    pub fn second(&self) -> u64 {
+        match *self {
+            Refusal::PairNotCovered { short, .. } => short,
+            _ => 0,
+        }
+    }
+
+    /// The refusal with this number and these places, if there is one.
+    pub fn from_parts(number: u64, place: u64, second: u64) -> Option<Refusal> {
+        let (holding, line) = (place, place);
+        let refusal = match number {
+            1 => Refusal::ColumnsDiffer,
+            2 => Refusal::ListTooShort,
+            3 => Refusal::TooManyHoldings,
+            4 => Refusal::SideUnknown { holding },
+            5 => Refusal::KindUnknown { holding },
+            6 => Refusal::IssuerUnknown { holding },
+            7 => Refusal::DaysOutOfRange { holding },
+            8 => Refusal::ValueOutOfRange { holding },
+            9 => Refusal::TooManyLines,
+            10 => Refusal::PriceTooHigh { holding },
+            11 => Refusal::NotInBook { line },
+            12 => Refusal::WrongSide { line },
+            13 => Refusal::PairNotAllowed { line },
+            14 => Refusal::AmountZero { line },
+            15 => Refusal::AmountAboveRemainder { line },
+            16 => Refusal::PairNotCovered {
+                long: place,
+                short: second,
+            },
+            17 => Refusal::TotalsDiffer,
+            _ => return None,
+        };
+        (refusal.place() == place && refusal.second() == second).then_some(refusal)
+    }
+}
+
+impl fmt::Display for Refusal {
+    fn fmt(&self, f: &mut fmt::Formatter<'_>) -> fmt::Result {
+        let (place, second, fault) = (self.place(), self.second(), self.fault());
+        match self.number() {
+            4..=8 | 10 => write!(f, "Holding {place}, counting from 0, {fault}."),
+            11..=15 => write!(f, "Line {place}, counting from 0, {fault}."),
+            16 => write!(
+                f,
+                "The prices of long holding {place} and short holding {second}, counting from 0, {fault}."
+            ),
+            _ => write!(f, "{fault}."),
+        }
+    }
+}
+
+impl Refusal {
+    /// What is wrong: a sentence, or the end of one that begins with the place.
+    fn fault(&self) -> &'static str {
+        match self {
+            Refusal::ColumnsDiffer => {
+                "The columns of the holdings, the price column among them, must all have the same \
+                 length in whole numbers, and so must the columns of the lines"
+            }
+            Refusal::ListTooShort => {
+                "A list lent for the results is too short: remainder and ranking need one entry \
+                 for each holding, the answer 16 bytes"
+            }
+            Refusal::TooManyHoldings => "The book has more than 256 holdings",
+            Refusal::SideUnknown { .. } => {
+                "has an unknown side: it must be 0 for long or 1 for short"
+            }
+            Refusal::KindUnknown { .. } => {
+                "has an unknown kind: it must be 0 for a bond, 1 for a stripped coupon \
+                 or 2 for a residual"
+            }
+            Refusal::IssuerUnknown { .. } => {
+                "has an unknown issuer: it must be 0 for Canada or 1 to 10 for a province"
+            }
+            Refusal::DaysOutOfRange { .. } => "has days to maturity outside 1 to 36,500",
+            Refusal::ValueOutOfRange { .. } => {
+                "has a market value outside 1 to 100,000,000,000 cents"
+            }
+            Refusal::TooManyLines => "The proposal has more than 512 lines",
+            Refusal::PriceTooHigh { .. } => "has a price outside 0 to 43,800",
+            _ => self.fault_of_lines(),
+        }
+    }
+
+    fn fault_of_lines(&self) -> &'static str {
+        match self {
+            Refusal::NotInBook { .. } => "names a holding that is not in the book",
+            Refusal::WrongSide { .. } => {
+                "must name a long holding first and a short holding second"
+            }
+            Refusal::PairNotAllowed { .. } => {
+                "pairs two holdings that lie in different periods or are both bonds"
+            }
+            Refusal::AmountZero { .. } => "has amount 0, and the least is 1 cent",
+            Refusal::AmountAboveRemainder { .. } => {
+                "has an amount above what the lines before it leave of one of its holdings"
+            }
+            Refusal::PairNotCovered { .. } => "add up to less than the saving rate of their pair",
+            _ => {
+                "The priced total of the holdings differs from the saving of the lines, \
+                 and the two must be equal"
+            }
+        }
+    }
+}
+
+impl std::error::Error for Refusal {}

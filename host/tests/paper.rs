@@ -1,0 +1,462 @@
+//! Document 01's worked cases, edges and shortcuts, with its figures.
+
+mod support;
+
+use margin_host::calculator::Position;
+use margin_host::{Holding, Line, Sheet};
+use support::Run;
+use support::lent::{Left, Lent};
+
+const LONG: u64 = 0;
+const SHORT: u64 = 1;
+const BOND: u64 = 0;
+const COUPON: u64 = 1;
+const RESIDUAL: u64 = 2;
+const CA: u64 = 0;
+const ON: u64 = 7;
+const QC: u64 = 9;
+
+fn holding(side: u64, kind: u64, issuer: u64, days: u64, value: u64) -> Holding {
+    Holding {
+        side,
+        kind,
+        issuer,
+        days,
+        value,
+    }
+}
+
+fn sheet(holdings: &[(Holding, u64)], lines: &[(u64, u64, u64)]) -> Sheet {
+    let mut sheet = Sheet::default();
+    for (holding, price) in holdings {
+        sheet.add_holding(*holding, *price);
+    }
+    for &(long, short, amount) in lines {
+        sheet.add_line(Line {
+            long,
+            short,
+            amount,
+        });
+    }
+    sheet
+}
+
+/// The file that the paper prints.
+fn the_file() -> Sheet {
+    sheet(
+        &[
+            (holding(LONG, COUPON, CA, 2_000, 1_000_000), 0),
+            (holding(SHORT, BOND, CA, 2_000, 600_000), 5_840),
+            (holding(SHORT, RESIDUAL, ON, 2_000, 300_000), 6_570),
+        ],
+        &[(0, 1, 600_000), (0, 2, 300_000)],
+    )
+}
+
+#[test]
+fn the_printed_file() {
+    let mut run = Run::fixed("the printed file");
+    let left = run.compare(&Lent::of(&the_file()), format_args!("as printed"));
+    assert_eq!(left.number, 0);
+    assert_eq!(left.figures(), (3_285_000_000, 22_500));
+    assert_eq!(Left::entries(&left.remainder), [100_000, 0, 0]);
+    assert_eq!(Left::entries(&left.ranking), [0, 1, 2]);
+    let mut third = the_file();
+    third.price[2] = 6_569;
+    run.refused(
+        &Lent::of(&third),
+        (16, 0, 2),
+        format_args!("third price 6,569"),
+    );
+    let mut first = the_file();
+    first.price[0] = 1;
+    run.refused(&Lent::of(&first), (17, 0, 0), format_args!("first price 1"));
+    let mut amount = the_file();
+    amount.amount[0] = 600_001;
+    run.refused(
+        &Lent::of(&amount),
+        (15, 0, 0),
+        format_args!("first amount 600,001"),
+    );
+}
+
+#[test]
+fn rates_at_the_edges() {
+    let mut run = Run::fixed("rates at the edges");
+    let edges = [
+        (BOND, CA, 365, 1_460),
+        (BOND, CA, 366, 1_460),
+        (BOND, ON, 365, 2_920),
+        (BOND, ON, 366, 4_380),
+        (BOND, CA, 1_095, 1_460),
+        (BOND, CA, 1_096, 2_920),
+        (COUPON, CA, 1, 6),
+        (COUPON, CA, 7_299, 8_760),
+        (COUPON, CA, 7_300, 17_520),
+        (RESIDUAL, ON, 36_500, 21_900),
+        (BOND, CA, 1, 4),
+    ];
+    for (kind, issuer, days, rate) in edges {
+        for side in [LONG, SHORT] {
+            let one = sheet(&[(holding(side, kind, issuer, days, 1), 0)], &[]);
+            run.accepted(&Lent::of(&one), rate, format_args!("{one:?}"));
+        }
+    }
+}
+
+/// The paper's table, typed from it: the first day, the last day, and the rates of Canada bond, Canada
+/// strip, province bond and province strip.
+const TABLE: [(u64, u64, [u64; 4]); 5] = [
+    (366, 1_095, [1_460, 2_190, 4_380, 6_570]),
+    (1_096, 2_555, [2_920, 4_380, 5_840, 8_760]),
+    (2_556, 4_015, [5_840, 8_760, 7_300, 10_950]),
+    (4_016, 7_299, [5_840, 8_760, 7_300, 10_950]),
+    (7_300, 36_500, [5_840, 17_520, 7_300, 21_900]),
+];
+
+fn paper_rate(kind: u64, issuer: u64, days: u64) -> u64 {
+    let column = usize::from(kind > 0) + if issuer > 0 { 2 } else { 0 };
+    match TABLE
+        .iter()
+        .find(|(first, last, _)| (*first..=*last).contains(&days))
+    {
+        Some((_, _, rates)) => rates[column],
+        None => [4, 6, 8, 12][column] * days,
+    }
+}
+
+#[test]
+fn every_rate_of_the_calculator() {
+    for days in 1..=36_500 {
+        for kind in [BOND, COUPON, RESIDUAL] {
+            for issuer in 0..=10 {
+                let rate = paper_rate(kind, issuer, days);
+                let position = Position::of(&holding(LONG, kind, issuer, days, 1));
+                assert_eq!(position.rate, rate, "{kind}, {issuer}, {days} days");
+                assert_eq!(rate % 2, 0, "a half sum is exact: {days} days");
+            }
+        }
+    }
+}
+
+#[test]
+fn every_rate_of_every_day() {
+    let mut run = Run::fixed("every rate of every day");
+    for days in 1..=36_500 {
+        for kind in [BOND, COUPON, RESIDUAL] {
+            for issuer in [CA, 1 + days % 10] {
+                let one = sheet(&[(holding(days % 2, kind, issuer, days, 1), 0)], &[]);
+                let rate = paper_rate(kind, issuer, days);
+                run.accepted(
+                    &Lent::of(&one),
+                    rate,
+                    format_args!("{kind}, {issuer}, {days} days"),
+                );
+            }
+        }
+    }
+}
+
+/// The paper's periods, as far as two days are concerned.
+fn same_period(one: u64, other: u64) -> bool {
+    [365, 1_095, 2_555, 4_015]
+        .iter()
+        .all(|end| (one <= *end) == (other <= *end))
+}
+
+/// A long and a short of one cent with a line: refused with 13, or accepted with the pair's rate.
+fn one_pair(run: &mut Run, long: (u64, u64, u64), short: (u64, u64, u64)) {
+    let rates = [long, short].map(|(kind, issuer, days)| paper_rate(kind, issuer, days));
+    let sum = rates[0] + rates[1];
+    let rate = if (long.1 == CA) == (short.1 == CA) {
+        rates[0].abs_diff(rates[1])
+    } else {
+        sum / 2
+    };
+    let legs = |price| {
+        let long = (holding(LONG, long.0, long.1, long.2, 1), price);
+        let short = (holding(SHORT, short.0, short.1, short.2, 1), 0);
+        Lent::of(&sheet(&[long, short], &[(0, 1, 1)]))
+    };
+    let what = format_args!("{long:?} with {short:?}");
+    if !same_period(long.2, short.2) || long.0 == BOND && short.0 == BOND {
+        run.refused(&legs(sum - rate), (13, 0, 0), what);
+    } else {
+        run.accepted(&legs(sum - rate), rate, what);
+        run.refused(&legs(sum - rate - 1), (16, 0, 1), what);
+    }
+}
+
+#[test]
+fn every_pair_at_the_ends_of_periods() {
+    let mut run = Run::fixed("every pair at the ends of periods");
+    let days = [
+        1, 200, 365, 366, 1_095, 1_096, 2_555, 2_556, 4_015, 4_016, 7_299, 7_300, 36_500,
+    ];
+    let mut legs = Vec::new();
+    for days in days {
+        for kind in [BOND, COUPON, RESIDUAL] {
+            legs.extend([CA, 1, ON, 10].map(|issuer| (kind, issuer, days)));
+        }
+    }
+    for &long in &legs {
+        for &short in &legs {
+            one_pair(&mut run, long, short);
+        }
+    }
+}
+
+#[test]
+fn cents_are_rounded_up_once() {
+    let mut run = Run::fixed("cents are rounded up once");
+    let bond = |value| (holding(LONG, BOND, CA, 1, value), 0);
+    for (value, cents) in [(1, 1), (36_500, 1), (36_501, 2), (73_000, 2)] {
+        let left = run.compare(
+            &Lent::of(&sheet(&[bond(value)], &[])),
+            format_args!("{value}"),
+        );
+        assert_eq!(left.figures(), (4 * value, cents));
+    }
+    // Two holdings and two lines of a few units each are one cent together.
+    let both = sheet(&[bond(1), bond(1)], &[]);
+    let left = run.compare(&Lent::of(&both), format_args!("two bonds"));
+    assert_eq!(left.figures(), (8, 1));
+    let pair = |side, days, price| (holding(side, COUPON, CA, days, 1), price);
+    let lines = sheet(
+        &[
+            pair(LONG, 2, 12),
+            pair(LONG, 2, 12),
+            pair(SHORT, 1, 0),
+            pair(SHORT, 1, 0),
+        ],
+        &[(0, 2, 1), (1, 3, 1)],
+    );
+    let left = run.compare(&Lent::of(&lines), format_args!("two lines"));
+    assert_eq!((left.number, left.figures()), (0, (12, 1)));
+}
+
+#[test]
+fn days_and_values_outside_their_ranges() {
+    let mut run = Run::fixed("days and values outside their ranges");
+    for (days, value, refusal) in [
+        (0, 1, 7),
+        (36_501, 1, 7),
+        (1, 0, 8),
+        (1, 100_000_000_001, 8),
+        (0, 100_000_000_001, 7),
+    ] {
+        let one = sheet(&[(holding(LONG, COUPON, CA, days, value), 0)], &[]);
+        run.refused(&Lent::of(&one), (refusal, 0, 0), format_args!("{one:?}"));
+    }
+}
+
+#[test]
+fn pairs_at_the_edges() {
+    let mut run = Run::fixed("pairs at the edges");
+    // Long and short of one cent, the price of the long, and the pair's rate.
+    let pairs = [
+        ((COUPON, CA, 5_000), (COUPON, CA, 8_000), 17_520, 8_760),
+        ((COUPON, ON, 2_000), (RESIDUAL, QC, 2_000), 17_520, 0),
+        ((COUPON, CA, 2_000), (RESIDUAL, ON, 2_000), 6_570, 6_570),
+        ((BOND, ON, 2_000), (COUPON, ON, 2_000), 11_680, 2_920),
+    ];
+    for (long, short, price, rate) in pairs {
+        let pair = sheet(
+            &[
+                (holding(LONG, long.0, long.1, long.2, 1), price),
+                (holding(SHORT, short.0, short.1, short.2, 1), 0),
+            ],
+            &[(0, 1, 1)],
+        );
+        run.accepted(&Lent::of(&pair), rate, format_args!("{pair:?}"));
+    }
+    let refused = [
+        ((COUPON, CA, 4_015), (COUPON, CA, 4_016)),
+        ((BOND, CA, 2_000), (BOND, CA, 2_000)),
+        ((BOND, CA, 2_000), (BOND, ON, 2_000)),
+        ((BOND, ON, 2_000), (BOND, QC, 2_000)),
+        ((COUPON, CA, 365), (COUPON, CA, 366)),
+        ((RESIDUAL, ON, 1_095), (COUPON, QC, 1_096)),
+        ((RESIDUAL, ON, 2_555), (BOND, CA, 2_556)),
+    ];
+    for (long, short) in refused {
+        let pair = sheet(
+            &[
+                (holding(LONG, long.0, long.1, long.2, 1), 43_800),
+                (holding(SHORT, short.0, short.1, short.2, 1), 0),
+            ],
+            &[(0, 1, 1)],
+        );
+        run.refused(&Lent::of(&pair), (13, 0, 0), format_args!("{pair:?}"));
+    }
+}
+
+/// ON, 2,000 days, 1,000 cents each: long coupon and bond, short coupon and bond.
+fn eighty_or_forty(prices: [u64; 4], lines: &[(u64, u64, u64)]) -> Sheet {
+    let legs = [(LONG, COUPON), (LONG, BOND), (SHORT, COUPON), (SHORT, BOND)];
+    let mut holdings = Vec::new();
+    for ((side, kind), price) in legs.into_iter().zip(prices) {
+        holdings.push((holding(side, kind, ON, 2_000, 1_000), price));
+    }
+    sheet(&holdings, lines)
+}
+
+#[test]
+fn largest_saving_first_costs_margin() {
+    let mut run = Run::fixed("largest saving first");
+    let crossed = eighty_or_forty(
+        [8_760, 2_920, 8_760, 2_920],
+        &[(0, 3, 1_000), (1, 2, 1_000)],
+    );
+    run.accepted(&Lent::of(&crossed), 40 * 146_000, format_args!("40 cents"));
+    // Coupon with coupon leaves both bonds, 80 cents; no prices show that it is the least.
+    let lines = &[(0, 2, 1_000)];
+    let covered = eighty_or_forty([8_760, 2_920, 8_760, 2_920], lines);
+    run.refused(
+        &Lent::of(&covered),
+        (17, 0, 0),
+        format_args!("80 cents, covered"),
+    );
+    let equal = eighty_or_forty([8_760, 0, 8_760, 0], lines);
+    run.refused(
+        &Lent::of(&equal),
+        (16, 0, 3),
+        format_args!("80 cents, totals equal"),
+    );
+    let other = eighty_or_forty([17_520, 0, 0, 0], lines);
+    run.refused(
+        &Lent::of(&other),
+        (16, 1, 2),
+        format_args!("80 cents, totals equal"),
+    );
+}
+
+#[test]
+fn cover_is_asked_of_pairs_in_no_line() {
+    let mut run = Run::fixed("pairs in no line");
+    // The line covers and the totals agree, but the short coupon would serve the second long better.
+    let legs = |price| {
+        sheet(
+            &[
+                (holding(LONG, COUPON, CA, 100, 1_000), 0),
+                (holding(LONG, COUPON, CA, 200, 1_000), 0),
+                (holding(SHORT, COUPON, CA, 200, 1_000), price),
+            ],
+            &[],
+        )
+    };
+    let mut worse = legs(1_200);
+    worse.add_line(Line {
+        long: 0,
+        short: 2,
+        amount: 1_000,
+    });
+    run.refused(
+        &Lent::of(&worse),
+        (16, 1, 2),
+        format_args!("the line covers"),
+    );
+    let mut best = legs(2_400);
+    best.add_line(Line {
+        long: 1,
+        short: 2,
+        amount: 1_000,
+    });
+    run.accepted(&Lent::of(&best), 600_000, format_args!("the better long"));
+}
+
+#[test]
+fn cover_is_not_asked_across_a_period_end() {
+    // The rates are equal on both sides of 4,015 days, so only the period tells the two alike apart.
+    let mut run = Run::fixed("a gap behind an equal rate");
+    let coupon = |side, days| (holding(side, COUPON, CA, days, 1_000), 0);
+    for (single, alike) in [(SHORT, LONG), (LONG, SHORT)] {
+        for (days, partner) in [(4_015, 0), (4_016, 1)] {
+            let three = [
+                coupon(alike, 4_015),
+                coupon(alike, 4_016),
+                coupon(single, days),
+            ];
+            let (long, short) = if alike == LONG {
+                (partner, 2)
+            } else {
+                (2, partner)
+            };
+            run.refused(
+                &Lent::of(&sheet(&three, &[])),
+                (16, long, short),
+                format_args!("side {single} alone, {days} days"),
+            );
+        }
+    }
+}
+
+/// Three prices on holdings alike, and the first of them below 20.
+const THREE_PRICES: [([u64; 3], Option<u64>); 11] = [
+    ([40, 30, 20], None),
+    ([30, 20, 19], Some(2)),
+    ([30, 19, 10], Some(1)),
+    ([19, 18, 17], Some(0)),
+    ([20, 20, 20], None),
+    ([19, 19, 19], Some(0)),
+    ([20, 30, 40], None),
+    ([19, 20, 30], Some(0)),
+    ([17, 18, 19], Some(0)),
+    ([30, 19, 20], Some(1)),
+    ([20, 20, 19], Some(2)),
+];
+
+#[test]
+fn of_three_alike_the_first_uncovered() {
+    // A pair saves 17,520 and the fourth holding is priced 17,500, so each of the three needs 20.
+    let mut run = Run::fixed("three alike");
+    let coupon = |side, price| (holding(side, COUPON, CA, 5_000, 1_000), price);
+    for (prices, first) in THREE_PRICES {
+        let longs = prices.map(|price| coupon(LONG, price));
+        let shorts = prices.map(|price| coupon(SHORT, price));
+        let of_longs = [longs[0], longs[1], longs[2], coupon(SHORT, 17_500)];
+        let of_shorts = [coupon(LONG, 17_500), shorts[0], shorts[1], shorts[2]];
+        let (long, short) = match first {
+            Some(first) => ((16, first, 3), (16, 0, 1 + first)),
+            None => ((17, 0, 0), (17, 0, 0)),
+        };
+        for (four, wanted) in [(of_longs, long), (of_shorts, short)] {
+            let what = format_args!("{prices:?}, {wanted:?}");
+            run.refused(&Lent::of(&sheet(&four, &[])), wanted, what);
+        }
+    }
+}
+
+#[test]
+fn empty_book() {
+    let mut run = Run::fixed("the empty book");
+    run.accepted(&Lent::of(&Sheet::default()), 0, format_args!("no line"));
+    run.refused(
+        &Lent::of(&sheet(&[], &[(0, 0, 1)])),
+        (11, 0, 0),
+        format_args!("a line"),
+    );
+}
+
+#[test]
+fn two_holdings_alike_are_two_holdings() {
+    let mut run = Run::fixed("two holdings alike");
+    let coupon = |side, price| (holding(side, COUPON, QC, 3_650, 700), price);
+    let four = [
+        coupon(LONG, 21_900),
+        coupon(SHORT, 0),
+        coupon(LONG, 21_900),
+        coupon(SHORT, 0),
+    ];
+    run.accepted(
+        &Lent::of(&sheet(&four, &[(0, 1, 700), (2, 3, 700)])),
+        0,
+        format_args!("paired"),
+    );
+    let twice = sheet(&four, &[(0, 1, 700), (0, 3, 700)]);
+    run.refused(
+        &Lent::of(&twice),
+        (15, 1, 0),
+        format_args!("one long twice"),
+    );
+}

@@ -1,0 +1,118 @@
+//! Random changes to best proposals, and random bytes: only the calculator says what comes out.
+
+mod support;
+
+use margin_host::Sheet;
+use margin_host::samples::{Random, SHAPES, best_sheet, holdings};
+use support::lent::Lent;
+use support::{Run, column};
+
+/// Numbers at which something changes in the paper, and a few far away.
+const TELLING: [u64; 30] = [
+    0,
+    1,
+    2,
+    3,
+    4,
+    10,
+    11,
+    255,
+    256,
+    257,
+    365,
+    366,
+    1_095,
+    1_096,
+    2_555,
+    2_556,
+    4_015,
+    4_016,
+    7_299,
+    7_300,
+    36_500,
+    36_501,
+    43_800,
+    43_801,
+    100_000_000_000,
+    100_000_000_001,
+    1 << 32,
+    1 << 63,
+    u64::MAX - 1,
+    u64::MAX,
+];
+
+fn change(random: &mut Random, sheet: &mut Sheet) {
+    let column = column(sheet, random.place(9));
+    if column.is_empty() {
+        return;
+    }
+    let at = random.place(column.len());
+    column[at] = match random.below(6) {
+        0 => column[at].wrapping_add(1),
+        1 => column[at].wrapping_sub(1),
+        2 => random.pick(column),
+        3 => random.below(20),
+        4 => column[at] ^ 1 << random.below(64),
+        _ => random.pick(&TELLING),
+    };
+}
+
+#[test]
+fn best_proposals_with_random_changes() {
+    let mut run = Run::new("random changes", 0x0701);
+    let mut seen = [0; 18];
+    for round in 0..2_000 {
+        let shape = run.random.pick(&SHAPES);
+        let size = 1 + run.random.place(if round % 20 == 0 { 120 } else { 16 });
+        let best = best_sheet(&holdings(&mut run.random, &shape, size));
+        for changes in [1, 1, 1, 2, 2, 3, 5] {
+            let mut sheet = best.clone();
+            for _ in 0..changes {
+                change(&mut run.random, &mut sheet);
+            }
+            let what = format_args!("{}, {changes} changes", shape.name);
+            let left = run.compare(&Lent::of(&sheet), what);
+            seen[left.number as usize] += 1;
+        }
+    }
+    for number in (4..=17).filter(|number| *number != 9).chain([0]) {
+        assert!(seen[number] > 0, "no book with {number} among {seen:?}");
+    }
+}
+
+#[test]
+fn random_lengths_and_numbers() {
+    let mut run = Run::new("random lengths and numbers", 0x0702);
+    for _ in 0..3_000 {
+        let mut lent = Lent::of(&Sheet::default());
+        let lengths = [run.random.place(7), run.random.place(5)].map(|count| 8 * count);
+        let uneven = run.random.below(4) == 0;
+        for (at, column) in lent.columns.iter_mut().enumerate() {
+            let more = if uneven { run.random.place(10) } else { 0 };
+            let length = lengths[usize::from(at >= 6)] + more;
+            let most = [2, 3, 11, 36_501, 1_000, 20_000, 6, 6, 1_000][at];
+            while column.len() < length {
+                column.extend(run.random.below(most).to_le_bytes());
+            }
+            column.truncate(length);
+        }
+        lent.lists(run.random.place(64), run.random.place(64));
+        lent.answer(run.random.place(25).max(run.random.place(25)));
+        run.compare(&lent, format_args!("random"));
+    }
+}
+
+#[test]
+fn random_bytes() {
+    let mut run = Run::new("random bytes", 0x0703);
+    for _ in 0..1_000 {
+        let mut lent = Lent::of(&Sheet::default());
+        let lengths = [8 * run.random.place(4), 8 * run.random.place(4)];
+        for (at, column) in lent.columns.iter_mut().enumerate() {
+            let length = lengths[usize::from(at >= 6)];
+            column.extend((0..length).map(|_| run.random.bits() as u8));
+        }
+        lent.lists(24, 24);
+        run.compare(&lent, format_args!("random"));
+    }
+}

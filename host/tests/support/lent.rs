@@ -1,0 +1,162 @@
+//! Columns and lists as bytes, lent between guard bytes.
+
+use std::fmt;
+
+use margin_host::Sheet;
+use margin_host::raw::Columns;
+
+/// Bytes on each side of a list that nobody may write.
+const GUARD: usize = 24;
+/// The names of the columns in the order of the call.
+pub const NAMES: [&str; 9] = [
+    "side", "kind", "issuer", "days", "value", "price", "long", "short", "amount",
+];
+
+/// The bytes that a call gets. The lists are filled with a pattern.
+#[derive(Clone)]
+pub struct Lent {
+    pub columns: [Vec<u8>; 9],
+    pub remainder: Vec<u8>,
+    pub ranking: Vec<u8>,
+    pub answer: Vec<u8>,
+}
+
+/// What a call leaves.
+#[derive(Debug, PartialEq, Eq)]
+pub struct Left {
+    /// Whether the columns and all bytes beside the lists are as they were.
+    pub intact: bool,
+    pub number: u64,
+    pub remainder: Vec<u8>,
+    pub ranking: Vec<u8>,
+    pub answer: Vec<u8>,
+}
+
+type Call = fn(&Columns<'_>, &mut [u8], &mut [u8], &mut [u8]) -> u64;
+
+impl Lent {
+    /// The columns of a sheet, with lists that are as long as they must be.
+    pub fn of(sheet: &Sheet) -> Lent {
+        let c = sheet.columns();
+        let columns = [
+            c.side, c.kind, c.issuer, c.days, c.value, c.price, c.long, c.short, c.amount,
+        ];
+        Lent {
+            columns: columns.map(<[u8]>::to_vec),
+            remainder: pattern(c.side.len(), 0x51),
+            ranking: pattern(c.side.len(), 0xA3),
+            answer: pattern(16, 0xC7),
+        }
+    }
+
+    /// Lends lists of these lengths in bytes.
+    pub fn lists(&mut self, remainder: usize, ranking: usize) {
+        self.remainder = pattern(remainder, 0x51);
+        self.ranking = pattern(ranking, 0xA3);
+    }
+
+    /// Lends an answer slice of this length.
+    pub fn answer(&mut self, length: usize) {
+        self.answer = pattern(length, 0xC7);
+    }
+
+    /// Calls with lists between guard bytes, at addresses that are no multiples of eight.
+    pub fn run(&self, call: Call) -> Left {
+        let shift = 1 + self.remainder.len() % 7;
+        let columns = self.columns.each_ref().map(|column| guarded(column, shift));
+        let mut lists =
+            [&self.remainder, &self.ranking, &self.answer].map(|list| guarded(list, shift));
+        let [side, kind, issuer, days, value, price, long, short, amount] =
+            columns.each_ref().map(|column| inside(column, shift));
+        let lent = Columns {
+            side,
+            kind,
+            issuer,
+            days,
+            value,
+            price,
+            long,
+            short,
+            amount,
+        };
+        let [remainder, ranking, answer] = lists.each_mut().map(|list| {
+            let end = list.len() - GUARD;
+            &mut list[GUARD + shift..end]
+        });
+        let number = call(&lent, remainder, ranking, answer);
+        let [remainder, ranking, answer] =
+            lists.each_ref().map(|list| inside(list, shift).to_vec());
+        let beside = [&remainder, &ranking, &answer].map(|list| guarded(list, shift));
+        let before = self.columns.each_ref().map(|column| guarded(column, shift));
+        Left {
+            intact: columns == before && lists == beside,
+            number,
+            remainder,
+            ranking,
+            answer,
+        }
+    }
+
+    fn entries(&self) -> usize {
+        self.columns[0].len() / 8
+    }
+}
+
+impl Left {
+    /// The two numbers of the answer slice.
+    pub fn figures(&self) -> (u64, u64) {
+        (number(&self.answer[..8]), number(&self.answer[8..16]))
+    }
+
+    /// The entries of a list.
+    pub fn entries(list: &[u8]) -> Vec<u64> {
+        list.chunks_exact(8).map(number).collect()
+    }
+
+    /// A refusal keeps both lists, acceptance all past their entries; the answer keeps all from 16 on,
+    /// or everything if it is shorter than that.
+    pub fn keeps_what_it_must(&self, lent: &Lent) -> bool {
+        let written = if self.number == 0 {
+            8 * lent.entries()
+        } else {
+            0
+        };
+        let answered = if lent.answer.len() < 16 { 0 } else { 16 };
+        self.remainder[written..] == lent.remainder[written..]
+            && self.ranking[written..] == lent.ranking[written..]
+            && self.answer[answered..] == lent.answer[answered..]
+    }
+}
+
+impl fmt::Debug for Lent {
+    fn fmt(&self, f: &mut fmt::Formatter<'_>) -> fmt::Result {
+        for (name, column) in NAMES.iter().zip(&self.columns) {
+            let rest = &column[column.len() / 8 * 8..];
+            writeln!(f, "{name}: {:?} and bytes {rest:?}", Left::entries(column))?;
+        }
+        let lists = [&self.remainder, &self.ranking, &self.answer].map(|list| list.len());
+        write!(f, "bytes of remainder, ranking and answer: {lists:?}")
+    }
+}
+
+/// Bytes that differ from their neighbours and from zero.
+fn pattern(length: usize, start: u8) -> Vec<u8> {
+    (0..length)
+        .map(|at| start.wrapping_add((at % 251) as u8) | 1)
+        .collect()
+}
+
+fn number(bytes: &[u8]) -> u64 {
+    u64::from_le_bytes(bytes.try_into().expect("eight bytes"))
+}
+
+fn guarded(bytes: &[u8], shift: usize) -> Vec<u8> {
+    let mut all = pattern(GUARD + shift, 0x17);
+    all.extend_from_slice(bytes);
+    all.extend(pattern(GUARD, 0x2B));
+    all
+}
+
+fn inside(all: &[u8], shift: usize) -> &[u8] {
+    &all[GUARD + shift..all.len() - GUARD]
+}

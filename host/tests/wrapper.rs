@@ -1,0 +1,299 @@
+//! The wrapper on columns of numbers, and the refusals in words.
+
+mod support;
+
+use margin_host::samples::{Random, SHAPES, best_sheet, holdings};
+use margin_host::{Accepted, Refusal, Sheet, check};
+use support::Run;
+use support::faults::{HOLDINGS, LONE_LONG, PAIRS, sound};
+use support::lent::{Left, Lent};
+
+/// What the wrapper says to a sheet, with lists of the right length.
+fn answer(sheet: &Sheet) -> Result<Accepted, Refusal> {
+    let count = sheet.side.len();
+    check(
+        &sheet.book(),
+        &sheet.proposal(),
+        &mut vec![0; count],
+        &mut vec![0; count],
+    )
+}
+
+/// The sound sheet with one change.
+fn with(change: impl FnOnce(&mut Sheet)) -> Result<Accepted, Refusal> {
+    let mut sheet = sound();
+    change(&mut sheet);
+    answer(&sheet)
+}
+
+#[test]
+fn accepted_with_lists() {
+    let sheet = sound();
+    let (mut remainder, mut ranking) = ([7; 16], [8; 16]);
+    let figures = check(
+        &sheet.book(),
+        &sheet.proposal(),
+        &mut remainder,
+        &mut ranking,
+    );
+    assert_eq!(
+        figures,
+        Ok(Accepted {
+            units: 7_300_000,
+            cents: 50
+        })
+    );
+    assert_eq!(
+        remainder,
+        [0, 0, 0, 0, 0, 0, 0, 0, 0, 0, 0, 0, 500, 500, 7, 7]
+    );
+    assert_eq!(
+        ranking,
+        [12, 13, 0, 1, 2, 3, 4, 5, 6, 7, 8, 9, 10, 11, 8, 8]
+    );
+}
+
+#[test]
+fn a_refusal_keeps_the_lists() {
+    let mut sheet = sound();
+    sheet.price[LONE_LONG as usize] = 1;
+    let (mut remainder, mut ranking) = ([7; 15], [8; 15]);
+    let refusal = check(
+        &sheet.book(),
+        &sheet.proposal(),
+        &mut remainder,
+        &mut ranking,
+    );
+    assert_eq!(refusal, Err(Refusal::TotalsDiffer));
+    assert_eq!((remainder, ranking), ([7; 15], [8; 15]));
+}
+
+#[test]
+fn every_refusal_of_a_length() {
+    let differ = Err(Refusal::ColumnsDiffer);
+    assert_eq!(with(|sheet| sheet.kind.push(0)), differ);
+    assert_eq!(with(|sheet| sheet.issuer.push(0)), differ);
+    assert_eq!(with(|sheet| sheet.days.truncate(3)), differ);
+    assert_eq!(with(|sheet| sheet.value.clear()), differ);
+    assert_eq!(with(|sheet| sheet.price.truncate(13)), differ);
+    assert_eq!(with(|sheet| sheet.long.push(0)), differ);
+    assert_eq!(with(|sheet| sheet.short.clear()), differ);
+    assert_eq!(with(|sheet| sheet.amount.truncate(5)), differ);
+    let sheet = sound();
+    for (remainder, ranking) in [(13, 14), (14, 13), (0, 14), (14, 0)] {
+        let (mut remainder, mut ranking) = (vec![1; remainder], vec![2; ranking]);
+        let short = check(
+            &sheet.book(),
+            &sheet.proposal(),
+            &mut remainder,
+            &mut ranking,
+        );
+        assert_eq!(short, Err(Refusal::ListTooShort));
+    }
+    let holding = holdings(&mut Random::new(0x0600), &SHAPES[0], 1)[0];
+    let book = Sheet::of(&vec![holding; 257], 0);
+    assert_eq!(answer(&book), Err(Refusal::TooManyHoldings));
+    let lines = with(|sheet| {
+        for column in [&mut sheet.long, &mut sheet.short, &mut sheet.amount] {
+            column.resize(513, 0);
+        }
+    });
+    assert_eq!(lines, Err(Refusal::TooManyLines));
+}
+
+#[test]
+fn every_refusal_of_a_holding() {
+    for number in [0, HOLDINGS / 2, HOLDINGS - 1] {
+        let (at, holding) = (number as usize, number);
+        let refusal = Err(Refusal::SideUnknown { holding });
+        assert_eq!(with(|sheet| sheet.side[at] = 2), refusal);
+        let refusal = Err(Refusal::KindUnknown { holding });
+        assert_eq!(with(|sheet| sheet.kind[at] = 3), refusal);
+        let refusal = Err(Refusal::IssuerUnknown { holding });
+        assert_eq!(with(|sheet| sheet.issuer[at] = 11), refusal);
+        let refusal = Err(Refusal::DaysOutOfRange { holding });
+        assert_eq!(with(|sheet| sheet.days[at] = 36_501), refusal);
+        let refusal = Err(Refusal::ValueOutOfRange { holding });
+        assert_eq!(with(|sheet| sheet.value[at] = 0), refusal);
+        let refusal = Err(Refusal::PriceTooHigh { holding });
+        assert_eq!(with(|sheet| sheet.price[at] = 43_801), refusal);
+    }
+}
+
+#[test]
+fn every_refusal_of_a_line() {
+    for number in [0, PAIRS / 2, PAIRS - 1] {
+        let (at, line) = (number as usize, number);
+        let refusal = Err(Refusal::NotInBook { line });
+        assert_eq!(with(|sheet| sheet.short[at] = HOLDINGS), refusal);
+        let refusal = Err(Refusal::WrongSide { line });
+        assert_eq!(with(|sheet| sheet.long[at] = PAIRS), refusal);
+        let refusal = Err(Refusal::PairNotAllowed { line });
+        assert_eq!(with(|sheet| sheet.long[at] = LONE_LONG), refusal);
+        let refusal = Err(Refusal::AmountZero { line });
+        assert_eq!(with(|sheet| sheet.amount[at] = 0), refusal);
+        let refusal = Err(Refusal::AmountAboveRemainder { line });
+        assert_eq!(with(|sheet| sheet.amount[at] = u64::MAX), refusal);
+    }
+}
+
+#[test]
+fn the_refusals_of_the_prices() {
+    let refusal = Err(Refusal::PairNotCovered {
+        long: 3,
+        short: PAIRS,
+    });
+    assert_eq!(with(|sheet| sheet.price[3] -= 1), refusal);
+    assert_eq!(
+        with(|sheet| sheet.price[13] += 1),
+        Err(Refusal::TotalsDiffer)
+    );
+}
+
+#[test]
+fn the_wrapper_is_the_raw_call() {
+    let mut run = Run::new("the wrapper is the raw call", 0x0601);
+    for shape in &SHAPES {
+        for size in [0, 1, 2, 7, 40] {
+            let mut sheet = best_sheet(&holdings(&mut run.random, shape, size));
+            if size > 0 && run.random.below(2) == 0 {
+                sheet.price[run.random.place(size)] ^= 1;
+            }
+            let left = run.compare(&Lent::of(&sheet), format_args!("{}", shape.name));
+            let (mut remainder, mut ranking) = (vec![0; size], vec![0; size]);
+            let answer = check(
+                &sheet.book(),
+                &sheet.proposal(),
+                &mut remainder,
+                &mut ranking,
+            );
+            match answer {
+                Ok(accepted) => {
+                    assert_eq!(
+                        (0, accepted.units, accepted.cents),
+                        parts(&left),
+                        "{sheet:?}"
+                    );
+                    assert_eq!(remainder, Left::entries(&left.remainder));
+                    assert_eq!(ranking, Left::entries(&left.ranking));
+                }
+                Err(refusal) => {
+                    let said = (refusal.number(), refusal.place(), refusal.second());
+                    assert_eq!(said, parts(&left), "{sheet:?}");
+                }
+            }
+        }
+    }
+}
+
+fn parts(left: &Left) -> (u64, u64, u64) {
+    let (first, second) = left.figures();
+    (left.number, first, second)
+}
+
+#[test]
+fn parts_and_back() {
+    for number in 0..=40 {
+        for place in [0, 1, 255, u64::MAX] {
+            for second in [0, 1, 255, u64::MAX] {
+                let has_place = matches!(number, 4..=8 | 10..=16);
+                let known = (1..=17).contains(&number)
+                    && (has_place || place == 0)
+                    && (number == 16 || second == 0);
+                let refusal = Refusal::from_parts(number, place, second);
+                assert_eq!(refusal.is_some(), known, "{number} {place} {second}");
+                if let Some(refusal) = refusal {
+                    let parts = (refusal.number(), refusal.place(), refusal.second());
+                    assert_eq!(parts, (number, place, second));
+                }
+            }
+        }
+    }
+    assert_eq!(Refusal::from_parts(u64::MAX, 0, 0), None);
+}
+
+/// Number, place and second place, and the sentence.
+const SENTENCES: [((u64, u64, u64), &str); 17] = [
+    (
+        (1, 0, 0),
+        "The columns of the holdings, the price column among them, must all have the same \
+         length in whole numbers, and so must the columns of the lines.",
+    ),
+    (
+        (2, 0, 0),
+        "A list lent for the results is too short: remainder and ranking need one entry \
+         for each holding, the answer 16 bytes.",
+    ),
+    ((3, 0, 0), "The book has more than 256 holdings."),
+    (
+        (4, 0, 0),
+        "Holding 0, counting from 0, has an unknown side: it must be 0 for long or 1 for \
+         short.",
+    ),
+    (
+        (5, 12, 0),
+        "Holding 12, counting from 0, has an unknown kind: it must be 0 for a bond, 1 for \
+         a stripped coupon or 2 for a residual.",
+    ),
+    (
+        (6, 1, 0),
+        "Holding 1, counting from 0, has an unknown issuer: it must be 0 for Canada or 1 \
+         to 10 for a province.",
+    ),
+    (
+        (7, 255, 0),
+        "Holding 255, counting from 0, has days to maturity outside 1 to 36,500.",
+    ),
+    (
+        (8, 3, 0),
+        "Holding 3, counting from 0, has a market value outside 1 to 100,000,000,000 \
+         cents.",
+    ),
+    ((9, 0, 0), "The proposal has more than 512 lines."),
+    (
+        (10, 4, 0),
+        "Holding 4, counting from 0, has a price outside 0 to 43,800.",
+    ),
+    (
+        (11, 0, 0),
+        "Line 0, counting from 0, names a holding that is not in the book.",
+    ),
+    (
+        (12, 511, 0),
+        "Line 511, counting from 0, must name a long holding first and a short holding \
+         second.",
+    ),
+    (
+        (13, 5, 0),
+        "Line 5, counting from 0, pairs two holdings that lie in different periods or are \
+         both bonds.",
+    ),
+    (
+        (14, 6, 0),
+        "Line 6, counting from 0, has amount 0, and the least is 1 cent.",
+    ),
+    (
+        (15, 7, 0),
+        "Line 7, counting from 0, has an amount above what the lines before it leave of \
+         one of its holdings.",
+    ),
+    (
+        (16, 0, 2),
+        "The prices of long holding 0 and short holding 2, counting from 0, add up to \
+         less than the saving rate of their pair.",
+    ),
+    (
+        (17, 0, 0),
+        "The priced total of the holdings differs from the saving of the lines, and the \
+         two must be equal.",
+    ),
+];
+
+#[test]
+fn every_refusal_in_one_sentence() {
+    for ((number, place, second), sentence) in SENTENCES {
+        let refusal = Refusal::from_parts(number, place, second).expect("a refusal");
+        let error: &dyn std::error::Error = &refusal;
+        assert_eq!(error.to_string(), sentence);
+    }
+}
