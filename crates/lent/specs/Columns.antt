@@ -62,12 +62,12 @@ submission c = record {
   lines = linesIn (c .long) (c .short) (c .amount);
 }
 
--- a book has the rows of its columns
+-- a book has the rows of its columns; what its array holds past the count is nobody's, and free
 pub record HoldsRows (side kind issuer days value : List ℕ) (r : Book) : Type 0 where
   pub count : r .count ≡ entries side
   pub rows : rowsOf r ≡ rowsIn side kind issuer days value
 
--- a proposal has the prices and the lines of its columns
+-- a proposal has the prices and the lines of its columns; its lines past the count are free in the same way
 pub record HoldsLines (price long short amount : List ℕ) (r : Proposal) : Type 0 where
   pub prices : r .prices ≡ front (decode price) (zeros 256)
   pub lines : linesOf r ≡ linesIn long short amount

@@ -12,7 +12,7 @@ use Rattle.lists.proofs.Tables.{length-to, getD-to}
 use Rattle.words.specs.Words.{number, digits, wordAt, withWord, entries, decode, encode}
 use Rattle.words.proofs.Laid.{length-digits, length-encode}
 
--- the digits of a number are its digits
+-- a number is that of its digits, where they are enough
 number-digits : (k v : ℕ) → v < 256 ^ k → number (digits k v) ≡ v
 unfolding number digits
 number-digits zero v h = omega arith
