@@ -86,8 +86,8 @@ pub fn check(
         });
     }
     match Refusal::from_parts(number, first, second) {
-        Some(refusal) => Err(refusal),
-        None => unreachable!(
+        Some(refusal) if number <= 17 => Err(refusal),
+        _ => unreachable!(
             "the check's contract is proved: it returns 0 to 17, and a place only where \
              the number has one"
         ),
@@ -109,7 +109,8 @@ pub(crate) fn columns<'a>(book: &Book<'a>, proposal: &Proposal<'a>) -> Columns<'
     }
 }
 
-fn halves(answer: &[u8; 16]) -> (u64, u64) {
+/// The two numbers of an answer.
+pub(crate) fn halves(answer: &[u8; 16]) -> (u64, u64) {
     let both = u128::from_le_bytes(*answer);
     (both as u64, (both >> 64) as u64)
 }
@@ -119,7 +120,7 @@ fn bytes(numbers: &[u64]) -> &[u8] {
     unsafe { std::slice::from_raw_parts(numbers.as_ptr().cast(), size_of_val(numbers)) }
 }
 
-fn bytes_mut(numbers: &mut [u64]) -> &mut [u8] {
+pub(crate) fn bytes_mut(numbers: &mut [u64]) -> &mut [u8] {
     // SAFETY: as in `bytes`, and borrowed alone; any eight bytes are a number.
     unsafe { std::slice::from_raw_parts_mut(numbers.as_mut_ptr().cast(), size_of_val(numbers)) }
 }

@@ -1,8 +1,9 @@
-//! The refusals of the check, in words.
+//! The refusals of the check and of the file's reader, in words.
 
 use std::fmt;
 
-/// Why a proposal was refused, with its place. Holdings and lines count from 0. Later numbers may follow.
+/// Why a file or a proposal was refused, with its place. Holdings, lines and records count from 0. Later
+/// numbers may follow.
 #[derive(Clone, Copy, Debug, PartialEq, Eq, Hash)]
 #[non_exhaustive]
 pub enum Refusal {
@@ -79,10 +80,33 @@ pub enum Refusal {
     },
     /// 17: the priced total differs from the saving.
     TotalsDiffer,
+    /// 18: a file of more than 65,536 bytes.
+    FileTooLong,
+    /// 19: quotes, line ends or characters outside the grammar of RFC 4180.
+    RecordIllFormed {
+        /// The record at fault.
+        record: u64,
+    },
+    /// 20: a record that has not seven fields.
+    NotSevenFields {
+        /// The record at fault.
+        record: u64,
+    },
+    /// 21: a field that is no value of its sort, one that must be empty and is not, or no known letter
+    /// at the beginning.
+    FieldNotOfItsSort {
+        /// The record at fault.
+        record: u64,
+    },
+    /// 22: a holding after a pair line.
+    HoldingAfterLine {
+        /// The record at fault.
+        record: u64,
+    },
 }
 
 impl Refusal {
-    /// The paper's number, 1 to 17.
+    /// The paper's number, 1 to 22.
     pub fn number(&self) -> u64 {
         match self {
             Refusal::ColumnsDiffer => 1,
@@ -102,17 +126,23 @@ impl Refusal {
             Refusal::AmountAboveRemainder { .. } => 15,
             Refusal::PairNotCovered { .. } => 16,
             Refusal::TotalsDiffer => 17,
+            Refusal::FileTooLong => 18,
+            Refusal::RecordIllFormed { .. } => 19,
+            Refusal::NotSevenFields { .. } => 20,
+            Refusal::FieldNotOfItsSort { .. } => 21,
+            Refusal::HoldingAfterLine { .. } => 22,
         }
     }
 
-    /// The place: the holding, the line or the long; 0 where there is none.
+    /// The place: the holding, the line, the long or the record; 0 where there is none.
     pub fn place(&self) -> u64 {
         match *self {
             Refusal::ColumnsDiffer
             | Refusal::ListTooShort
             | Refusal::TooManyHoldings
             | Refusal::TooManyLines
-            | Refusal::TotalsDiffer => 0,
+            | Refusal::TotalsDiffer
+            | Refusal::FileTooLong => 0,
             Refusal::SideUnknown { holding }
             | Refusal::KindUnknown { holding }
             | Refusal::IssuerUnknown { holding }
@@ -125,6 +155,10 @@ impl Refusal {
             | Refusal::AmountZero { line }
             | Refusal::AmountAboveRemainder { line } => line,
             Refusal::PairNotCovered { long, .. } => long,
+            Refusal::RecordIllFormed { record }
+            | Refusal::NotSevenFields { record }
+            | Refusal::FieldNotOfItsSort { record }
+            | Refusal::HoldingAfterLine { record } => record,
         }
     }
 
@@ -138,7 +172,7 @@ impl Refusal {
 
     /// The refusal with this number and these places, if there is one.
     pub fn from_parts(number: u64, place: u64, second: u64) -> Option<Refusal> {
-        let (holding, line) = (place, place);
+        let (holding, line, record) = (place, place, place);
         let refusal = match number {
             1 => Refusal::ColumnsDiffer,
             2 => Refusal::ListTooShort,
@@ -160,6 +194,11 @@ impl Refusal {
                 short: second,
             },
             17 => Refusal::TotalsDiffer,
+            18 => Refusal::FileTooLong,
+            19 => Refusal::RecordIllFormed { record },
+            20 => Refusal::NotSevenFields { record },
+            21 => Refusal::FieldNotOfItsSort { record },
+            22 => Refusal::HoldingAfterLine { record },
             _ => return None,
         };
         (refusal.place() == place && refusal.second() == second).then_some(refusal)
@@ -176,6 +215,7 @@ impl fmt::Display for Refusal {
                 f,
                 "The prices of long holding {place} and short holding {second}, counting from 0, {fault}."
             ),
+            19..=22 => write!(f, "Record {place}, counting from 0, {fault}."),
             _ => write!(f, "{fault}."),
         }
     }
@@ -190,8 +230,9 @@ impl Refusal {
                  length in whole numbers, and so must the columns of the lines"
             }
             Refusal::ListTooShort => {
-                "A list lent for the results is too short: remainder and ranking need one entry \
-                 for each holding, the answer 16 bytes"
+                "A list lent for the results is too short: remainder, ranking and the columns of \
+                 the holdings need one entry for each holding, the columns of the lines one for \
+                 each line, the answer 16 bytes"
             }
             Refusal::TooManyHoldings => "The book has more than 256 holdings",
             Refusal::SideUnknown { .. } => {
@@ -228,10 +269,26 @@ impl Refusal {
                 "has an amount above what the lines before it leave of one of its holdings"
             }
             Refusal::PairNotCovered { .. } => "add up to less than the saving rate of their pair",
-            _ => {
+            Refusal::TotalsDiffer => {
                 "The priced total of the holdings differs from the saving of the lines, \
                  and the two must be equal"
             }
+            _ => self.fault_of_the_file(),
+        }
+    }
+
+    fn fault_of_the_file(&self) -> &'static str {
+        match self {
+            Refusal::FileTooLong => "The file is longer than 65,536 bytes",
+            Refusal::RecordIllFormed { .. } => {
+                "has quotes, line ends or characters that the grammar of RFC 4180 does not allow"
+            }
+            Refusal::NotSevenFields { .. } => "does not have seven fields",
+            Refusal::FieldNotOfItsSort { .. } => {
+                "begins with neither H nor P, has a field that is no value of its sort, or fills \
+                 one that must be empty"
+            }
+            _ => "is a holding after a pair line, and all holdings must come before all lines",
         }
     }
 }

@@ -1,7 +1,11 @@
-//! Books made from a seed, for the tests and the benchmark.
+//! Books made from a seed and files of them, for the tests, the cases and the benchmark.
 
 use crate::calculator::optimise;
 use crate::{Holding, Line, Sheet};
+
+mod text;
+
+pub use text::{joined, quoted, records, text_of};
 
 /// SplitMix64: the same numbers from the same seed everywhere.
 #[derive(Clone, Debug)]

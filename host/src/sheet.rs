@@ -1,7 +1,7 @@
 //! A book and a proposal that own their columns.
 
-use crate::check::columns;
-use crate::raw::Columns;
+use crate::check::{bytes_mut, columns};
+use crate::raw::{Columns, ColumnsMut};
 use crate::{Book, Proposal};
 
 /// One holding, in the paper's numbers.
@@ -104,5 +104,50 @@ impl Sheet {
     /// All columns as bytes.
     pub fn columns(&self) -> Columns<'_> {
         columns(&self.book(), &self.proposal())
+    }
+
+    /// All columns as bytes to be written.
+    pub fn columns_mut(&mut self) -> ColumnsMut<'_> {
+        ColumnsMut {
+            side: bytes_mut(&mut self.side),
+            kind: bytes_mut(&mut self.kind),
+            issuer: bytes_mut(&mut self.issuer),
+            days: bytes_mut(&mut self.days),
+            value: bytes_mut(&mut self.value),
+            price: bytes_mut(&mut self.price),
+            long: bytes_mut(&mut self.long),
+            short: bytes_mut(&mut self.short),
+            amount: bytes_mut(&mut self.amount),
+        }
+    }
+
+    /// All columns in the order in which they are lent: six of the holdings, three of the lines.
+    pub fn lists(&self) -> [&Vec<u64>; 9] {
+        [
+            &self.side,
+            &self.kind,
+            &self.issuer,
+            &self.days,
+            &self.value,
+            &self.price,
+            &self.long,
+            &self.short,
+            &self.amount,
+        ]
+    }
+
+    /// All columns to be changed, in the same order.
+    pub fn lists_mut(&mut self) -> [&mut Vec<u64>; 9] {
+        [
+            &mut self.side,
+            &mut self.kind,
+            &mut self.issuer,
+            &mut self.days,
+            &mut self.value,
+            &mut self.price,
+            &mut self.long,
+            &mut self.short,
+            &mut self.amount,
+        ]
     }
 }

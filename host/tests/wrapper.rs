@@ -196,8 +196,8 @@ fn parts_and_back() {
     for number in 0..=40 {
         for place in [0, 1, 255, u64::MAX] {
             for second in [0, 1, 255, u64::MAX] {
-                let has_place = matches!(number, 4..=8 | 10..=16);
-                let known = (1..=17).contains(&number)
+                let has_place = matches!(number, 4..=8 | 10..=16 | 19..=22);
+                let known = (1..=22).contains(&number)
                     && (has_place || place == 0)
                     && (number == 16 || second == 0);
                 let refusal = Refusal::from_parts(number, place, second);
@@ -213,7 +213,7 @@ fn parts_and_back() {
 }
 
 /// Number, place and second place, and the sentence.
-const SENTENCES: [((u64, u64, u64), &str); 17] = [
+const SENTENCES: [((u64, u64, u64), &str); 22] = [
     (
         (1, 0, 0),
         "The columns of the holdings, the price column among them, must all have the same \
@@ -221,8 +221,9 @@ const SENTENCES: [((u64, u64, u64), &str); 17] = [
     ),
     (
         (2, 0, 0),
-        "A list lent for the results is too short: remainder and ranking need one entry \
-         for each holding, the answer 16 bytes.",
+        "A list lent for the results is too short: remainder, ranking and the columns of \
+         the holdings need one entry for each holding, the columns of the lines one for \
+         each line, the answer 16 bytes.",
     ),
     ((3, 0, 0), "The book has more than 256 holdings."),
     (
@@ -286,6 +287,26 @@ const SENTENCES: [((u64, u64, u64), &str); 17] = [
         (17, 0, 0),
         "The priced total of the holdings differs from the saving of the lines, and the \
          two must be equal.",
+    ),
+    ((18, 0, 0), "The file is longer than 65,536 bytes."),
+    (
+        (19, 8, 0),
+        "Record 8, counting from 0, has quotes, line ends or characters that the grammar \
+         of RFC 4180 does not allow.",
+    ),
+    (
+        (20, 0, 0),
+        "Record 0, counting from 0, does not have seven fields.",
+    ),
+    (
+        (21, 767, 0),
+        "Record 767, counting from 0, begins with neither H nor P, has a field that is no \
+         value of its sort, or fills one that must be empty.",
+    ),
+    (
+        (22, 2, 0),
+        "Record 2, counting from 0, is a holding after a pair line, and all holdings must \
+         come before all lines.",
     ),
 ];
 

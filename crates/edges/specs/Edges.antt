@@ -1,11 +1,14 @@
--- Document 01, "Edges" and "Shortcuts that cost margin or hide it": the worked cases in one table, from raw numbers on. Assumes nothing.
+-- Document 01, "Edges" and "Shortcuts that cost margin or hide it": the worked cases in one table, from raw numbers on, and the file's
+-- from its bytes to the bytes that are printed. Assumes nothing.
 use mathlib.Core.Path.{_≡_}
 use mathlib.Core.Bool.{Bool, true, false, cond, not}
 use mathlib.Core.List.{List, [], _∷_, _++_}
 use Prim.Native.Nat.{ℕ}
 use lib.Dec.{eqb}
 use lib.ListN.{replicate}
+use Prim.Native.String.{String}
 use Rattle.lists.specs.Choice.{firstOf}
+use Rattle.lists.specs.Texts.{ascii}
 use Rattle.holding.specs.Holding.{faultOf, holdingOf}
 use Rattle.holding.specs.declared.Row.{Row}
 use Rattle.article.specs.Rate.{rateOf}
@@ -14,6 +17,7 @@ use Rattle.pairing.specs.declared.Line.{Line}
 use Rattle.proposal.specs.Submission.{Submission, bookOf, priced}
 use Rattle.proposal.specs.Figures.{remainder, margin, unitsOf, remaindersOf, ranked, centsOf}
 use Rattle.proposal.specs.Outcome.{outcome}
+use Rattle.printing.specs.Printed.{printed}
 
 -- a case: what is computed, and what document 01 says of it
 pub record Case : Type 0 where
@@ -72,6 +76,9 @@ lent one two rows lines told = record { computed = judged one two rows [] lines;
 
 abbrev figures : List Row → List Line → List ℕ → Case
 figures rows lines told = record { computed = worked rows lines; stated = told }
+
+abbrev prints : String → String → Case
+prints text told = record { computed = printed (ascii text); stated = ascii told }
 
 -- long, short, amount
 abbrev line : ℕ → ℕ → ℕ → Line
@@ -186,7 +193,35 @@ table =
     ∷ proposal file (0 ∷ 5840 ∷ 6570 ∷ []) (file-lines 600000) (0 ∷ 3285000000 ∷ 22500 ∷ 100000 ∷ 0 ∷ 0 ∷ 0 ∷ 1 ∷ 2 ∷ [])
     -- its line R,0,100000,438000000
     ∷ figures file (file-lines 600000) (3285000000 ∷ 22500 ∷ 100000 ∷ 438000000 ∷ [])
+    -- the file from its bytes to the bytes that are printed; the last CRLF is optional, and a quoted field is its text
+    ∷ prints
+    "H,L,C,CA,2000,1000000,0\r\nH,S,B,CA,2000,600000,5840\r\nH,S,R,ON,2000,300000,6570\r\nP,0,1,600000,,,\r\nP,0,2,300000,,,\r\n"
+    "M,3285000000,22500\r\nR,0,100000,438000000\r\nR,1,0,0\r\nR,2,0,0\r\n"
+    ∷ prints
+    "H,\"L\",C,CA,2000,1000000,0\r\nH,S,B,CA,2000,600000,5840\r\nH,S,R,ON,2000,300000,6570\r\nP,0,1,600000,,,\r\nP,0,2,300000,\"\",,"
+    "M,3285000000,22500\r\nR,0,100000,438000000\r\nR,1,0,0\r\nR,2,0,0\r\n"
     -- third price 6,569: 16 at 0, 2. First price 1: 17. First amount 600,001: 15
+    ∷ prints
+    "H,L,C,CA,2000,1000000,0\r\nH,S,B,CA,2000,600000,5840\r\nH,S,R,ON,2000,300000,6569\r\nP,0,1,600000,,,\r\nP,0,2,300000,,,\r\n"
+    "X,16,0,2\r\n"
+    ∷ prints
+    "H,L,C,CA,2000,1000000,1\r\nH,S,B,CA,2000,600000,5840\r\nH,S,R,ON,2000,300000,6570\r\nP,0,1,600000,,,\r\nP,0,2,300000,,,\r\n"
+    "X,17,0,0\r\n"
+    ∷ prints
+    "H,L,C,CA,2000,1000000,0\r\nH,S,B,CA,2000,600000,5840\r\nH,S,R,ON,2000,300000,6570\r\nP,0,1,600001,,,\r\nP,0,2,300000,,,\r\n"
+    "X,15,0,0\r\n"
+    -- 0 or 36,501 days: 7. Value 100,000,000,001: 8
+    ∷ prints "H,L,R,ON,0,100,0\r\n" "X,7,0,0\r\n"
+    ∷ prints "H,L,R,ON,36501,100,0\r\n" "X,7,0,0\r\n"
+    ∷ prints "H,L,B,CA,1,100000000001,0\r\n" "X,8,0,0\r\n"
+    -- an empty file is the empty book, for which M,0,0 is printed alone; a lone CRLF is a record of one field
+    ∷ prints "" "M,0,0\r\n"
+    ∷ prints "\r\n" "X,20,0,0\r\n"
+    -- 19 a bare line feed; 21 a leading zero; 22 H after P, each at its record
+    ∷ prints "H,L,B,CA,1,1,0\r\nH,L,B,CA,1,1,0\n" "X,19,1,0\r\n"
+    ∷ prints "H,L,B,CA,1,1,0\r\nH,L,B,CA,01,1,0\r\n" "X,21,1,0\r\n"
+    ∷ prints "H,L,B,CA,1,1,0\r\nP,0,0,1,,,\r\nH,L,B,CA,1,1,0\r\n" "X,22,2,0\r\n"
+    -- the same three from the numbers
     ∷ proposal file (0 ∷ 5840 ∷ 6569 ∷ []) (file-lines 600000) (16 ∷ 0 ∷ 2 ∷ [])
     ∷ proposal file (1 ∷ 5840 ∷ 6570 ∷ []) (file-lines 600000) (17 ∷ 0 ∷ 0 ∷ [])
     ∷ proposal file (0 ∷ 5840 ∷ 6570 ∷ []) (file-lines 600001) (15 ∷ 0 ∷ 0 ∷ [])

@@ -1,4 +1,4 @@
-// The figures of a proposal: total units and cents, and the ranking by margin of the remainder.
+// The figures of a proposal: total units and cents, each holding's margin of the remainder, and the ranking by it.
 use positions::Positions;
 use tally::Tally;
 ghost use mathlib.Core.Path.{_≡_};
@@ -11,11 +11,12 @@ ghost use Rattle.tally.specs.Tally.{Bounded};
 ghost use Rattle.positions.specs.Positions.{heldBook, InBounds};
 ghost use Rattle.figures.specs.Totals.{leftMargin, Totals};
 
-// Total units, total cents, and the ranking at the front of zeros.
+// Total units, total cents, the ranking at the front of zeros, and the margin of what is left of each holding.
 pub struct Figures {
     pub units: u64,
     pub cents: u64,
     pub ranking: [u64; 256],
+    pub margins: [u64; 256],
 }
 
 // The margin of what is left of each holding.
@@ -69,5 +70,6 @@ pub fn work_out(positions: Positions, tally: Tally) -> Figures
         units,
         cents: cents_of(units),
         ranking: ranking::rank(margins, count),
+        margins,
     }
 }

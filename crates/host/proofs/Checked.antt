@@ -7,20 +7,17 @@ use lib.Dec.{eqb}
 use lib.ListN.{length, take, drop}
 use lib.Seq.{take-at}
 use Rattle.lists.specs.Tables.{front, zeros}
-use Rattle.lists.proofs.Order.{ordered-length}
 use Rattle.lists.proofs.Tables.{length-to}
 use Rattle.article.specs.Answer.{Answer, answer}
-use Rattle.ranking.specs.Ranking.{ranksBefore, rankingOf}
-use Rattle.ranking.proofs.Ranking.{ranking}
 use Rattle.proposal.specs.Submission.{bookOf, submitted, priced}
-use Rattle.proposal.specs.Figures.{remainder, margin, remaindersOf, ranked}
+use Rattle.proposal.specs.Figures.{remainder, remaindersOf, ranked}
 use Rattle.proposal.specs.Outcome.{outcome}
 use Rattle.proposal.specs.declared.Book.{Book}
 use Rattle.proposal.specs.declared.Proposal.{Proposal}
 use Rattle.verdict.specs.Judges.{verdictOf, written, Judges}
 use Rattle.verdict.specs.declared.Verdict.the-variants.{Accepted, Refused}
 use Rattle.verdict.specs.declared.Judgement.{Judgement}
-use Rattle.verdict.proofs.Judged.{written-none, all-ranked}
+use Rattle.verdict.proofs.Judged.{written-none, ranked-length, all-ranked}
 use Rattle.words.specs.Words.{encode}
 use Rattle.lent.specs.Columns.{Columns, submission, HoldsRows, HoldsLines}
 use Rattle.sizes.specs.Sizes.{differ, tooShort, lengthFault}
@@ -52,10 +49,6 @@ module _ (c : Columns) where
   remainders-length : length (remaindersOf (priced (submission c)) (submission c .lines)) ≡ length (c .side) / 8
   unfolding remaindersOf
   remainders-length = length-to (priced (submission c) .count) (remainder (priced (submission c)) (submission c .lines)) ∙ count-read
-
-  ranked-length : length (ranked (priced (submission c)) (submission c .lines)) ≡ length (c .side) / 8
-  unfolding ranked rankingOf
-  ranked-length = ordered-length (ranksBefore (margin (priced (submission c)) (submission c .lines))) (priced (submission c) .count) ∙ count-read
 
   module _ (before : Lent) where
     -- what is told of the outcome, and the two lists, are all that is promised
@@ -99,7 +92,7 @@ module _ (c : Columns) where
         let left : take (countWritten (j .verdict) n) (j .remainders) ≡ written (outcomeOf c before) (remaindersOf (priced (submission c)) (submission c .lines)) =
         rw (judged .verdict, judged .remainders, o) (published-list (outcome false false (submission c)) n _ remainders-length) in
         let order : take (countWritten (j .verdict) n) (j .ranking) ≡ written (outcomeOf c before) (ranked (priced (submission c)) (submission c .lines)) =
-        rw (judged .verdict, judged .ranking, o) (published-list (outcome false false (submission c)) n _ ranked-length) in
+        rw (judged .verdict, judged .ranking, o) (published-list (outcome false false (submission c)) n _ (ranked-length (submission c) ∙ count-read)) in
         told-all remainder′ ranking′ out′ r (rw (o, ← judged .answer) (p .tells))
         (p .remainder ∙ ap (λ (ys : List ℕ). front (encode ys) (before .remainder)) left)
         (p .ranking ∙ ap (λ (ys : List ℕ). front (encode ys) (before .ranking)) order)

@@ -1,7 +1,9 @@
-// The check for the desk's Rust host: columns and lent lists as byte slices.
+// The reader and the check for the desk's Rust host: columns and lent lists as byte slices.
 ghost use Rattle.lent.specs.Columns.{columns};
 ghost use Rattle.lent.specs.Lists.{lent};
+ghost use Rattle.columns.specs.Columns.{bookColumns, lineColumns};
 ghost use Rattle.host.specs.Boundary.{Checks};
+ghost use Rattle.host.specs.Reading.{Reads};
 
 // The check of a proposal, for the host: returns the refusal number, 0 for accepted. Nothing is presumed of the bytes or the lengths; that a
 // pointer leads to its bytes, and that no other refers to a list meanwhile, is what a slice means, and the host's borrow sees to it.
@@ -43,4 +45,51 @@ pub extern "C" fn margin_check(
     let proposal = lent::proposal_of(price, long, short, amount);
     let judgement = verdict::check(book, proposal);
     lent::publish(judgement, side.len() / 8, remainder, ranking, answer)
+}
+
+// Reads a file into the columns, for the host: returns the refusal number, 0 for none. Nothing is presumed of the text, the bytes or the lengths.
+#[no_mangle]
+pub extern "C" fn margin_read(
+    text: &[u8],
+    side: &mut [u8],
+    kind: &mut [u8],
+    issuer: &mut [u8],
+    days: &mut [u8],
+    value: &mut [u8],
+    price: &mut [u8],
+    long: &mut [u8],
+    short: &mut [u8],
+    amount: &mut [u8],
+    answer: &mut [u8],
+) -> u64
+    ensures { λ r. ⌜ Reads (now (text .entry)) (bookColumns (now (side .entry)) (now (kind .entry)) (now (issuer .entry)) (now (days .entry)) (now (value .entry)) (now (price .entry))) (bookColumns (now (side .exit)) (now (kind .exit)) (now (issuer .exit)) (now (days .exit)) (now (value .exit)) (now (price .exit))) (lineColumns (now (long .entry)) (now (short .entry)) (now (amount .entry))) (lineColumns (now (long .exit)) (now (short .exit)) (now (amount .exit))) (now (answer .entry)) (now (answer .exit)) r ⌝ }
+{
+    let draft = reader::read(text);
+    let refusal = draft.number;
+    if refusal != 0 {
+        return lent::tell(refusal, draft.place, 0, answer);
+    }
+    let book = draft.book;
+    let proposal = draft.proposal;
+    let holdings = book.count;
+    let lines = proposal.count;
+    if sizes::too_short(
+        holdings,
+        lines,
+        side.len(),
+        kind.len(),
+        issuer.len(),
+        days.len(),
+        value.len(),
+        price.len(),
+        long.len(),
+        short.len(),
+        amount.len(),
+        answer.len(),
+    ) {
+        return lent::tell(2, 0, 0, answer);
+    }
+    columns::lay_book(book, proposal, side, kind, issuer, days, value, price);
+    columns::lay_proposal(proposal, long, short, amount);
+    lent::tell(0, holdings as u64, lines as u64, answer)
 }

@@ -7,28 +7,13 @@ use verdict::Judgement;
 use verdict::Verdict;
 ghost use mathlib.Core.Path.{_≡_};
 ghost use Prim.Native.Nat.{_/_, _≤_};
-ghost use lib.ListN.{length, replicate};
+ghost use lib.ListN.{length};
 ghost use Rattle.lists.specs.Tables.{front, zeros};
 ghost use Rattle.article.specs.Answer.{answer};
-ghost use Rattle.proposal.specs.Submission.{noRow, noLine};
 ghost use Rattle.words.specs.Words.{decode};
 ghost use Rattle.sizes.specs.Sizes.{BookFits, ProposalFits, ListsFit};
 ghost use Rattle.lent.specs.Columns.{HoldsRows, HoldsLines};
 ghost use Rattle.lent.specs.Lists.{lent, Tells, countWritten, Publishes};
-
-// No row at any number.
-fn no_rows() -> [Row; 256]
-    ensures { λ r. ⌜ r ≡ replicate 256 noRow ⌝ }
-{
-    let row = Row {
-        side: 0,
-        kind: 0,
-        issuer: 0,
-        days: 0,
-        value: 0,
-    };
-    [row; 256]
-}
 
 // The book of its columns.
 pub fn book_of(side: &[u8], kind: &[u8], issuer: &[u8], days: &[u8], value: &[u8]) -> Book
@@ -36,7 +21,7 @@ pub fn book_of(side: &[u8], kind: &[u8], issuer: &[u8], days: &[u8], value: &[u8
     ensures { λ r. ⌜ HoldsRows (now (side .entry)) (now (kind .entry)) (now (issuer .entry)) (now (days .entry)) (now (value .entry)) r ⌝ }
 {
     let count = side.len() / 8;
-    let mut rows = no_rows();
+    let mut rows = proposal::no_rows();
     let mut i: usize = 0;
     while i < count {
         rows[i] = Row {
@@ -66,25 +51,13 @@ fn prices_of(price: &[u8]) -> [u64; 256]
     prices
 }
 
-// No line at any number.
-fn no_lines() -> [Line; 512]
-    ensures { λ r. ⌜ r ≡ replicate 512 noLine ⌝ }
-{
-    let line = Line {
-        long: 0,
-        short: 0,
-        amount: 0,
-    };
-    [line; 512]
-}
-
 // The proposal of its columns.
 pub fn proposal_of(price: &[u8], long: &[u8], short: &[u8], amount: &[u8]) -> Proposal
     requires { ⌜ ProposalFits (length (now price)) (length (now long)) (length (now short)) (length (now amount)) ⌝ }
     ensures { λ r. ⌜ HoldsLines (now (price .entry)) (now (long .entry)) (now (short .entry)) (now (amount .entry)) r ⌝ }
 {
     let count = long.len() / 8;
-    let mut lines = no_lines();
+    let mut lines = proposal::no_lines();
     let mut i: usize = 0;
     while i < count {
         lines[i] = Line {

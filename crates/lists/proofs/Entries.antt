@@ -1,12 +1,13 @@
 -- What holds of every entry of a list: at each place, and from one computed test. Assumes nothing.
-use mathlib.Core.Path.{_≡_, refl}
+use mathlib.Core.Path.{_≡_, refl, sym, _∙_}
 use mathlib.Core.Bool.{Bool, true, false, _&&_, and-eq-true-iff, false≢true}
-use mathlib.Core.List.{List, [], _∷_}
+use mathlib.Core.List.{List, [], _∷_, _++_}
 use Prim.Native.Nat.{ℕ, zero, suc, _≤_, _<_}
 use native.Mathlib.Omega.{arith}
 use lib.Dec.{leb, eqb}
 use lib.ListN.{length, getD}
-use borrow.Author.Tests.{leb-true, eqb-true}
+use borrow.Author.Tests.{leb-true, eq-eqb, eqb-true}
+use Rattle.lists.specs.Choice.{same}
 use Rattle.lists.specs.Each.{Each}
 
 abbrev pub every : {A : Type 0} → (A → Bool) → List A → Bool
@@ -24,6 +25,10 @@ each-by P test f (x ∷ xs) e =
 pub each-so : {A : Type 0} (P Q : A → Type 0) → ((x : A) → P x → Q x) → (xs : List A) → Each P xs → Each Q xs
 each-so P Q f [] h = tt
 each-so P Q f (x ∷ xs) h = (f x (h .0), each-so P Q f xs (h .1))
+
+pub each-append : {A : Type 0} (P : A → Type 0) (xs ys : List A) → Each P xs → Each P ys → Each P (xs ++ ys)
+each-append P [] ys g h = h
+each-append P (x ∷ xs) ys g h = (g .0, each-append P xs ys (g .1) h)
 
 -- what holds of every entry holds of the one at a place, and back
 module _ {A : Type 0} (P : A → Type 0) (d : A) where
@@ -45,17 +50,38 @@ bounded m l e i = at l (each-by (_≤ m) (λ x. leb x m) (λ x. leb-true x m) l 
     at (x ∷ xs) h zero = h .0
     at (x ∷ xs) h (suc i) = at xs (h .1) i
 
--- two lists of numbers, entry by entry
-abbrev pub same : List ℕ → List ℕ → Bool
-same [] [] = true
-same [] (y ∷ ys) = false
-same (x ∷ xs) [] = false
-same (x ∷ xs) (y ∷ ys) = eqb x y && same xs ys
-
+-- two lists of numbers that pass the test are one, and one list passes it
 pub same-true : (xs ys : List ℕ) → same xs ys ≡ true → xs ≡ ys
+unfolding same
 same-true [] [] e = refl
 same-true [] (y ∷ ys) e = absurd (false≢true e)
 same-true (x ∷ xs) [] e = absurd (false≢true e)
 same-true (x ∷ xs) (y ∷ ys) e =
     let (a, b) = and-eq-true-iff (eqb x y) (same xs ys) .0 e in
     λ i. eqb-true x y a i ∷ same-true xs ys b i
+
+pub same-refl : (xs : List ℕ) → same xs xs ≡ true
+unfolding same
+same-refl [] = refl
+same-refl (x ∷ xs) = rw (eq-eqb x x refl) (same-refl xs)
+
+pub eq-same : (xs ys : List ℕ) → xs ≡ ys → same xs ys ≡ true
+eq-same xs ys e = rw e (same-refl ys)
+
+pub ne-same : (xs ys : List ℕ) → (xs ≡ ys → ⊥) → same xs ys ≡ false
+ne-same xs ys n = by (same xs ys) refl
+  where
+    by : (t : Bool) → same xs ys ≡ t → same xs ys ≡ false
+    by true e = absurd (n (same-true xs ys e))
+    by false e = e
+
+pub same-false : (xs ys : List ℕ) → same xs ys ≡ false → xs ≡ ys → ⊥
+same-false xs ys e s = false≢true (sym e ∙ eq-same xs ys s)
+
+-- two lists of numbers are one, or not
+pub one-or-not : {P : Type 0} (xs ys : List ℕ) → (xs ≡ ys → P) → ((xs ≡ ys → ⊥) → P) → P
+one-or-not {P} xs ys p q = by (same xs ys) refl
+  where
+    by : (t : Bool) → same xs ys ≡ t → P
+    by true e = p (same-true xs ys e)
+    by false e = q (same-false xs ys e)

@@ -9,6 +9,7 @@ use mathlib.Core.Logic.{⊎-elim}
 use Rattle.lists.specs.Choice.{firstOf}
 use Rattle.lists.specs.Each.{Each}
 use Rattle.lists.specs.Tables.{turns, inTurn}
+use Rattle.lists.proofs.Entries.{each-append}
 
 -- no test of the list holds
 abbrev pub None : {A : Type 0} → List (Bool × A) → Type 0
@@ -28,8 +29,7 @@ module _ {A : Type 0} where
   first-of-none (x ∷ xs) z h = rw (h .0) (first-of-none xs z (h .1))
 
   pub none-append : (xs ys : List (Bool × A)) → None xs → None ys → None (xs ++ ys)
-  none-append [] ys g h = h
-  none-append (x ∷ xs) ys g h = (g .0, none-append xs ys (g .1) h)
+  none-append xs ys g h = each-append (λ (f : Bool × A). f .0 ≡ false) xs ys g h
 
   pub append-none : (xs ys : List (Bool × A)) → None (xs ++ ys) → None xs × None ys
   append-none [] ys h = (tt, h)
@@ -86,8 +86,7 @@ module _ {A : Type 0} (number : A → ℕ) where
   Numbered fs = Each (λ (f : Bool × A). 1 ≤ number (f .1)) fs
 
   pub numbered-append : (xs ys : List (Bool × A)) → Numbered xs → Numbered ys → Numbered (xs ++ ys)
-  numbered-append [] ys g h = h
-  numbered-append (x ∷ xs) ys g h = (g .0, numbered-append xs ys (g .1) h)
+  numbered-append xs ys g h = each-append (λ (f : Bool × A). 1 ≤ number (f .1)) xs ys g h
 
   pub numbered-turns : (f : ℕ → List (Bool × A)) → ((k : ℕ) → Numbered (f k)) → (i k : ℕ) → Numbered (turns i k f)
   unfolding turns

@@ -1,12 +1,19 @@
--- Tests on numbers and lists of tests. Assumes nothing.
+-- Tests on numbers and on lists of them, and lists of tests. Assumes nothing.
 use Prim.Native.Nat.{ℕ, _+_}
-use mathlib.Core.Bool.{Bool, cond, _&&_}
+use mathlib.Core.Bool.{Bool, true, false, cond, _&&_}
 use mathlib.Core.List.{List, [], _∷_}
-use lib.Dec.{leb}
+use lib.Dec.{leb, eqb}
 
 -- low to high, both ends inside
 unfoldable pub within : ℕ → ℕ → ℕ → Bool
 within low high x = leb low x && leb x high
+
+-- two lists of numbers, entry by entry
+unfoldable pub same : List ℕ → List ℕ → Bool
+same [] [] = true
+same [] (y ∷ ys) = false
+same (x ∷ xs) [] = false
+same (x ∷ xs) (y ∷ ys) = eqb x y && same xs ys
 
 -- the answer beside the first test that holds, or the last answer where none does
 unfoldable pub firstOf : {A : Type 0} → List (Bool × A) → A → A

@@ -3,3 +3,4 @@ pub mod Each
 pub mod Sums
 pub mod Tables
 pub mod Order
+pub mod Texts

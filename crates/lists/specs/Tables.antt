@@ -1,7 +1,7 @@
--- Lists by index, lists one after another, and a list written at the front of another. Assumes nothing.
+-- Lists by index, lists one after another, and a list written into another. Assumes nothing.
 use mathlib.Core.List.{List, [], _∷_, _++_}
 use Prim.Native.Nat.{ℕ, zero, suc}
-use lib.ListN.{length, drop, replicate}
+use lib.ListN.{length, take, drop, replicate}
 
 -- f 0, f 1, .. , f (n - 1)
 unfoldable pub listTo : {A : Type 0} → ℕ → (ℕ → A) → List A
@@ -20,6 +20,10 @@ inTurn n f = turns 0 n f
 -- written over the first entries of what was there, the others kept
 unfoldable pub front : {A : Type 0} → List A → List A → List A
 front xs old = xs ++ drop (length xs) old
+
+-- written into a list from a place on, the others kept
+unfoldable pub over : {A : Type 0} → ℕ → List A → List A → List A
+over at xs old = take at old ++ front xs (drop at old)
 
 -- n zeros
 unfoldable pub zeros : ℕ → List ℕ

@@ -32,6 +32,10 @@ module _ (b : PricedBook) (lines : List Line) where
   unfoldable pub remaindersOf : List ℕ
   remaindersOf = listTo (b .count) remainder
 
+  -- each holding's margin of the remainder
+  unfoldable pub marginsOf : List ℕ
+  marginsOf = listTo (b .count) margin
+
   -- the ranking: holding numbers by margin of the remainder, largest first, ties by lower number
   unfoldable pub ranked : List ℕ
   ranked = rankingOf margin (b .count)

@@ -1,6 +1,9 @@
 // A book, a proposal on it, and what is found of them.
 use holding::Row;
 use pairing::Line;
+ghost use mathlib.Core.Path.{_≡_};
+ghost use lib.ListN.{replicate};
+ghost use Rattle.proposal.specs.Submission.{noRow, noLine};
 
 // The first `count` rows are the book's holdings, numbered from 0. A book of more than 256 is refused.
 pub struct Book {
@@ -20,4 +23,30 @@ pub struct Fault {
     pub number: u64,
     pub place: u64,
     pub second: u64,
+}
+
+// No row at any number.
+pub fn no_rows() -> [Row; 256]
+    ensures { λ r. ⌜ r ≡ replicate 256 noRow ⌝ }
+{
+    let row = Row {
+        side: 0,
+        kind: 0,
+        issuer: 0,
+        days: 0,
+        value: 0,
+    };
+    [row; 256]
+}
+
+// No line at any number.
+pub fn no_lines() -> [Line; 512]
+    ensures { λ r. ⌜ r ≡ replicate 512 noLine ⌝ }
+{
+    let line = Line {
+        long: 0,
+        short: 0,
+        amount: 0,
+    };
+    [line; 512]
 }

@@ -1,5 +1,6 @@
 // The byte lengths of what the host lends.
 ghost use mathlib.Core.Path.{_≡_};
+ghost use Rattle.sizes.specs.Room.{room, tooShort};
 ghost use Rattle.sizes.specs.Sizes.{sizes, lengthFault};
 
 // The refusal by the lengths of what is lent, in document 01's order 1, 3, 9, 2, or 0.
@@ -45,4 +46,33 @@ pub fn lengths(
         return 2;
     }
     0
+}
+
+// Whether a list that the reader fills is shorter than what must be written: an entry for each holding, or each line, and the answer slice's 16 bytes.
+pub fn too_short(
+    holdings: usize,
+    lines: usize,
+    side: usize,
+    kind: usize,
+    issuer: usize,
+    days: usize,
+    value: usize,
+    price: usize,
+    long: usize,
+    short: usize,
+    amount: usize,
+    answer: usize,
+) -> bool
+    ensures { λ r. ⌜ r ≡ tooShort holdings lines (room side kind issuer days value price long short amount answer) ⌝ }
+{
+    (side / 8 < holdings)
+        | (kind / 8 < holdings)
+        | (issuer / 8 < holdings)
+        | (days / 8 < holdings)
+        | (value / 8 < holdings)
+        | (price / 8 < holdings)
+        | (long / 8 < lines)
+        | (short / 8 < lines)
+        | (amount / 8 < lines)
+        | (answer < 16)
 }

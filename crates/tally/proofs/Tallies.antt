@@ -11,7 +11,7 @@ use Rattle.lists.specs.Tables.{listTo}
 use Rattle.lists.proofs.Tests.{by-end}
 use Rattle.lists.proofs.Sums.{sumOf-more}
 use Rattle.lists.proofs.Tables.{length-to, getD-to, getD-past, to-eq}
-use Rattle.article.specs.Pair.{pairRate, savingRate}
+use Rattle.article.specs.Pair.{pairRate}
 use Rattle.pairing.specs.Pairing as pairing
 use Rattle.pairing.specs.declared.Line.{Line}
 use Rattle.pairing.proofs.Used.{used-append}

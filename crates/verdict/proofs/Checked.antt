@@ -7,7 +7,7 @@ use lib.ListN.{length}
 use borrow.Author.Tests.{eq-eqb}
 use Rattle.lists.specs.Choice.{firstOf}
 use Rattle.lists.specs.Sums.{sumTo}
-use Rattle.lists.specs.Tables.{front, zeros}
+use Rattle.lists.specs.Tables.{listTo, front, zeros}
 use Rattle.lists.proofs.Tables.{getD-every}
 use Rattle.article.specs.Answer.{Answer}
 use Rattle.ranking.specs.Ranking.{rankingOf}
@@ -175,9 +175,10 @@ module _ (book : Book) (proposal : Proposal) where
     ranking-found = rw (margins-found, same-book)
 
     pub all-judged : {f : Figures} → total ≡ t .saving → Totals (heldBook p) t f
-        → Judges s (record { verdict = Accepted (f .units) (f .cents); remainders = t .left; ranking = f .ranking })
+        → Judges s (record { verdict = Accepted (f .units) (f .cents); remainders = t .left; ranking = f .ranking; margins = f .margins })
     unfolding tallyOf
     all-judged {f} e totals =
-        figures-judged s (f .units) (f .cents) (t .left) (f .ranking) (covered .tallied .held .few)
+        figures-judged s (f .units) (f .cents) (t .left) (f .ranking) (f .margins) (covered .tallied .held .few)
         (totals-equal (priced s) (s .lines) _ figures (covered .next) (sym total-found ∙ e ∙ saving-found))
         (totals .units ∙ units-found) (totals .cents) (ap (λ (x : Tally). x .left) same-tally) (totals .ranking ∙ ranking-found)
+        (totals .margins ∙ ap (listTo 256) margins-found)

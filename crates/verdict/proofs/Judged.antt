@@ -4,16 +4,17 @@ use mathlib.Core.Bool.{false}
 use mathlib.Core.List.{List, []}
 use Prim.Native.Nat.{ℕ, _≤_}
 use native.Mathlib.Omega.{arith}
-use lib.ListN.{getD, List·getD-eq-default}
+use lib.ListN.{length, getD, List·getD-eq-default}
 use borrow.Author.Tests.{ne-eqb}
 use Rattle.lists.specs.Tables.{listTo, front, zeros}
+use Rattle.lists.proofs.Order.{ordered-length}
 use Rattle.lists.proofs.Tables.{length-to, getD-every, front-of-zeros}
 use Rattle.article.specs.Answer.{Answer, answer}
 use Rattle.holding.specs.declared.Row.{Row}
-use Rattle.ranking.specs.Ranking.{Ranks}
+use Rattle.ranking.specs.Ranking.{Ranks, ranksBefore, rankingOf}
 use Rattle.ranking.proofs.Ranking.{ranking}
 use Rattle.proposal.specs.Submission.{Submission, bookOf, priced, noRow}
-use Rattle.proposal.specs.Figures.{remainder, margin, unitsOf, remaindersOf, ranked, centsOf, RoundedUp}
+use Rattle.proposal.specs.Figures.{remainder, margin, unitsOf, remaindersOf, marginsOf, ranked, centsOf, RoundedUp}
 use Rattle.proposal.specs.Outcome.{answerOf, accepted, outcome}
 use Rattle.proposal.specs.declared.Fault.{Fault}
 use Rattle.proposal.proofs.Demands.{demands}
@@ -32,6 +33,10 @@ module _ (s : Submission) where
   unfolding front
   nothing-written xs h = rw (written-none (outcome false false s) xs h)
 
+  pub ranked-length : length (ranked (priced s) (s .lines)) ≡ priced s .count
+  unfolding ranked rankingOf
+  ranked-length = ordered-length (ranksBefore (margin (priced s) (s .lines))) (priced s .count)
+
   -- the ranking has every holding once, in order
   pub all-ranked : Ranks (margin (priced s) (s .lines)) (priced s .count) (ranked (priced s) (s .lines))
   unfolding ranked
@@ -45,6 +50,7 @@ module _ (s : Submission) where
         answer = sym e;
         verdict = rw (e, ne-eqb (f .number) 0 h);
         remainders = nothing-written _ refused;
+        margins = nothing-written _ refused;
         ranking = nothing-written _ refused;
         ranks = all-ranked;
         demands = rw (← e) (demands false false s);
@@ -57,26 +63,29 @@ module _ (s : Submission) where
       let none : getD (s .rows) k noRow .value ≡ 0 = ap (λ (r : Row). r .value) (List·getD-eq-default (s .rows) noRow {n = k} h) in
       omega (arith, value-at s k, none)
 
-  -- the remainders of 256 numbers are those of the book, at the front of zeros
-  all-remainders : priced s .count ≤ 256 → listTo 256 (remainder (priced s) (s .lines)) ≡ front (remaindersOf (priced s) (s .lines)) (zeros 256)
-  unfolding remaindersOf
-  all-remainders h =
-      let n = priced s .count in
-      let f = remainder (priced s) (s .lines) in
-      front-of-zeros 256 (listTo n f) (listTo 256 f) (length-to 256 f) (rw (length-to n f) h)
-      (λ k. getD-every 256 f 0 (λ j q. nothing-past j (omega arith)) k ∙ sym (getD-every n f 0 nothing-past k))
+  pub margin-past : (k : ℕ) → priced s .count ≤ k → margin (priced s) (s .lines) k ≡ 0
+  unfolding margin
+  margin-past k h = rw (nothing-past k h) (omega arith)
 
-  pub figures-judged : (units cents : ℕ) (left ranking : List ℕ) → priced s .count ≤ 256 → outcome false false s ≡ accepted (priced s) (s .lines)
+  -- 256 numbers with none past the book are those of the book, at the front of zeros
+  of-the-book : (f : ℕ → ℕ) → ((k : ℕ) → priced s .count ≤ k → f k ≡ 0) → priced s .count ≤ 256 → listTo 256 f ≡ front (listTo (priced s .count) f) (zeros 256)
+  of-the-book f none h =
+      let n = priced s .count in
+      front-of-zeros 256 (listTo n f) (listTo 256 f) (length-to 256 f) (rw (length-to n f) h)
+      (λ k. getD-every 256 f 0 (λ j q. none j (omega arith)) k ∙ sym (getD-every n f 0 none k))
+
+  pub figures-judged : (units cents : ℕ) (left ranking margins : List ℕ) → priced s .count ≤ 256 → outcome false false s ≡ accepted (priced s) (s .lines)
       → units ≡ unitsOf (priced s) (s .lines) → RoundedUp units cents → left ≡ listTo 256 (remainder (priced s) (s .lines))
-      → ranking ≡ front (ranked (priced s) (s .lines)) (zeros 256)
-      → Judges s (record { verdict = Accepted units cents; remainders = left; ranking = ranking })
-  unfolding accepted written verdictOf
-  figures-judged units cents left ranking few e u c l r =
+      → ranking ≡ front (ranked (priced s) (s .lines)) (zeros 256) → margins ≡ listTo 256 (margin (priced s) (s .lines))
+      → Judges s (record { verdict = Accepted units cents; remainders = left; ranking = ranking; margins = margins })
+  unfolding accepted written verdictOf remaindersOf marginsOf
+  figures-judged units cents left ranking margins few e u c l r m =
       let told : answer 0 units cents ≡ outcome false false s = rw (rounded-once units cents (centsOf units) c (rounded units), u) (sym e) in
       record {
         answer = told;
         verdict = rw (← told);
-        remainders = rw e (l ∙ all-remainders few);
+        remainders = rw e (l ∙ of-the-book _ nothing-past few);
+        margins = rw e (m ∙ of-the-book _ margin-past few);
         ranking = rw e r;
         ranks = all-ranked;
         demands = rw told (demands false false s);

@@ -9,7 +9,7 @@ use Rattle.lists.specs.Tables.{front, zeros}
 use Rattle.article.specs.Answer.{Answer, answer}
 use Rattle.ranking.specs.Ranking.{Ranks}
 use Rattle.proposal.specs.Submission.{Submission, priced}
-use Rattle.proposal.specs.Figures.{margin, remaindersOf, ranked}
+use Rattle.proposal.specs.Figures.{margin, remaindersOf, marginsOf, ranked}
 use Rattle.proposal.specs.Outcome.{outcome}
 use Rattle.proposal.specs.Demands.{Demands}
 use Rattle.proposal.specs.declared.Fault.{Fault}
@@ -34,9 +34,9 @@ written a xs = cond (eqb (a .number) 0) xs []
 abbrev pub whole : ℕ → Fault
 whole number = record { number = number; place = 0; second = 0 }
 
--- a refusal: its number and places, and nothing in either list
+-- a refusal: its number and places, and nothing in any list
 unfoldable pub refusalOf : Fault → Judgement
-refusalOf f = record { verdict = Refused (f .number) (f .place) (f .second); remainders = zeros 256; ranking = zeros 256 }
+refusalOf f = record { verdict = Refused (f .number) (f .place) (f .second); remainders = zeros 256; ranking = zeros 256; margins = zeros 256 }
 
 -- what the check promises
 pub record Judges (s : Submission) (r : Judgement) : Type 0 where
@@ -46,6 +46,8 @@ pub record Judges (s : Submission) (r : Judgement) : Type 0 where
   pub verdict : r .verdict ≡ verdictOf (outcome false false s)
   -- each holding's remainder, at the front of zeros
   pub remainders : r .remainders ≡ front (written (outcome false false s) (remaindersOf (priced s) (s .lines))) (zeros 256)
+  -- each holding's margin of the remainder, at the front of zeros
+  pub margins : r .margins ≡ front (written (outcome false false s) (marginsOf (priced s) (s .lines))) (zeros 256)
   -- the ranking, at the front of zeros
   pub ranking : r .ranking ≡ front (written (outcome false false s) (ranked (priced s) (s .lines))) (zeros 256)
   -- it has every holding once, by margin of the remainder, largest first, ties by lower number

@@ -1,4 +1,4 @@
-// The check: a book and a proposal in, the answer with remainders and ranking out. Nothing is presumed of either.
+// The check: a book and a proposal in, the answer with remainders, ranking and margins out. Nothing is presumed of either.
 use proposal::Book;
 use proposal::Fault;
 use proposal::Proposal;
@@ -19,14 +19,16 @@ pub enum Verdict {
     },
 }
 
-// The answer and, where it is accepted, each holding's remainder and the ranking; zeros past the book and on a refusal.
+// The answer and, where it is accepted, each holding's remainder, the ranking, and each holding's margin of the remainder; zeros past the book
+// and on a refusal.
 pub struct Judgement {
     pub verdict: Verdict,
     pub remainders: [u64; 256],
     pub ranking: [u64; 256],
+    pub margins: [u64; 256],
 }
 
-// A refusal, with nothing in either list.
+// A refusal, with nothing in any list.
 fn refused(fault: Fault) -> Judgement
     ensures { λ r. ⌜ r ≡ refusalOf fault ⌝ }
 {
@@ -38,6 +40,7 @@ fn refused(fault: Fault) -> Judgement
         },
         remainders: lists::zeros(),
         ranking: lists::zeros(),
+        margins: lists::zeros(),
     }
 }
 
@@ -85,6 +88,7 @@ pub fn check(book: Book, proposal: Proposal) -> Judgement
     let figures = figures::work_out(positions, tally);
     let remainders = tally.left;
     let ranking = figures.ranking;
+    let margins = figures.margins;
     Judgement {
         verdict: Verdict::Accepted {
             units: figures.units,
@@ -92,5 +96,6 @@ pub fn check(book: Book, proposal: Proposal) -> Judgement
         },
         remainders,
         ranking,
+        margins,
     }
 }

@@ -25,7 +25,7 @@ encode-snoc [] v = append-nil (digits 8 v)
 encode-snoc (x ∷ xs) v = rw (encode-snoc xs v) (sym (append-assoc (digits 8 x) (encode xs) (digits 8 v)))
 
 -- one more number after those laid down
-word-more : (xs old : List ℕ) (v : ℕ) → withWord (front (encode xs) old) (length xs) v ≡ front (encode (xs ++ v ∷ [])) old
+pub word-more : (xs old : List ℕ) (v : ℕ) → withWord (front (encode xs) old) (length xs) v ≡ front (encode (xs ++ v ∷ [])) old
 unfolding withWord front
 word-more xs old v =
     let n = length (encode xs) in

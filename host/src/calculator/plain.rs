@@ -8,7 +8,7 @@ use crate::raw::Columns;
 use crate::{Accepted, Holding, Refusal};
 
 pub(super) const MOST_HOLDINGS: usize = 256;
-const MOST_LINES: usize = 512;
+pub(super) const MOST_LINES: usize = 512;
 const HIGHEST_ISSUER: u64 = 10;
 const LONGEST_DAYS: u64 = 36_500;
 const HIGHEST_VALUE: u64 = 100_000_000_000;

@@ -139,11 +139,12 @@ impl fmt::Debug for Lent {
     }
 }
 
-/// Bytes that differ from their neighbours and from zero.
-fn pattern(length: usize, start: u8) -> Vec<u8> {
-    (0..length)
-        .map(|at| start.wrapping_add((at % 251) as u8) | 1)
-        .collect()
+/// Bytes that differ from their neighbours but one and from zero.
+pub fn pattern(length: usize, start: u8) -> Vec<u8> {
+    let cycle: [u8; 251] = std::array::from_fn(|at| start.wrapping_add(at as u8) | 1);
+    let mut bytes = cycle.repeat(length.div_ceil(cycle.len()));
+    bytes.truncate(length);
+    bytes
 }
 
 fn number(bytes: &[u8]) -> u64 {

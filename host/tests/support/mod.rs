@@ -4,6 +4,7 @@
 #![allow(dead_code)]
 
 pub mod faults;
+pub mod file;
 pub mod lent;
 
 use std::fmt::{Arguments, Display};
@@ -15,17 +16,8 @@ use margin_host::{Sheet, calculator, raw};
 
 /// One of the nine columns of a sheet, in the order in which they are lent.
 pub fn column(sheet: &mut Sheet, at: usize) -> &mut Vec<u64> {
-    match at {
-        0 => &mut sheet.side,
-        1 => &mut sheet.kind,
-        2 => &mut sheet.issuer,
-        3 => &mut sheet.days,
-        4 => &mut sheet.value,
-        5 => &mut sheet.price,
-        6 => &mut sheet.long,
-        7 => &mut sheet.short,
-        _ => &mut sheet.amount,
-    }
+    let columns = sheet.lists_mut();
+    columns.into_iter().nth(at).expect("there are nine")
 }
 
 /// A test's books: where its random numbers start, and how many books it has compared.

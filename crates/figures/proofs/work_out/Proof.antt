@@ -30,7 +30,7 @@ module _ (p : Positions) (t : Tally) (size : length (t .left) ≡ 256) (ms : Lis
 
   -- what is worked out of them
   totals : (units cents : ℕ) (ranking : List ℕ) → units ≡ sumTo (p .count) (λ k. getD ms k 0) → RoundedUp (t .units + units) cents
-      → ranking ≡ front (rankingOf (λ k. getD ms k 0) (p .count)) (zeros 256) → Totals (heldBook p) t (record { units = t .units + units; cents = cents; ranking = ranking })
+      → ranking ≡ front (rankingOf (λ k. getD ms k 0) (p .count)) (zeros 256) → Totals (heldBook p) t (record { units = t .units + units; cents = cents; ranking = ranking; margins = ms })
   unfolding heldBook
   totals units cents ranking u c r =
       let same : (λ (k : ℕ). getD ms k 0) ≡ leftMargin (heldBook p) t = λ i k. read k i in
@@ -38,6 +38,7 @@ module _ (p : Positions) (t : Tally) (size : length (t .left) ≡ 256) (ms : Lis
         units = ap (λ (x : ℕ). t .units + x) (u ∙ ap (sumTo (p .count)) same);
         cents = c;
         ranking = r ∙ ap (λ (f : ℕ → ℕ). front (rankingOf f (p .count)) (zeros 256)) same;
+        margins = e;
       }
 
   high : InBounds p → Bounded t → (k : ℕ) → getD ms k 0 ≤ marginLimit

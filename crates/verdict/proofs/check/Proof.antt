@@ -96,8 +96,8 @@ work-out-requires c κs = search needs
 
 returns-7 : tie.Need-returns-7
 returns-7 c =
-    let added = c .before .before .before .before .before in
-    all-judged _ _ (covered added) _ (added .priced-total .ensures) (c .before .before .before .if6 .left) (c .before .before .work-out .ensures)
+    let added = c .before .before .before .before .before .before in
+    all-judged _ _ (covered added) _ (added .priced-total .ensures) (c .before .before .before .before .if6 .left) (c .before .before .before .work-out .ensures)
 
 pub check-spec : {M : Type 1} → statement M
 check-spec =

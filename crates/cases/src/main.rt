@@ -1,0 +1,70 @@
+// Runs the cases on standard input: for each its title behind `# `, and what `margin` prints of its text.
+// A case is two eight-byte little-endian numbers, the bytes of the title and of the text, then the title, then the text.
+ghost use mathlib.Core.Path.{_≡_};
+ghost use lib.ListN.{length};
+ghost use Rattle.printing.specs.Printed.{Within};
+
+// Room for a text, and for a title.
+fn text_buffer() -> [u8; 65537]
+    ensures { λ r. ⌜ 65537 ≡ length r ⌝ }
+{
+    [0; 65537]
+}
+
+// Room for what is printed.
+fn print_buffer() -> [u8; 16962]
+    ensures { λ r. ⌜ 16962 ≡ length r ⌝ }
+{
+    [0; 16962]
+}
+
+// Reads so many bytes into the front of the buffer, as many as it has room for, and returns how many there were.
+fn read_part(n: u64, buffer: &mut [u8]) -> usize
+    ensures { λ r. ⌜ Within r (now (buffer .exit)) ⌝ }
+{
+    if n < buffer.len() as u64 {
+        return io::read_full(libc::STDIN_FILENO, &mut buffer[..n as usize]);
+    }
+    io::read_full(libc::STDIN_FILENO, buffer)
+}
+
+// Reads a title, and prints it as a line behind `# `.
+fn print_title(n: u64, buffer: &mut [u8]) {
+    let got = read_part(n, buffer);
+    io::write_all(libc::STDOUT_FILENO, b"# ");
+    io::write_all(libc::STDOUT_FILENO, &buffer[..got]);
+    io::write_all(libc::STDOUT_FILENO, b"\r\n");
+}
+
+// Reads a text, and prints what `margin` does.
+fn print_text(n: u64, buffer: &mut [u8]) {
+    let got = read_part(n, buffer);
+    let mut out = print_buffer();
+    let written = printing::print_file(&buffer[..got], &mut out);
+    io::write_all(libc::STDOUT_FILENO, &out[..written]);
+}
+
+// One case; false at the end of the input.
+fn run_case() -> bool {
+    let mut header = [0u8; 16];
+    let got = io::read_full(libc::STDIN_FILENO, &mut header);
+    if got < 16 {
+        return false;
+    }
+    let title = words::word(&header, 0);
+    let text = words::word(&header, 1);
+    let mut buffer = text_buffer();
+    print_title(title, &mut buffer);
+    print_text(text, &mut buffer);
+    true
+}
+
+fn main() {
+    let mut case: usize = 0;
+    while case < 1000 {
+        if !run_case() {
+            return;
+        }
+        case = case + 1;
+    }
+}

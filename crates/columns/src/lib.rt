@@ -1,0 +1,99 @@
+// A book and a proposal laid into lent columns of bytes.
+use holding::Row;
+use pairing::Line;
+use proposal::Book;
+use proposal::Proposal;
+ghost use mathlib.Core.Path.{_≡_};
+ghost use Prim.Native.Nat.{_*_, _≤_};
+ghost use lib.ListN.{length};
+ghost use Rattle.lists.specs.Tables.{listTo, front};
+ghost use Rattle.words.specs.Words.{encode};
+ghost use Rattle.proposal.specs.Submission.{rowsOf, pricesOf, linesOf};
+ghost use Rattle.columns.specs.Columns.{rowNumber, lineNumber, rowColumn, lineColumn, bookColumns, lineColumns, filledBook, filledLines, BookRoom, LinesRoom};
+
+// The number of a row in column j: side, kind, issuer, days, value.
+fn row_number(row: Row, j: usize) -> u64
+    ensures { λ r. ⌜ r ≡ rowNumber j row ⌝ }
+{
+    match j {
+        0 => row.side,
+        1 => row.kind,
+        2 => row.issuer,
+        3 => row.days,
+        _ => row.value,
+    }
+}
+
+// The number of a line in column j: long, short, amount.
+fn line_number(line: Line, j: usize) -> u64
+    ensures { λ r. ⌜ r ≡ lineNumber j line ⌝ }
+{
+    match j {
+        0 => line.long,
+        1 => line.short,
+        _ => line.amount,
+    }
+}
+
+// Lays column j of the first n rows at the front; the bytes past them are kept.
+fn lay_rows(rows: [Row; 256], n: usize, j: usize, bytes: &mut [u8])
+    requires { ⌜ (n ≤ 256) × (8 * n ≤ length (now bytes)) ⌝ }
+    ensures { λ _. ⌜ now (bytes .exit) ≡ front (encode (listTo n (rowColumn j rows))) (now (bytes .entry)) ⌝ }
+{
+    let mut i: usize = 0;
+    while i < n {
+        let row = rows[i];
+        words::put_word(bytes, i, row_number(row, j));
+        i = i + 1;
+    }
+}
+
+// Lays column j of the first n lines in the same way.
+fn lay_lines(lines: [Line; 512], n: usize, j: usize, bytes: &mut [u8])
+    requires { ⌜ (n ≤ 512) × (8 * n ≤ length (now bytes)) ⌝ }
+    ensures { λ _. ⌜ now (bytes .exit) ≡ front (encode (listTo n (lineColumn j lines))) (now (bytes .entry)) ⌝ }
+{
+    let mut i: usize = 0;
+    while i < n {
+        let line = lines[i];
+        words::put_word(bytes, i, line_number(line, j));
+        i = i + 1;
+    }
+}
+
+// Lays a book and the prices on its holdings into their columns.
+pub fn lay_book(
+    book: Book,
+    proposal: Proposal,
+    side: &mut [u8],
+    kind: &mut [u8],
+    issuer: &mut [u8],
+    days: &mut [u8],
+    value: &mut [u8],
+    price: &mut [u8],
+)
+    requires { ⌜ BookRoom (book .count) (bookColumns (now side) (now kind) (now issuer) (now days) (now value) (now price)) ⌝ }
+    ensures { λ _. ⌜ bookColumns (now (side .exit)) (now (kind .exit)) (now (issuer .exit)) (now (days .exit)) (now (value .exit)) (now (price .exit)) ≡ filledBook (rowsOf book) (pricesOf book (proposal .prices)) (bookColumns (now (side .entry)) (now (kind .entry)) (now (issuer .entry)) (now (days .entry)) (now (value .entry)) (now (price .entry))) ⌝ }
+{
+    let n = book.count;
+    let prices = proposal.prices;
+    words::lay(&prices, n, price);
+    let rows = book.rows;
+    lay_rows(rows, n, 0, side);
+    lay_rows(rows, n, 1, kind);
+    lay_rows(rows, n, 2, issuer);
+    lay_rows(rows, n, 3, days);
+    lay_rows(rows, n, 4, value);
+}
+
+// Lays the lines of a proposal into their columns.
+pub fn lay_proposal(proposal: Proposal, long: &mut [u8], short: &mut [u8], amount: &mut [u8])
+    requires { ⌜ LinesRoom (proposal .count) (lineColumns (now long) (now short) (now amount)) ⌝ }
+    ensures { λ _. ⌜ lineColumns (now (long .exit)) (now (short .exit)) (now (amount .exit)) ≡ filledLines (linesOf proposal) (lineColumns (now (long .entry)) (now (short .entry)) (now (amount .entry))) ⌝ }
+{
+    let n = proposal.count;
+    let lines = proposal.lines;
+    lay_lines(lines, n, 0, long);
+    lay_lines(lines, n, 1, short);
+    lay_lines(lines, n, 2, amount);
+}

@@ -1,0 +1,6 @@
+pub mod Text
+pub mod Scan
+pub mod Pieces
+pub mod Turns
+pub mod Places
+pub mod Filling

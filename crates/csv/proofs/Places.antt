@@ -1,0 +1,140 @@
+-- Records at places of a text: one turn after another, and what the code hands back of one. Assumes nothing.
+use mathlib.Core.Path.{_≡_, refl, sym, ap, _∙_}
+use mathlib.Core.Bool.{Bool, true, false, cond, false≢true}
+use mathlib.Core.List.{List, [], _∷_, map, append-nil}
+use Prim.Native.Nat.{ℕ, _≤_, _<_}
+use native.Mathlib.Omega.{arith}
+use borrow.Author.Tests.{lt-ltb, le-ltb, ltb-true}
+use lib.Dec.{ltb}
+use lib.ListN.{length, take}
+use lib.Seq.{take-all}
+use Rattle.lists.specs.Tables.{front}
+use Rattle.csv.specs.Reading.{part, fieldAt, Parsed, fields, malformed, push, onPiece, fieldsFrom, recordAt, fieldsOf, Read, formed, broken, onParsed, recordsFrom, recordsAt}
+use Rattle.csv.specs.declared.Span.{Span}
+use Rattle.csv.specs.declared.Piece.{Piece}
+use Rattle.csv.specs.declared.Piece.the-variants.{Field, Broken}
+use Rattle.csv.specs.declared.Fields.{Fields}
+use Rattle.csv.proofs.Turns.{unbounded}
+use Rattle.csv.proofs.Pieces.{FieldRead, PieceRead, field-read, reach, ahead}
+
+-- two constructors are never equal: `clash cc`
+pub clash : {A : Type 0} → _≡_ {A = ℕ} 0 1 → A
+clash z = absurd (omega arith)
+
+-- a field that is not the last
+pub not-last : {A : Type 0} → false ≡ true → A
+not-last e = absurd (false≢true e)
+
+-- a record that begins with a field
+pushed : (s : Span) (p : Parsed) {l : List Span} {next : ℕ} → push s p ≡ fields l next → (ss : List Span) × (l ≡ s ∷ ss) × (p ≡ fields ss next)
+pushed s (fields ss next) e = (ss, cc, cc)
+pushed s malformed e = clash cc
+
+module _ (text : List ℕ) where
+  -- reading on from a field asks only of places further on, and in the text
+  onward : (g h : ℕ → Parsed) (i : ℕ) → ((j : ℕ) → i < j → j ≤ length text → g j ≡ h j) → (p : Piece) → PieceRead text i p → onPiece p g ≡ onPiece p h
+  onward g h i e (Field s true next) r = refl
+  onward g h i e (Field s false next) r = ap (push s) (e next (ahead r not-last) (reach r not-last .1))
+  onward g h i e Broken r = refl
+
+  -- a record is a field, alone or before those that are read from the next place
+  pub record-turn : (i : ℕ) → recordAt text i ≡ onPiece (fieldAt text i) (recordAt text)
+  unfolding recordAt fieldsFrom
+  record-turn =
+      unbounded (length text) (fieldsFrom text) (λ g i. onPiece (fieldAt text i) g) (λ k i. refl)
+      (λ g h i e. onward g h i e (fieldAt text i) (field-read text i))
+
+  -- a record that was read, field by field
+  pub data Reads : ℕ → List Span → ℕ → Type 0 where
+    final : {i next : ℕ} {s : Span} → FieldRead text i s true next → Reads i (s ∷ []) next
+    another : {i j next : ℕ} {s : Span} {ss : List Span} → FieldRead text i s false j → Reads j ss next → Reads i (s ∷ ss) next
+
+  pub record-reads : (ss : List Span) (i next : ℕ) → recordAt text i ≡ fields ss next → Reads i ss next
+  record-reads [] i next e = go (fieldAt text i) (sym (record-turn i) ∙ e)
+    where
+      go : (p : Piece) → onPiece p (recordAt text) ≡ fields [] next → Reads i [] next
+      go (Field s true n) e = clash cc
+      go (Field s false n) e =
+          let (ss, a, b) = pushed s (recordAt text n) e in
+          clash cc
+      go Broken e = clash cc
+  record-reads (x ∷ ss) i next e = go (fieldAt text i) (field-read text i) (sym (record-turn i) ∙ e) (λ n. record-reads ss n next)
+    where
+      go : (p : Piece) → PieceRead text i p → onPiece p (recordAt text) ≡ fields (x ∷ ss) next
+          → ((n : ℕ) → recordAt text n ≡ fields ss next → Reads n ss next) → Reads i (x ∷ ss) next
+      go (Field s true n) r e f =
+          let a : x ∷ ss ≡ s ∷ [] = cc in
+          let b : next ≡ n = cc in
+          rw (a, b) (final r)
+      go (Field s false n) r e f =
+          let (ts, a, b) = pushed s (recordAt text n) e in
+          let c : x ≡ s = cc in
+          let d : ts ≡ ss = cc in
+          rw c (another r (f n (b ∙ rw d)))
+      go Broken r e f = clash cc
+
+  reads-reach : {i next : ℕ} {ss : List Span} → Reads i ss next → i ≤ length text → (i ≤ next) × (next ≤ length text)
+  reads-reach (final r) h = reach r (λ e. h)
+  reads-reach (another r rs) h =
+      let (a, b) = reach r (λ e. h) in
+      let (c, d) = reads-reach rs b in
+      (omega arith, d)
+
+  reads-ahead : {i next : ℕ} {ss : List Span} → Reads i ss next → i < length text → i < next
+  reads-ahead (final r) h = ahead r (λ e. h)
+  reads-ahead (another r rs) h =
+      let a = ahead r (λ e. h) in
+      let b = reads-reach rs (reach r not-last .1) .0 in
+      omega arith
+
+  -- the next record starts further on, and in the text
+  pub progress : (i : ℕ) (ss : List Span) (next : ℕ) → i < length text → recordAt text i ≡ fields ss next → (i < next) × (next ≤ length text)
+  progress i ss next h e =
+      let r = record-reads ss i next e in
+      (reads-ahead r h, reads-reach r (omega arith) .1)
+
+  -- and so does reading on from a record
+  later : (g h : ℕ → List Read) (i : ℕ) → ((j : ℕ) → i < j → j ≤ length text → g j ≡ h j) → (p : Parsed) → recordAt text i ≡ p → (b : Bool) → ltb i (length text) ≡ b
+      → cond b (onParsed text p g) [] ≡ cond b (onParsed text p h) []
+  later g h i e (fields ss next) p true b =
+      let (l, m) = progress i ss next (ltb-true i (length text) b) p in
+      ap (λ rs. formed (map (part text) ss) ∷ rs) (e next l m)
+  later g h i e malformed p true b = refl
+  later g h i e p q false b = refl
+
+  records-turn : (i : ℕ) → recordsAt text i ≡ cond (ltb i (length text)) (onParsed text (recordAt text i) (recordsAt text)) []
+  unfolding recordsAt recordsFrom
+  records-turn =
+      unbounded (length text) (recordsFrom text) (λ g i. cond (ltb i (length text)) (onParsed text (recordAt text i) g) []) (λ k i. refl)
+      (λ g h i e. later g h i e (recordAt text i) refl (ltb i (length text)) refl)
+
+  module _ (i : ℕ) where
+    pub records-end : length text ≤ i → recordsAt text i ≡ []
+    records-end h = records-turn i ∙ rw (le-ltb i (length text) h)
+
+    pub records-broken : i < length text → recordAt text i ≡ malformed → recordsAt text i ≡ broken ∷ []
+    records-broken h e = records-turn i ∙ rw (lt-ltb i (length text) h, e)
+
+    pub records-next : {ss : List Span} {next : ℕ} → i < length text → recordAt text i ≡ fields ss next → recordsAt text i ≡ formed (map (part text) ss) ∷ recordsAt text next
+    records-next h e = records-turn i ∙ rw (lt-ltb i (length text) h, e)
+
+-- a record that the code hands back as not formed is outside the grammar
+pub code-broken : (p : Parsed) (r : Fields) → r ≡ fieldsOf p → r .formed ≡ false → p ≡ malformed
+unfolding fieldsOf
+code-broken (fields ss next) r e f = clash cc
+code-broken malformed r e f = refl
+
+-- one that it hands back as formed is in it, with as many fields as are counted
+pub code-formed : (p : Parsed) (r : Fields) → r ≡ fieldsOf p → r .formed ≡ true → (ss : List Span) × (p ≡ fields ss (r .next)) × (length ss ≡ r .count)
+unfolding fieldsOf
+code-formed (fields ss next) r e f = (ss, rw e, rw e)
+code-formed malformed r e f = clash cc
+
+-- seven fields are all in the array
+pub code-seven : (p : Parsed) (r : Fields) → r ≡ fieldsOf p → r .formed ≡ true → r .count ≡ 7 → p ≡ fields (r .spans) (r .next)
+unfolding fieldsOf front
+code-seven (fields ss next) r e f n =
+    let long : length ss ≡ 7 = sym (ap (λ x. x .count) e) ∙ n in
+    let all : take 7 ss ≡ ss = take-all 7 ss (omega arith) in
+    rw e (rw (all, long) (ap (λ l. fields l next) (sym (append-nil ss))))
+code-seven malformed r e f n = clash cc

@@ -1,0 +1,106 @@
+-- Document 01, "The file": the layout of a record, what it says, and the refusals 19 to 21. Assumes nothing.
+use mathlib.Core.Path.{_≡_}
+use mathlib.Core.Bool.{true, false, cond}
+use mathlib.Core.List.{List, [], _∷_, map}
+use Prim.Native.Nat.{ℕ, zero, suc}
+use lib.Dec.{eqb}
+use lib.ListN.{length, getD, replicate}
+use Rattle.lists.specs.Texts.{ascii}
+use Rattle.holding.specs.declared.Row.{Row}
+use Rattle.pairing.specs.declared.Line.{Line}
+use Rattle.csv.specs.Reading.{part, Parsed, fields, malformed, recordAt, fieldsOf, Read, formed, broken}
+use Rattle.codes.specs.Codes.{placeOf}
+use Rattle.codes.specs.declared.Place.{Place}
+use Rattle.codes.specs.declared.Place.the-variants.{At, Nowhere}
+use Rattle.layout.specs.Sorts.{AreValues, valueOf}
+use Rattle.layout.specs.declared.Sort.{Sort}
+use Rattle.layout.specs.declared.Sort.the-variants.{Side, Kind, Issuer, Six, Twelve, Empty}
+use Rattle.layout.specs.declared.Value.{Value}
+use Rattle.layout.specs.declared.Value.the-variants.{Of, Wrong}
+use Rattle.layout.specs.declared.Said.{Said}
+use Rattle.layout.specs.declared.Said.the-variants.{Holding, Line as Lined, Refused}
+use Rattle.layout.specs.declared.Entry.{Entry}
+use Rattle.layout.specs.declared.Cells.{Cells}
+
+-- `H`, then side, kind, issuer, days, value, price; `P`, then long, short, amount, three empty fields
+abbrev pub letters : List (List ℕ)
+letters = ascii "H" ∷ ascii "P" ∷ []
+
+abbrev pub sortsBy : ℕ → List Sort
+sortsBy zero = Side ∷ Kind ∷ Issuer ∷ Six ∷ Twelve ∷ Six ∷ []
+sortsBy (suc k) = Six ∷ Six ∷ Twelve ∷ Empty ∷ Empty ∷ Empty ∷ []
+
+-- a good H, with the row and the price of its holding
+abbrev pub IsHolding : List (List ℕ) → Row → ℕ → Type 0
+IsHolding [] row price = ⊥
+IsHolding (letter ∷ texts) row price =
+    (letter ≡ ascii "H")
+    × AreValues (sortsBy 0) texts (row .side ∷ row .kind ∷ row .issuer ∷ row .days ∷ row .value ∷ price ∷ [])
+
+-- a good P, with its line
+abbrev pub IsLine : List (List ℕ) → Line → Type 0
+IsLine [] line = ⊥
+IsLine (letter ∷ texts) line =
+    (letter ≡ ascii "P")
+    × AreValues (sortsBy 1) texts (line .long ∷ line .short ∷ line .amount ∷ 0 ∷ 0 ∷ 0 ∷ [])
+
+-- the values of texts, one of each sort
+pub data Values : Type 0 where
+  values : List ℕ → Values
+  wrong : Values
+
+abbrev pub andValue : Value → Values → Values
+andValue (Of v) (values vs) = values (v ∷ vs)
+andValue (Of v) wrong = wrong
+andValue Wrong vs = wrong
+
+unfoldable pub valuesOf : List Sort → List (List ℕ) → Values
+valuesOf [] [] = values []
+valuesOf [] (t ∷ ts) = wrong
+valuesOf (s ∷ ss) [] = wrong
+valuesOf (s ∷ ss) (t ∷ ts) = andValue (valueOf s t) (valuesOf ss ts)
+
+-- what the values behind a letter say: a holding's row and price, or a line
+abbrev pub rowBy : List ℕ → Row
+rowBy vs = record { side = getD vs 0 0; kind = getD vs 1 0; issuer = getD vs 2 0; days = getD vs 3 0; value = getD vs 4 0 }
+
+abbrev pub lineBy : List ℕ → Line
+lineBy vs = record { long = getD vs 0 0; short = getD vs 1 0; amount = getD vs 2 0 }
+
+abbrev pub saidBy : ℕ → List ℕ → Said
+saidBy zero vs = Holding (rowBy vs) (getD vs 5 0)
+saidBy (suc k) vs = Lined (lineBy vs)
+
+abbrev pub saidIf : ℕ → Values → Said
+saidIf k (values vs) = saidBy k vs
+saidIf k wrong = Refused 21
+
+abbrev pub behind : Place → List (List ℕ) → Said
+behind (At k) texts = saidIf k (valuesOf (sortsBy k) texts)
+behind Nowhere texts = Refused 21
+
+-- of seven fields: 21 a field isn't a value of its sort, one that must be empty is filled, or the first is no known letter
+unfoldable pub saidOf : List (List ℕ) → Said
+saidOf [] = Refused 21
+saidOf (letter ∷ texts) = behind (placeOf letter letters) texts
+
+-- of a record: 19 outside the grammar, 20 not seven fields, then 21
+unfoldable pub says : Read → Said
+says broken = Refused 19
+says (formed texts) = cond (eqb (length texts) 7) (saidOf texts) (Refused 20)
+
+-- what the code hands back: the values with whether they are good, and a record with where the next one starts
+abbrev pub cellsOf : Values → Cells
+cellsOf (values vs) = record { good = true; values = vs }
+cellsOf wrong = record { good = false; values = replicate 6 0 }
+
+abbrev pub entry : Said → ℕ → Entry
+entry said next = record { said = said; next = next }
+
+abbrev pub readOf : List ℕ → Parsed → Read
+readOf text (fields ss next) = formed (map (part text) ss)
+readOf text malformed = broken
+
+-- what the record at a place says, and where the next one starts
+abbrev pub EntryAt : List ℕ → ℕ → Entry → Type 0
+EntryAt text at r = r ≡ entry (says (readOf text (recordAt text at))) (fieldsOf (recordAt text at) .next)

@@ -1,0 +1,5 @@
+pub mod Digits
+pub mod Written
+pub mod Exactly
+pub mod Reading
+pub mod Computed

@@ -1,0 +1,17 @@
+// What the program `margin` prints of a file: read, checked and reported.
+ghost use Rattle.printing.specs.Printed.{PrintsFile};
+
+// Prints a file at the front of out, and returns how many bytes that is. A list with less than the report's room is left alone, and 0 returned.
+pub fn print_file(text: &[u8], out: &mut [u8]) -> usize
+    ensures { λ r. ⌜ PrintsFile (now (text .entry)) (now (out .entry)) (now (out .exit)) r ⌝ }
+{
+    let draft = reader::read(text);
+    let number = draft.number;
+    if number != 0 {
+        return report::refusal(number, draft.place, 0, out);
+    }
+    let book = draft.book;
+    let proposal = draft.proposal;
+    let judgement = verdict::check(book, proposal);
+    report::report(judgement, book.count, out)
+}

@@ -1,0 +1,95 @@
+-- A record says a holding exactly when it is a good H with that row and price, and a line exactly when it is a good P. Assumes nothing.
+use mathlib.Core.Path.{_≡_, refl, ap, subst}
+use mathlib.Core.Logic.{_↔_}
+use mathlib.Core.List.{List, [], _∷_}
+use Prim.Native.Nat.{ℕ, zero, suc}
+use native.Mathlib.Omega.{arith}
+use lib.Dec.{eqb}
+use lib.ListN.{length, getD}
+use borrow.Author.Tests.{eq-eqb}
+use Rattle.lists.specs.Choice.{same}
+use Rattle.lists.proofs.Tests.{by-test}
+use Rattle.holding.specs.declared.Row.{Row}
+use Rattle.pairing.specs.declared.Line.{Line}
+use Rattle.csv.specs.Reading.{formed}
+use Rattle.codes.specs.Codes.{placeOf}
+use Rattle.codes.specs.declared.Place.{Place}
+use Rattle.codes.specs.declared.Place.the-variants.{At, Nowhere}
+use Rattle.layout.specs.Sorts.{Named, AreValues, no-values, value-and}
+use Rattle.layout.specs.Layout.{letters, sortsBy, IsHolding, IsLine, Values, values, wrong, valuesOf, saidBy, saidIf, behind, saidOf, says}
+use Rattle.layout.proofs.Letters.{six-sorts}
+use Rattle.layout.specs.declared.Sort.{Sort}
+use Rattle.layout.specs.declared.Said.{Said}
+use Rattle.layout.specs.declared.Said.the-variants.{Holding, Line as Lined, Refused}
+use Rattle.readable.proofs.Values.{named-exactly, values-exactly}
+
+-- what the texts of a record are, by what it says
+abbrev pub Says : List (List ℕ) → Said → Type 0
+Says texts (Holding row price) = IsHolding texts row price
+Says texts (Lined line) = IsLine texts line
+Says texts (Refused number) = Unit {0}
+
+-- six values behind a letter; where three must be empty they are 0
+six : {a b c d e f : Sort} {ts : List (List ℕ)} {vs : List ℕ} → AreValues (a ∷ b ∷ c ∷ d ∷ e ∷ f ∷ []) ts vs → vs ≡ getD vs 0 0 ∷ getD vs 1 0 ∷ getD vs 2 0 ∷ getD vs 3 0 ∷ getD vs 4 0 ∷ getD vs 5 0 ∷ []
+six (value-and a (value-and b (value-and c (value-and d (value-and e (value-and f no-values)))))) = refl
+
+three : {ts : List (List ℕ)} {vs : List ℕ} → AreValues (sortsBy 1) ts vs → vs ≡ getD vs 0 0 ∷ getD vs 1 0 ∷ getD vs 2 0 ∷ 0 ∷ 0 ∷ 0 ∷ []
+three (value-and a (value-and b (value-and c (value-and d (value-and e (value-and f no-values)))))) = rw (d .1, e .1, f .1)
+
+-- as many texts as sorts
+as-many : {ss : List Sort} {ts : List (List ℕ)} {vs : List ℕ} → AreValues ss ts vs → length ts ≡ length ss
+as-many no-values = refl
+as-many (value-and h hs) = ap suc (as-many hs)
+
+-- the two letters differ, by computing
+letter-exactly : (letter : List ℕ) (k : ℕ) → (placeOf letter letters ≡ At k) ↔ Named letters letter k
+unfolding same
+letter-exactly letter k = named-exactly letters refl letter k
+
+module _ (letter : List ℕ) (texts : List (List ℕ)) where
+  -- behind a known letter
+  values-say : (vs : Values) (k : ℕ) → Named letters letter k → valuesOf (sortsBy k) texts ≡ vs → Says (letter ∷ texts) (saidIf k vs)
+  values-say wrong k n e = tt
+  values-say (values vs) zero n e =
+      let good = values-exactly (sortsBy 0) texts vs .0 e in
+      (n .1, subst (AreValues (sortsBy 0) texts) (six good) good)
+  values-say (values vs) (suc zero) n e =
+      let good = values-exactly (sortsBy 1) texts vs .0 e in
+      (n .1, subst (AreValues (sortsBy 1) texts) (three good) good)
+  values-say (values vs) (suc (suc k)) n e = absurd (omega (arith, n .0))
+
+  behind-says : (p : Place) → placeOf letter letters ≡ p → Says (letter ∷ texts) (behind p texts)
+  behind-says (At k) e = values-say (valuesOf (sortsBy k) texts) k (letter-exactly letter k .0 e) refl
+  behind-says Nowhere e = tt
+
+  -- good values behind the letter of a place
+  says-values : (k : ℕ) (vs : List ℕ) → Named letters letter k → AreValues (sortsBy k) texts vs → says (formed (letter ∷ texts)) ≡ saidBy k vs
+  unfolding says saidOf
+  says-values k vs n good =
+      let seven : suc (length texts) ≡ 7 = omega (arith, as-many good, six-sorts k) in
+      rw (eq-eqb (suc (length texts)) 7 seven, letter-exactly letter k .1 n, values-exactly (sortsBy k) texts vs .1 good)
+
+of-says : (texts : List (List ℕ)) → Says texts (saidOf texts)
+unfolding saidOf
+of-says [] = tt
+of-says (letter ∷ texts) = behind-says letter texts (placeOf letter letters) refl
+
+-- every record is what it says
+pub so-says : (texts : List (List ℕ)) → Says texts (says (formed texts))
+unfolding says
+so-says texts = by-test (Says texts) (eqb (length texts) 7) (λ e. of-says texts) (λ e. tt)
+
+-- and says what it is
+says-holding : (texts : List (List ℕ)) (row : Row) (price : ℕ) → IsHolding texts row price → says (formed texts) ≡ Holding row price
+says-holding [] row price h = absurd h
+says-holding (letter ∷ texts) row price h = says-values letter texts 0 _ (omega arith, h .0) (h .1)
+
+says-line : (texts : List (List ℕ)) (line : Line) → IsLine texts line → says (formed texts) ≡ Lined line
+says-line [] line h = absurd h
+says-line (letter ∷ texts) line h = says-values letter texts 1 _ (omega arith, h .0) (h .1)
+
+pub holding-exactly : (texts : List (List ℕ)) (row : Row) (price : ℕ) → (says (formed texts) ≡ Holding row price) ↔ IsHolding texts row price
+holding-exactly texts row price = (λ e. subst (Says texts) e (so-says texts), says-holding texts row price)
+
+pub line-exactly : (texts : List (List ℕ)) (line : Line) → (says (formed texts) ≡ Lined line) ↔ IsLine texts line
+line-exactly texts line = (λ e. subst (Says texts) e (so-says texts), says-line texts line)

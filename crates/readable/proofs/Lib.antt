@@ -1,0 +1,6 @@
+pub mod Values
+pub mod Layouts
+pub mod Orders
+pub mod Numbers
+pub mod Submitted
+pub mod Exactly

@@ -1,0 +1,85 @@
+-- A text is read as a value exactly when it is that value of its sort, and so are several. Assumes nothing.
+use mathlib.Core.Path.{_≡_, refl, ap, subst}
+use mathlib.Core.Logic.{_↔_, Iff·trans}
+use mathlib.Core.Bool.{true}
+use mathlib.Core.List.{List, [], _∷_}
+use Prim.Native.Nat.{ℕ, suc}
+use native.Mathlib.Omega.{arith}
+use lib.ListN.{length}
+use borrow.Author.Tests.{ne-eqb}
+use Rattle.lists.specs.Choice.{same}
+use Rattle.codes.specs.Codes.{placeOf}
+use Rattle.codes.specs.declared.Place.{Place}
+use Rattle.codes.specs.declared.Place.the-variants.{At, Nowhere}
+use Rattle.codes.proofs.Places.{distinct, distinct-exactly}
+use Rattle.numerals.specs.Numerals.{numeralOf}
+use Rattle.numerals.specs.declared.Numeral.{Numeral}
+use Rattle.numerals.specs.declared.Numeral.the-variants.{Number, NotANumeral}
+use Rattle.numerals.proofs.Exactly.{numeral-exactly}
+use Rattle.layout.specs.Sorts.{Named, IsValue, AreValues, no-values, value-and, sides, kinds, issuers, byPlace, byNumeral, valueOf}
+use Rattle.layout.specs.Layout.{Values, values, wrong, andValue, valuesOf}
+use Rattle.layout.specs.declared.Sort.{Sort}
+use Rattle.layout.specs.declared.Sort.the-variants.{Side, Kind, Issuer, Six, Twelve, Empty}
+use Rattle.layout.specs.declared.Value.{Value}
+use Rattle.layout.specs.declared.Value.the-variants.{Of, Wrong}
+
+-- the value of a place, or of a numeral, is its number
+place-value : (p : Place) (v : ℕ) → (byPlace p ≡ Of v) ↔ (p ≡ At v)
+place-value (At n) v = (λ e. cc, λ e. cc)
+place-value Nowhere v = (λ e. cc, λ e. cc)
+
+numeral-value : (n : Numeral) (v : ℕ) → (byNumeral n ≡ Of v) ↔ (n ≡ Number v)
+numeral-value (Number n) v = (λ e. cc, λ e. cc)
+numeral-value NotANumeral v = (λ e. cc, λ e. cc)
+
+-- a place among different texts
+pub named-exactly : (ts : List (List ℕ)) → distinct ts ≡ true → (t : List ℕ) (v : ℕ) → (placeOf t ts ≡ At v) ↔ Named ts t v
+named-exactly ts d t v =
+    let e = distinct-exactly t ts d v in
+    (λ p. (e .0 p .inside, e .0 p .here), λ n. e .1 (record { inside = n .0; here = n .1 }))
+
+-- nothing is the text of an empty field, and 0 its value
+empty-value : (t : List ℕ) (v : ℕ) → (valueOf Empty t ≡ Of v) ↔ IsValue Empty t v
+unfolding valueOf
+empty-value [] v = (λ e. (refl, cc), λ h. rw (h .1))
+empty-value (c ∷ t) v = (
+  λ e.
+      let w : Wrong ≡ Of v = rw (ne-eqb (suc (length t)) 0 (omega arith)) at e in
+      (cc, cc),
+  λ h. absurd (omega (arith, ap (length {A = ℕ}) (h .0))),
+)
+
+-- a text and its value; the texts of each table differ, by computing
+pub value-exactly : (s : Sort) (t : List ℕ) (v : ℕ) → (valueOf s t ≡ Of v) ↔ IsValue s t v
+unfolding valueOf same
+value-exactly Side t v = Iff·trans (place-value (placeOf t sides) v) (named-exactly sides refl t v)
+value-exactly Kind t v = Iff·trans (place-value (placeOf t kinds) v) (named-exactly kinds refl t v)
+value-exactly Issuer t v = Iff·trans (place-value (placeOf t issuers) v) (named-exactly issuers refl t v)
+value-exactly Six t v = Iff·trans (numeral-value (numeralOf 6 t) v) (numeral-exactly 6 t v)
+value-exactly Twelve t v = Iff·trans (numeral-value (numeralOf 12 t) v) (numeral-exactly 12 t v)
+value-exactly Empty t v = empty-value t v
+
+-- several texts, where they are read as values
+abbrev Good : List Sort → List (List ℕ) → Values → Type 0
+Good ss ts (values vs) = AreValues ss ts vs
+Good ss ts wrong = Unit {0}
+
+good-values : (ss : List Sort) (ts : List (List ℕ)) → Good ss ts (valuesOf ss ts)
+unfolding valuesOf
+good-values [] [] = no-values
+good-values [] (t ∷ ts) = tt
+good-values (s ∷ ss) [] = tt
+good-values (s ∷ ss) (t ∷ ts) = by (valueOf s t) (valuesOf ss ts) refl (good-values ss ts)
+  where
+    by : (w : Value) (ws : Values) → valueOf s t ≡ w → Good ss ts ws → Good (s ∷ ss) (t ∷ ts) (andValue w ws)
+    by (Of v) (values vs) e h = value-and (value-exactly s t v .0 e) h
+    by (Of v) wrong e h = tt
+    by Wrong ws e h = tt
+
+are-values : {ss : List Sort} {ts : List (List ℕ)} {vs : List ℕ} → AreValues ss ts vs → valuesOf ss ts ≡ values vs
+unfolding valuesOf
+are-values no-values = refl
+are-values (value-and {s} {t} {v} h hs) = rw (value-exactly s t v .1 h, are-values hs)
+
+pub values-exactly : (ss : List Sort) (ts : List (List ℕ)) (vs : List ℕ) → (valuesOf ss ts ≡ values vs) ↔ AreValues ss ts vs
+values-exactly ss ts vs = (λ e. subst (Good ss ts) e (good-values ss ts), are-values)

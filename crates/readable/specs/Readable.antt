@@ -1,0 +1,39 @@
+-- Document 01, "The file": a file that is read, in the words of the paper and of RFC 4180's grammar. Assumes nothing.
+use mathlib.Core.Path.{_≡_}
+use mathlib.Core.Logic.{_↔_}
+use mathlib.Core.List.{List, [], _∷_, _++_}
+use Prim.Native.Nat.{ℕ, _≤_}
+use lib.ListN.{length}
+use Rattle.holding.specs.declared.Row.{Row}
+use Rattle.pairing.specs.declared.Line.{Line}
+use Rattle.proposal.specs.Submission.{Submission}
+use Rattle.csv.specs.Grammar.{File}
+use Rattle.layout.specs.Layout.{IsHolding, IsLine}
+use Rattle.reader.specs.File.{saidIn, submissionOf, fileFault}
+
+-- records each a good H, with their rows and prices
+pub data AreHoldings : List (List (List ℕ)) → List Row → List ℕ → Type 0 where
+  no-holdings : AreHoldings [] [] []
+  holding-and : {r : List (List ℕ)} {row : Row} {price : ℕ} {rs : List (List (List ℕ))} {rows : List Row} {prices : List ℕ} → IsHolding r row price → AreHoldings rs rows prices → AreHoldings (r ∷ rs) (row ∷ rows) (price ∷ prices)
+
+-- records each a good P, with their lines
+pub data AreLines : List (List (List ℕ)) → List Line → Type 0 where
+  no-lines : AreLines [] []
+  line-and : {r : List (List ℕ)} {line : Line} {rs : List (List (List ℕ))} {lines : List Line} → IsLine r line → AreLines rs lines → AreLines (r ∷ rs) (line ∷ lines)
+
+-- a text that submits these rows, prices and lines: up to 65,536 bytes of RFC 4180 records, each a good H or P, all H before all P, at most
+-- 256 and 512
+pub record Submits (text : List ℕ) (s : Submission) : Type 0 where
+  pub holdings : List (List (List ℕ))
+  pub lines : List (List (List ℕ))
+  pub short : length text ≤ 65536
+  pub rendering : File text (holdings ++ lines)
+  pub each-holding : AreHoldings holdings (s .rows) (s .prices)
+  pub each-line : AreLines lines (s .lines)
+  pub few-holdings : length (s .rows) ≤ 256
+  pub few-lines : length (s .lines) ≤ 512
+
+-- a text is not refused exactly when it submits what is read from it, and it submits nothing else
+pub record ReadExactly (text : List ℕ) : Type 0 where
+  pub read : (fileFault text .number ≡ 0) ↔ Submits text (submissionOf (saidIn text))
+  pub only : (s : Submission) → Submits text s → s ≡ submissionOf (saidIn text)

@@ -1,0 +1,93 @@
+// The file of a book and a proposal, read in one pass.
+use layout::Said;
+use proposal::Book;
+use proposal::Proposal;
+ghost use Rattle.reader.specs.Drafts.{Drafts, refusedAt};
+ghost use mathlib.Core.Path.{_≡_};
+
+// A file that was read: the book and the proposal that it submits, or a refusal, 0 for none, with its place and both empty.
+pub struct Draft {
+    pub number: u64,
+    pub place: u64,
+    pub book: Book,
+    pub proposal: Proposal,
+}
+
+// A refusal, with nothing submitted.
+fn refused(number: u64, place: u64) -> Draft
+    ensures { λ r. ⌜ r ≡ refusedAt number place ⌝ }
+{
+    Draft {
+        number,
+        place,
+        book: Book {
+            rows: proposal::no_rows(),
+            count: 0,
+        },
+        proposal: Proposal {
+            prices: lists::zeros(),
+            lines: proposal::no_lines(),
+            count: 0,
+        },
+    }
+}
+
+// Reads a file: 18; each record in turn 19 to 22, then 3 or 9; else what it submits.
+pub fn read(text: &[u8]) -> Draft
+    ensures { λ r. ⌜ Drafts (now (text .entry)) r ⌝ }
+{
+    if text.len() > 65536 {
+        return refused(18, 0);
+    }
+    let mut rows = proposal::no_rows();
+    let mut prices = lists::zeros();
+    let mut lines = proposal::no_lines();
+    let mut holdings: usize = 0;
+    let mut pairs: usize = 0;
+    let mut record: usize = 0;
+    let mut at: usize = 0;
+    while at < text.len() {
+        let entry = layout::entry_at(text, at);
+        let said = entry.said;
+        match said {
+            Said::Holding { row, price } => {
+                if pairs != 0 {
+                    return refused(22, record as u64);
+                }
+                if holdings == 256 {
+                    return refused(3, 0);
+                }
+                rows[holdings] = row;
+                prices[holdings] = price;
+                holdings = holdings + 1;
+                record = record + 1;
+                at = entry.next;
+            }
+            Said::Line { line } => {
+                if pairs == 512 {
+                    return refused(9, 0);
+                }
+                lines[pairs] = line;
+                pairs = pairs + 1;
+                record = record + 1;
+                at = entry.next;
+            }
+            Said::Refused { number } => {
+                return refused(number, record as u64);
+            }
+        }
+    }
+    Draft {
+        number: 0,
+        place: 0,
+        book: Book {
+            rows,
+            count: holdings,
+        },
+        proposal: Proposal {
+            prices,
+            lines,
+            count: pairs,
+        },
+    }
+}

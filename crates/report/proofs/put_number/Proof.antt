@@ -1,0 +1,21 @@
+-- `put_number` writes a number behind a comma. Assumes nothing.
+use native.Mathlib.Omega.{arith}
+use borrow.Author.Needs.{needs}
+use Rattle.numerals.proofs.Digits.{digits-word}
+use Rattle.report.proofs.Lines.{number-written}
+use Rattle.report.proofs.put_number.Statement.{statement}
+use Rattle.report.proofs.put_number.Tie as tie
+
+put-digits-requires : tie.Need-put-digits-requires
+put-digits-requires c κs =
+    let comma = c .before .before .before in
+    omega (arith, comma .put-byte .ensures .behind, digits-word (comma .before .before .before .args .x) (search needs))
+
+returns : tie.Need-returns
+returns c =
+    let digits = c .before .before in
+    let comma = digits .before .before .before .before in
+    number-written (search needs) (search needs) (comma .put-byte .ensures) (digits .put-digits .ensures)
+
+pub put-number-spec : {M : Type 1} → statement M
+put-number-spec = tie.close (tie.spec (λ c κs. search needs) put-digits-requires (λ c. search needs) returns)

@@ -1,0 +1,44 @@
+-- `report` prints the lines of a judgement. Assumes nothing.
+use borrow.Author.Needs.{needs}
+use Rattle.report.proofs.Written.{printed, no-room}
+use Rattle.report.proofs.Lines.{refused-written, accepted-written}
+use Rattle.report.proofs.report.Statement.{statement}
+use Rattle.report.proofs.report.Tie as tie
+
+-- from where the M line was written back to where the verdict was told
+abbrev told : tie.After-put-line2 → tie.After-numbers-of
+told c = c .before .before .before
+
+returns : tie.Need-returns
+returns c = no-room _ _ (search needs)
+
+returns-2 : tie.Need-returns-2
+returns-2 c =
+    let put = c .before .before in
+    let refused = put .before .before in
+    let told = refused .before in
+    printed (told .before .if1 .left) (refused-written _ _ (told .numbers-of .ensures) (refused .if2 .taken) (put .put-line .ensures .0))
+
+returns-3 : tie.Need-returns-3
+returns-3 c =
+    let put = c .before .before in
+    let margin = put .before .before .before .before in
+    printed (told margin .before .if1 .left)
+    (accepted-written _ _ (told margin .numbers-of .ensures) (margin .before .before .if2 .left) (margin .put-line2 .ensures .0) (put .put-remainders .ensures))
+
+pub report-spec : {M : Type 1} → statement M
+report-spec =
+    tie.close
+    (tie.spec
+    returns
+    (λ c κs. search needs)
+    (λ c. search needs)
+    (λ c κs. search needs)
+    (λ c. search needs)
+    returns-2
+    (λ c. search needs)
+    (λ c. search needs)
+    (λ c κs. search needs)
+    (λ c κs. search needs)
+    (λ c. search needs)
+    returns-3)

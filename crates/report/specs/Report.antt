@@ -1,0 +1,58 @@
+-- Document 01, "The file": the lines that are printed, as bytes. Assumes nothing.
+use mathlib.Core.Bool.{cond}
+use mathlib.Core.List.{List, [], _∷_, _++_, flatMap}
+use Prim.Native.Nat.{ℕ}
+use lib.Dec.{eqb}
+use lib.ListN.{getD, take}
+use Rattle.lists.specs.Texts.{ascii}
+use Rattle.numerals.specs.Numerals.{digits}
+use Rattle.article.specs.Answer.{Answer}
+use Rattle.pairing.specs.declared.Line.{Line}
+use Rattle.proposal.specs.Submission.{Submission, PricedBook, priced}
+use Rattle.proposal.specs.Figures.{remainder, margin, ranked}
+use Rattle.verdict.specs.Judges.{told}
+use Rattle.verdict.specs.declared.Judgement.{Judgement}
+
+-- a number behind a comma
+unfoldable pub behindComma : ℕ → List ℕ
+behindComma x = ascii "," ++ digits x
+
+-- a line: a letter, its numbers, CRLF
+unfoldable pub lineOf : List ℕ → List ℕ → List ℕ
+lineOf letter numbers = letter ++ flatMap behindComma numbers ++ ascii "\r\n"
+
+-- an answer's number and values
+unfoldable pub numbersOf : Answer → List ℕ
+numbersOf a = a .number ∷ a .first ∷ a .second ∷ []
+
+-- `X`, number, place, second place
+unfoldable pub refusalLine : Answer → List ℕ
+refusalLine a = lineOf (ascii "X") (numbersOf a)
+
+-- M: units, cents
+unfoldable pub marginLine : Answer → List ℕ
+marginLine a = lineOf (ascii "M") (a .first ∷ a .second ∷ [])
+
+-- R: holding, remainder in cents, its units
+unfoldable pub remainderLine : ℕ → ℕ → ℕ → List ℕ
+remainderLine holding cents units = lineOf (ascii "R") (holding ∷ cents ∷ units ∷ [])
+
+-- accepted, the M line and behind it an R line for each holding in an order; a refusal prints one line
+unfoldable pub linesOf : Answer → (ℕ → List ℕ) → List ℕ → List ℕ
+linesOf a line order = cond (eqb (a .number) 0) (marginLine a ++ flatMap line order) (refusalLine a)
+
+-- the R line of a holding with so many lines on its book: its remainder, and the margin of it
+unfoldable pub bookLine : PricedBook → List Line → ℕ → List ℕ
+bookLine b lines k = remainderLine k (remainder b lines k) (margin b lines k)
+
+-- what is printed of a submission and its answer: R in ranking order
+unfoldable pub printedOf : Submission → Answer → List ℕ
+printedOf s a = linesOf a (bookLine (priced s) (s .lines)) (ranked (priced s) (s .lines))
+
+-- the R line of a number in a judgement's lists, past which nothing remains
+unfoldable pub judgedLine : Judgement → ℕ → List ℕ
+judgedLine j k = remainderLine k (getD (j .remainders) k 0) (getD (j .margins) k 0)
+
+-- what is printed of a judgement of so many holdings
+unfoldable pub reportOf : Judgement → ℕ → List ℕ
+reportOf j count = linesOf (told (j .verdict)) (judgedLine j) (take count (j .ranking))

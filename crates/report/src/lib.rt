@@ -1,0 +1,122 @@
+// What is printed of a judgement: its lines, as bytes in a lent list.
+use verdict::Judgement;
+use verdict::Verdict;
+ghost use mathlib.Core.Path.{_≡_};
+ghost use mathlib.Core.List.{[], _∷_, flatMap};
+ghost use Prim.Native.Nat.{_+_, _*_, _≤_, _<_};
+ghost use lib.ListN.{length, getD, take};
+ghost use Rattle.article.specs.Answer.{answer};
+ghost use Rattle.verdict.specs.Judges.{told};
+ghost use Rattle.report.specs.Written.{Written, Prints};
+ghost use Rattle.report.specs.Report.{behindComma, lineOf, numbersOf, refusalLine, judgedLine, reportOf};
+
+// Room for 257 lines of at most 66 bytes.
+pub const ROOM: usize = 16962;
+
+// Writes a byte into out at `at`, and returns the place behind it.
+fn put_byte(byte: u8, at: usize, out: &mut [u8]) -> usize
+    requires { ⌜ at < length (now out) ⌝ }
+    ensures { λ r. ⌜ Written (byte ∷ []) at r (now (out .entry)) (now (out .exit)) ⌝ }
+{
+    out[at] = byte;
+    at + 1
+}
+
+// Writes a comma and the numeral of x from `at` on, and returns the place behind them.
+fn put_number(x: u64, at: usize, out: &mut [u8]) -> usize
+    requires { ⌜ at + 21 ≤ length (now out) ⌝ }
+    ensures { λ r. ⌜ Written (behindComma x) at r (now (out .entry)) (now (out .exit)) × (r ≤ at + 21) ⌝ }
+{
+    let next = put_byte(b',', at, out);
+    numerals::put_digits(x, next, out)
+}
+
+// Writes a line from `at` on: the letter, `count` of the numbers, CRLF. Returns the place behind it.
+fn put_line(letter: u8, numbers: [u64; 3], count: usize, at: usize, out: &mut [u8]) -> usize
+    requires { ⌜ (count ≤ 3) × (at + 66 ≤ length (now out)) ⌝ }
+    ensures { λ r. ⌜ Written (lineOf (letter ∷ []) (take count numbers)) at r (now (out .entry)) (now (out .exit)) × (r ≤ at + 66) ⌝ }
+{
+    let mut next = put_byte(letter, at, out);
+    let mut i = 0;
+    while i < count {
+        next = put_number(numbers[i], next, out);
+        i += 1;
+    }
+    let last = put_byte(b'\r', next, out);
+    put_byte(b'\n', last, out)
+}
+
+// The paper's number and values of a verdict.
+fn numbers_of(verdict: Verdict) -> [u64; 3]
+    ensures { λ r. ⌜ r ≡ numbersOf (told verdict) ⌝ }
+{
+    match verdict {
+        Verdict::Accepted { units, cents } => [0, units, cents],
+        Verdict::Refused {
+            number,
+            place,
+            second,
+        } => [number, place, second],
+    }
+}
+
+// What a list has at a number, 0 past its end.
+fn entry(list: &[u64], k: u64) -> u64
+    ensures { λ r. ⌜ r ≡ getD (now (list .entry)) k 0 ⌝ }
+{
+    let i = k as usize;
+    if i < list.len() {
+        return list[i];
+    }
+    0
+}
+
+// Writes the R lines of the first `count` holdings of the ranking from `at` on, and returns the place behind them.
+fn put_remainders(judgement: Judgement, count: usize, at: usize, out: &mut [u8]) -> usize
+    requires { ⌜ at + 66 * 256 ≤ length (now out) ⌝ }
+    ensures { λ r. ⌜ Written (flatMap (judgedLine judgement) (take count (judgement .ranking))) at r (now (out .entry)) (now (out .exit)) ⌝ }
+{
+    let ranking = judgement.ranking;
+    let remainders = judgement.remainders;
+    let margins = judgement.margins;
+    let mut next = at;
+    let mut i = 0;
+    while i < 256 {
+        if i == count {
+            return next;
+        }
+        let k = ranking[i];
+        let cents = entry(&remainders, k);
+        let units = entry(&margins, k);
+        next = put_line(b'R', [k, cents, units], 3, next, out);
+        i += 1;
+    }
+    next
+}
+
+// The lines of a judgement of `count` holdings at the front of out, and how many bytes they are. A list with less than ROOM is left alone, and 0
+// returned.
+pub fn report(judgement: Judgement, count: usize, out: &mut [u8]) -> usize
+    ensures { λ r. ⌜ Prints (reportOf judgement count) (now (out .entry)) (now (out .exit)) r ⌝ }
+{
+    if out.len() < ROOM {
+        return 0;
+    }
+    let verdict = judgement.verdict;
+    let told = numbers_of(verdict);
+    if told[0] != 0 {
+        return put_line(b'X', told, 3, 0, out);
+    }
+    let next = put_line(b'M', [told[1], told[2], 0], 2, 0, out);
+    put_remainders(judgement, count, next, out)
+}
+
+// The line of a refusal at the front of out, and how many bytes it is. A list with less than ROOM is left alone, and 0 returned.
+pub fn refusal(number: u64, place: u64, second: u64, out: &mut [u8]) -> usize
+    ensures { λ r. ⌜ Prints (refusalLine (answer number place second)) (now (out .entry)) (now (out .exit)) r ⌝ }
+{
+    if out.len() < ROOM {
+        return 0;
+    }
+    put_line(b'X', [number, place, second], 3, 0, out)
+}

@@ -1,0 +1,19 @@
+//! How fast the exported check and the exported reader are beside the calculator's, and the program.
+//!
+//! Both get the same bytes and must leave the same bytes. Batches of both alternate, so that whatever
+//! else the machine does meets both; the figure is the median batch.
+
+mod check;
+mod program;
+mod read;
+mod timing;
+
+const SEED: u64 = 0x0801;
+
+fn main() {
+    check::run();
+    println!();
+    read::run();
+    println!();
+    program::run();
+}

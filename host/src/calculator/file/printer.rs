@@ -1,0 +1,75 @@
+//! What the program `margin` prints for a file.
+
+use super::reader::read;
+use crate::calculator::{Position, margin_check};
+use crate::{Refusal, Sheet};
+
+/// The lines M and R of an accepted file, or the line X of a refused one, each with its CRLF.
+pub fn print(text: &[u8]) -> Vec<u8> {
+    let lines = read(text).and_then(|sheet| report(&sheet));
+    let lines = lines.unwrap_or_else(|refusal| {
+        let (number, place, second) = (refusal.number(), refusal.place(), refusal.second());
+        vec![format!("X,{number},{place},{second}")]
+    });
+    let printed: Vec<String> = lines.into_iter().map(|line| line + "\r\n").collect();
+    printed.concat().into_bytes()
+}
+
+/// The lines of a sheet that the check accepts: the figures, then each holding in ranking order.
+fn report(sheet: &Sheet) -> Result<Vec<String>, Refusal> {
+    let bytes = 8 * sheet.side.len();
+    let (mut remainder, mut ranking, mut answer) = (vec![0; bytes], vec![0; bytes], [0; 16]);
+    let columns = sheet.columns();
+    let number = margin_check(&columns, &mut remainder, &mut ranking, &mut answer);
+    let [first, second] = [0, 1].map(|at| entry(&answer, at));
+    if number != 0 {
+        let refusal = Refusal::from_parts(number, first, second);
+        return Err(refusal.expect("the plain check gives its refusals their places"));
+    }
+    let mut lines = vec![format!("M,{first},{second}")];
+    for rank in 0..sheet.side.len() {
+        let holding = entry(&ranking, rank) as usize;
+        let left = entry(&remainder, holding);
+        let units = Position::of(&sheet.book().holding(holding)).rate * left;
+        lines.push(format!("R,{holding},{left},{units}"));
+    }
+    Ok(lines)
+}
+
+fn entry(list: &[u8], at: usize) -> u64 {
+    u64::from_le_bytes(list.as_chunks::<8>().0[at])
+}
+
+#[cfg(test)]
+mod tests {
+    use super::print;
+
+    const FILE: &str = "H,L,C,CA,2000,1000000,0\r\n\
+                        H,S,B,CA,2000,600000,5840\r\n\
+                        H,S,R,ON,2000,300000,6570\r\n\
+                        P,0,1,600000,,,\r\n\
+                        P,0,2,300000,,,\r\n";
+
+    #[test]
+    fn the_printed_file() {
+        let printed = "M,3285000000,22500\r\n\
+                       R,0,100000,438000000\r\n\
+                       R,1,0,0\r\n\
+                       R,2,0,0\r\n";
+        assert_eq!(print(FILE.as_bytes()), printed.as_bytes());
+    }
+
+    #[test]
+    fn refused_files() {
+        let uncovered = FILE.replace("6570", "6569");
+        assert_eq!(print(uncovered.as_bytes()), b"X,16,0,2\r\n");
+        let ill_formed = FILE.replace("P,0,2", "P,0,\"2");
+        assert_eq!(print(ill_formed.as_bytes()), b"X,19,4,0\r\n");
+        assert_eq!(print(&[b','; 65_537]), b"X,18,0,0\r\n");
+    }
+
+    #[test]
+    fn the_empty_file() {
+        assert_eq!(print(b""), b"M,0,0\r\n");
+    }
+}

@@ -1,0 +1,121 @@
+//! Records to columns, with the refusals of the file.
+
+use super::records::{IllFormed, Records};
+use crate::calculator::plain::{MOST_HOLDINGS, MOST_LINES};
+use crate::{Holding, Line, Refusal, Sheet};
+
+/// A longer file is refused.
+pub const MOST_BYTES: usize = 65_536;
+/// Long and short, in the order of their numbers.
+pub const SIDES: [&str; 2] = ["L", "S"];
+/// Bond, stripped coupon and residual, in the order of their numbers.
+pub const KINDS: [&str; 3] = ["B", "C", "R"];
+/// Canada and the provinces, in the order of their numbers.
+pub const ISSUERS: [&str; 11] = [
+    "CA", "AB", "BC", "MB", "NB", "NL", "NS", "ON", "PE", "QC", "SK",
+];
+/// The digits that a value or an amount may have, and those of all other numerals.
+const DIGITS_OF_CENTS: usize = 12;
+const DIGITS: usize = 6;
+
+/// What a record with seven fields says.
+enum Row {
+    Holding(Holding, u64),
+    Line(Line),
+}
+
+/// Reads a file.
+///
+/// # Errors
+///
+/// The first refusal in the reader's order: 18; each record in turn 19 to 22, then 3 or 9.
+pub fn read(text: &[u8]) -> Result<Sheet, Refusal> {
+    if text.len() > MOST_BYTES {
+        return Err(Refusal::FileTooLong);
+    }
+    let mut sheet = Sheet::default();
+    let mut records = Records::of(text);
+    let mut record = 0;
+    while let Some(found) = records.next() {
+        let found = found.map_err(|IllFormed| Refusal::RecordIllFormed { record })?;
+        let fields = found.fields().ok_or(Refusal::NotSevenFields { record })?;
+        match row(fields).ok_or(Refusal::FieldNotOfItsSort { record })? {
+            Row::Holding(..) if !sheet.long.is_empty() => {
+                return Err(Refusal::HoldingAfterLine { record });
+            }
+            Row::Holding(..) if sheet.side.len() == MOST_HOLDINGS => {
+                return Err(Refusal::TooManyHoldings);
+            }
+            Row::Line(_) if sheet.long.len() == MOST_LINES => return Err(Refusal::TooManyLines),
+            Row::Holding(holding, price) => sheet.add_holding(holding, price),
+            Row::Line(line) => sheet.add_line(line),
+        }
+        record += 1;
+    }
+    Ok(sheet)
+}
+
+fn row(fields: [&[u8]; 7]) -> Option<Row> {
+    match fields {
+        [b"H", side, kind, issuer, days, value, price] => {
+            let holding = Holding {
+                side: place_among(&SIDES, side)?,
+                kind: place_among(&KINDS, kind)?,
+                issuer: place_among(&ISSUERS, issuer)?,
+                days: numeral(days, DIGITS)?,
+                value: numeral(value, DIGITS_OF_CENTS)?,
+            };
+            Some(Row::Holding(holding, numeral(price, DIGITS)?))
+        }
+        [b"P", long, short, amount, b"", b"", b""] => Some(Row::Line(Line {
+            long: numeral(long, DIGITS)?,
+            short: numeral(short, DIGITS)?,
+            amount: numeral(amount, DIGITS_OF_CENTS)?,
+        })),
+        _ => None,
+    }
+}
+
+fn place_among(texts: &[&str], field: &[u8]) -> Option<u64> {
+    let place = texts.iter().position(|text| text.as_bytes() == field)?;
+    Some(place as u64)
+}
+
+/// The number that a field writes. It has neither sign nor leading zero if it is no longer than its
+/// number.
+fn numeral(field: &[u8], most: usize) -> Option<u64> {
+    if field.len() > most {
+        return None;
+    }
+    let number: u64 = str::from_utf8(field).ok()?.parse().ok()?;
+    let digits = number
+        .checked_ilog10()
+        .map_or(1, |power| power as usize + 1);
+    (digits == field.len()).then_some(number)
+}
+
+#[cfg(test)]
+mod tests {
+    use super::numeral;
+
+    #[test]
+    fn numerals() {
+        for (field, number) in [
+            ("0", 0),
+            ("1", 1),
+            ("9", 9),
+            ("10", 10),
+            ("999999", 999_999),
+        ] {
+            assert_eq!(numeral(field.as_bytes(), 6), Some(number), "{field}");
+        }
+        for field in [
+            "", "00", "01", "007", "+1", "-1", "-0", "+0", " 1", "1 ", "1.0", "1e3", "1,0", "1_0",
+            "0x1", "a", "1000000", "\"\"", "1\"\"",
+        ] {
+            assert_eq!(numeral(field.as_bytes(), 6), None, "{field}");
+        }
+        assert_eq!(numeral(b"999999999999", 12), Some(999_999_999_999));
+        assert_eq!(numeral(b"1000000000000", 12), None);
+    }
+}

@@ -1,0 +1,119 @@
+//! Books of many shapes and sizes with best proposals, proposals next to them, and ties in the ranking.
+
+use super::{List, Table};
+use crate::Sheet;
+use crate::samples::{
+    ANY, Random, SHAPES, best_sheet, holdings, joined, quoted, records, split_lines, text_of,
+};
+
+const SEED: u64 = 0x0C01;
+
+const TIES: Table<&str, 3> = [
+    (
+        "ties: four holdings alike",
+        &["H,L,C,ON,2000,1000,0"; 4],
+        "M,35040000,240",
+    ),
+    // 1 x 8,760 and 2 x 4,380 units.
+    (
+        "ties: equal units of different holdings",
+        &[
+            "H,L,C,ON,2000,1,0",
+            "H,L,C,CA,2000,2,0",
+            "H,L,C,ON,2000,1,0",
+            "H,L,B,CA,1,1,0",
+        ],
+        "M,26284,1",
+    ),
+    (
+        "ranking: nothing left of two holdings",
+        &[
+            "H,L,B,CA,400,1,0",
+            "H,L,C,SK,50,9,1200",
+            "H,S,R,SK,50,9,0",
+            "H,L,B,CA,400,2,0",
+            "P,1,2,9,,,",
+        ],
+        "M,4380,1",
+    ),
+];
+
+pub(super) fn add(list: &mut List) {
+    let mut random = Random::new(SEED);
+    for shape in &SHAPES {
+        let sheet = best_sheet(&holdings(&mut random, shape, 20));
+        list.add(
+            format!("best proposal: {}", shape.name),
+            text_of(&sheet),
+            "",
+        );
+    }
+    for size in [1, 2, 3, 8, 34, 89, 255, 256] {
+        let sheet = best_sheet(&holdings(&mut random, &ANY, size));
+        list.add(
+            format!("best proposal of {size} holdings"),
+            text_of(&sheet),
+            "",
+        );
+    }
+    full(list, &mut random);
+    next_to_best(list, &mut random);
+    ties(list);
+}
+
+/// As many holdings and lines as there may be, every field in quotes.
+fn full(list: &mut List, random: &mut Random) {
+    let mut sheet = best_sheet(&holdings(random, &ANY, 256));
+    split_lines(&mut sheet, 512);
+    let all: Vec<String> = records(&sheet)
+        .iter()
+        .map(|record| quoted(record))
+        .collect();
+    list.add("256 holdings and 512 lines in quotes", joined(&all), "");
+}
+
+/// Best proposals with one number changed a little.
+fn next_to_best(list: &mut List, random: &mut Random) {
+    for round in 0..9 {
+        let shape = SHAPES[2 * round];
+        let mut sheet = best_sheet(&holdings(random, &shape, 12));
+        let what = change(random, &mut sheet);
+        list.add(
+            format!("next to best, {}: {what}", shape.name),
+            text_of(&sheet),
+            "",
+        );
+    }
+}
+
+fn change(random: &mut Random, sheet: &mut Sheet) -> &'static str {
+    let (names, first) = if sheet.long.is_empty() || random.below(2) == 0 {
+        (&["days", "value", "price"][..], 3)
+    } else {
+        (&["long", "short", "amount"][..], 6)
+    };
+    let at = random.place(names.len());
+    let column = sheet
+        .lists_mut()
+        .into_iter()
+        .nth(first + at)
+        .expect("there are nine");
+    let entry = random.place(column.len());
+    column[entry] = match random.below(3) {
+        0 => column[entry] + 1,
+        1 => column[entry].saturating_sub(1),
+        _ => random.pick(column),
+    };
+    names[at]
+}
+
+fn ties(list: &mut List) {
+    for (title, records, first) in TIES {
+        list.add(title, joined(records), first);
+    }
+    let rising: Vec<String> = (1..=9)
+        .map(|value| format!("H,S,B,MB,900,{value},0"))
+        .collect();
+    let title = "ranking: the largest last in the file";
+    list.add(title, joined(&rising), "M,197100,2");
+}

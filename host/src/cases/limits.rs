@@ -1,0 +1,113 @@
+//! The limits: 65,536 bytes, 256 holdings and 512 lines, and what competes with them.
+
+use super::List;
+use super::sound::RECORDS;
+use crate::calculator::MOST_BYTES;
+use crate::samples::joined;
+
+const HOLDING: &str = "H,L,B,CA,1,1,0";
+const LINE: &str = "P,0,1,1,,,";
+
+/// Title, holdings, lines, a record in another's place, and what is printed.
+type Order = (
+    &'static str,
+    usize,
+    usize,
+    (usize, &'static str),
+    &'static str,
+);
+
+#[rustfmt::skip]
+const ORDERS: [Order; 12] = [
+    ("19 in the 257th holding", 258, 0, (256, "H,L,B,CA,1,1,\""), "X,19,256,0"),
+    ("20 in the 257th holding", 258, 0, (256, "H,L,B,CA,1,1"), "X,20,256,0"),
+    ("21 in the 257th holding", 258, 0, (256, "H,L,B,CA,1,1,00"), "X,21,256,0"),
+    ("a 257th holding before an ill-formed record", 258, 0, (257, "\""), "X,3,0,0"),
+    ("an ill-formed record before the 257th holding", 257, 0, (255, "\""), "X,19,255,0"),
+    ("a 257th holding after a line", 256, 2, (257, HOLDING), "X,22,257,0"),
+    ("a 513th line before an ill-formed record", 3, 514, (516, "\""), "X,9,0,0"),
+    ("21 in the 513th line", 3, 513, (515, "P,0,1,,,,"), "X,21,515,0"),
+    ("a holding in the place of the 513th line", 3, 513, (515, HOLDING), "X,22,515,0"),
+    ("3 before 7 of holding 0", 257, 0, (0, "H,L,B,CA,0,1,0"), "X,3,0,0"),
+    ("9 before 7 of holding 0", 1, 513, (0, "H,L,B,CA,0,1,0"), "X,9,0,0"),
+    ("7 of the 256th holding", 256, 1, (255, "H,L,B,CA,0,1,0"), "X,7,255,0"),
+];
+
+/// Holdings and lines, and what is printed.
+const COUNTS: [(usize, usize, &str); 6] = [
+    (256, 0, "M,1024,1"),
+    (257, 0, "X,3,0,0"),
+    (257, 513, "X,3,0,0"),
+    (2, 512, "X,12,0,0"),
+    (0, 512, "X,11,0,0"),
+    (0, 513, "X,9,0,0"),
+];
+
+pub(super) fn add(list: &mut List) {
+    lengths(list);
+    for (holdings, lines, first) in COUNTS {
+        let title = format!("{holdings} holdings and {lines} lines");
+        list.add(title, joined(&many(holdings, lines)), first);
+    }
+    list.add(
+        "256 holdings paired by 512 lines",
+        joined(&paired(512)),
+        "M,0,0",
+    );
+    list.add(
+        "256 holdings paired by 513 lines",
+        joined(&paired(513)),
+        "X,9,0,0",
+    );
+    let mut last = paired(512);
+    last[767] = "P,254,255,26,,,".to_string();
+    list.add("15 at the last of 512 lines", joined(&last), "X,15,511,0");
+    for (title, holdings, lines, (at, record), first) in ORDERS {
+        let mut records = many(holdings, lines);
+        records[at] = record;
+        list.add(title, joined(&records), first);
+    }
+}
+
+/// No file of 65,536 bytes is accepted: what is read has at most 37,120.
+fn lengths(list: &mut List) {
+    let sound = joined(&RECORDS);
+    for (title, text, byte, first) in [
+        ("commas", &b""[..], b',', "X,20,0,0"),
+        (
+            "the sound file and one long field",
+            &sound,
+            b'x',
+            "X,20,10,0",
+        ),
+        ("NULs", b"", 0, "X,19,0,0"),
+        ("a price of many digits", b"H,L,C,CA,1,1,", b'1', "X,21,0,0"),
+        ("a quote that never closes", b"\"", b'\n', "X,19,0,0"),
+    ] {
+        let mut text = text.to_vec();
+        text.resize(MOST_BYTES, byte);
+        list.add(format!("65536 bytes: {title}"), text.clone(), first);
+        text.push(byte);
+        list.add(format!("65537 bytes: {title}"), text, "X,18,0,0");
+    }
+}
+
+fn many(holdings: usize, lines: usize) -> Vec<&'static str> {
+    let mut records = vec![HOLDING; holdings];
+    records.resize(holdings + lines, LINE);
+    records
+}
+
+/// 256 ON coupons, every second one short; each long paired with the next by four lines.
+fn paired(lines: usize) -> Vec<String> {
+    let mut records = Vec::new();
+    for holding in 0..256 {
+        let side = ["L", "S"][holding % 2];
+        records.push(format!("H,{side},C,ON,2000,100,8760"));
+    }
+    for line in 0..lines {
+        let long = line / 4 * 2;
+        records.push(format!("P,{long},{},25,,,", long + 1));
+    }
+    records
+}

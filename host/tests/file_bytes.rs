@@ -1,0 +1,172 @@
+//! Lengths in bytes: the nine lists that the reader fills, and its answer slice.
+
+mod support;
+
+use margin_host::samples::{ANY, best_sheet, holdings, text_of};
+use margin_host::{Holding, Line, Sheet};
+use support::file::{File, Files};
+use support::lent::NAMES;
+
+/// Three holdings and two lines.
+const TEXT: &[u8] = b"H,L,C,CA,2000,1000000,0\r\nH,S,B,CA,2000,600000,5840\r\n\
+                      H,S,R,ON,2000,300000,6570\r\nP,0,1,600000,,,\r\nP,0,2,300000,,,\r\n";
+
+fn exact() -> File {
+    File::exact(TEXT, 3, 2)
+}
+
+#[test]
+fn one_list_of_every_length() {
+    let mut files = Files::fixed("one list of every length");
+    for (at, name) in NAMES.iter().enumerate() {
+        let needed = exact().lists[at];
+        for length in 0..=needed + 33 {
+            let mut file = exact();
+            file.lists[at] = length;
+            let what = format_args!("{name} of {length} bytes");
+            if length < needed {
+                files.refused(&file, (2, 0), what);
+            } else {
+                assert_eq!(files.compare(&file, what).number, 0, "{what}");
+            }
+        }
+    }
+}
+
+#[test]
+fn two_lists_of_other_lengths() {
+    // Each list is asked for what it must hold, not for the length of the others.
+    let mut files = Files::fixed("two lists of other lengths");
+    for (one, name) in NAMES.iter().enumerate() {
+        for (other, second) in NAMES.iter().enumerate() {
+            for (more, less) in [(8, 0), (5, 0), (0, 1), (8, 8), (13, 3)] {
+                let mut file = exact();
+                file.lists[one] += more;
+                file.lists[other] -= less;
+                let short = file.lists[other] < exact().lists[other];
+                let what = format_args!("{name} {more} longer, {second} {less} shorter");
+                let read = files.compare(&file, what);
+                assert_eq!(read.number, if short { 2 } else { 0 }, "{what}");
+            }
+        }
+    }
+}
+
+#[test]
+fn answers_of_every_length() {
+    let mut files = Files::fixed("answers of every length");
+    let holdings = b"H,L,C,CA,2000,1000000,0\r\n".repeat(257);
+    let lines = b"P,0,1,600000,,,\r\n".repeat(513);
+    let after: &[u8] = b"P,0,1,1,,,\r\nH,L,C,CA,1,1,0";
+    let texts: [(&[u8], (u64, u64)); 9] = [
+        (TEXT, (0, 3)),
+        (b"", (0, 0)),
+        (&holdings, (3, 0)),
+        (&lines, (9, 0)),
+        (&[b','; 65_537], (18, 0)),
+        (b"\r\n", (20, 0)),
+        (b"H,L,C,CA,1,1,0\r\n\t", (19, 1)),
+        (b"H,L,C,CA,1,1,0\r\nH,L,C,YT,1,1,0", (21, 1)),
+        (after, (22, 1)),
+    ];
+    for length in 0..=24 {
+        for (text, (number, place)) in texts {
+            let mut file = File::of(text);
+            file.answer = length;
+            let what = format_args!("{number}, answer of {length} bytes");
+            if number > 0 {
+                files.refused(&file, (number, place), what);
+            } else if length < 16 {
+                files.refused(&file, (2, 0), what);
+            } else {
+                let read = files.compare(&file, what);
+                assert_eq!(read.number, 0, "{what}");
+                assert_eq!(read.figures().map(|both| both.0), Some(place), "{what}");
+            }
+        }
+    }
+}
+
+#[test]
+fn lists_of_the_empty_file() {
+    let mut files = Files::fixed("lists of the empty file");
+    for length in 0..=24 {
+        let mut file = exact();
+        file.text.clear();
+        file.lists = [length; 9];
+        let what = format_args!("lists of {length} bytes");
+        files.accepted(&file, &Sheet::default(), what);
+    }
+}
+
+#[test]
+fn lists_of_holdings_alone_and_lines_alone() {
+    let mut files = Files::fixed("holdings alone and lines alone");
+    let holdings = File::exact(b"H,L,C,CA,1,1,0\r\nH,S,C,CA,1,1,0", 2, 0);
+    let lines = File::exact(b"P,0,1,1,,,\r\nP,0,1,1,,,\r\nP,0,1,1,,,", 0, 3);
+    for file in [holdings, lines] {
+        assert_eq!(files.compare(&file, format_args!("exact")).number, 0);
+        for (at, name) in NAMES.iter().enumerate() {
+            let mut other = file.clone();
+            if other.lists[at] > 0 {
+                other.lists[at] -= 1;
+                files.refused(&other, (2, 0), format_args!("{name} short"));
+            } else {
+                other.lists[at] = 7;
+                let read = files.compare(&other, format_args!("{name} of 7 bytes"));
+                assert_eq!(read.number, 0);
+            }
+        }
+    }
+}
+
+#[test]
+fn lists_of_the_largest_file() {
+    let mut files = Files::fixed("lists of the largest file");
+    let holding = Holding {
+        side: 0,
+        kind: 0,
+        issuer: 0,
+        days: 1,
+        value: 1,
+    };
+    let mut sheet = Sheet::of(&[holding; 256], 0);
+    for line in 0..512 {
+        sheet.add_line(Line {
+            long: line,
+            short: 999_999 - line,
+            amount: 1 + line,
+        });
+    }
+    let file = File::exact(&text_of(&sheet), 256, 512);
+    files.accepted(&file, &sheet, format_args!("exact"));
+    for (at, name) in NAMES.iter().enumerate() {
+        for less in [1, 7, 8] {
+            let mut short = file.clone();
+            short.lists[at] -= less;
+            files.refused(&short, (2, 0), format_args!("{name} {less} bytes short"));
+        }
+        let mut longer = file.clone();
+        longer.lists[at] += 9;
+        files.accepted(&longer, &sheet, format_args!("{name} longer"));
+    }
+}
+
+#[test]
+fn lists_of_random_lengths() {
+    let mut files = Files::new("lists of random lengths", 0x0902);
+    for _ in 0..20_000 {
+        let size = files.random.place(12);
+        let sheet = best_sheet(&holdings(&mut files.random, &ANY, size));
+        let mut file = File::exact(&text_of(&sheet), size, sheet.long.len());
+        for length in &mut file.lists {
+            *length += files.random.place(3) * files.random.place(12);
+            if files.random.below(12) == 0 {
+                *length = length.saturating_sub(1 + files.random.place(20));
+            }
+        }
+        file.answer = 14 + files.random.place(3) * files.random.place(5) + files.random.place(3);
+        files.compare(&file, format_args!("{size} holdings"));
+    }
+    files.has_seen(&[0, 2], 4_000);
+}

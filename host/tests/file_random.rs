@@ -1,0 +1,308 @@
+//! Random files, random changes to them, and random bytes: only the calculator says what comes out.
+
+mod support;
+
+use margin_host::samples::Random;
+use support::file::{File, Files};
+
+/// Fields at which something changes in the paper, and some that are none.
+#[rustfmt::skip]
+const TELLING: [&str; 46] = [
+    "", "0", "00", "007", "+1", "-1", " 1", "1 ", "1", "9", "12", "255", "256", "365", "36500", "43801",
+    "999999", "1000000", "0000000", "999999999999", "1000000000000", "18446744073709551616",
+    "H", "P", "h", "p", "L", "S", "l", "B", "C", "R", "CA", "ON", "SK", "YT", "NU", "on",
+    "\"\"", "x\"\"y", "\r\n", "a,b", "\t", "\u{7F}", "\u{80}", "\"",
+];
+
+/// Bytes at which something changes in the grammar.
+const BYTES: &[u8] = b"\"\"\"\",,,,\r\n\r\n\r\n01 9HPLSCA\t\x00\x1F\x7E\x7F\x80\xFF\xEF!#+-";
+
+/// A file as records of fields.
+type Draft = Vec<Vec<String>>;
+
+fn numeral(random: &mut Random, most: u32) -> String {
+    let digits = 1 + random.below(u64::from(most)) as u32;
+    match random.below(8) {
+        0 => "0".to_string(),
+        1 => "9".repeat(digits as usize),
+        2 => 10u64.pow(digits - 1).to_string(),
+        _ => random.below(10u64.pow(digits)).to_string(),
+    }
+}
+
+fn holding(random: &mut Random) -> Vec<String> {
+    let issuers = [
+        "CA", "AB", "BC", "MB", "NB", "NL", "NS", "ON", "PE", "QC", "SK",
+    ];
+    vec![
+        "H".to_string(),
+        random.pick(&["L", "S"]).to_string(),
+        random.pick(&["B", "C", "R"]).to_string(),
+        random.pick(&issuers).to_string(),
+        numeral(random, 6),
+        numeral(random, 12),
+        numeral(random, 6),
+    ]
+}
+
+fn line(random: &mut Random) -> Vec<String> {
+    let mut fields = vec!["P".to_string(), numeral(random, 6), numeral(random, 6)];
+    fields.push(numeral(random, 12));
+    fields.resize(7, String::new());
+    fields
+}
+
+fn draft(random: &mut Random, holdings: usize, lines: usize) -> Draft {
+    let mut records: Draft = (0..holdings).map(|_| holding(random)).collect();
+    records.extend((0..lines).map(|_| line(random)));
+    records
+}
+
+fn small_draft(random: &mut Random) -> Draft {
+    let (holdings, lines) = (random.place(6), random.place(6));
+    draft(random, holdings, lines)
+}
+
+/// Changes a draft in one place.
+fn change(random: &mut Random, draft: &mut Draft) {
+    if draft.is_empty() {
+        draft.push(vec![random.pick(&TELLING).to_string()]);
+        return;
+    }
+    let (at, other) = (random.place(draft.len()), random.place(draft.len()));
+    let field = random.place(draft[at].len());
+    match random.below(10) {
+        0..4 => draft[at][field] = random.pick(&TELLING).to_string(),
+        4 => draft[at].insert(field, random.pick(&TELLING).to_string()),
+        5 => draft[at].truncate(field.max(1)),
+        6 => draft.swap(at, other),
+        7 => draft.insert(at, draft[other].clone()),
+        8 => {
+            let record = if random.below(2) == 0 {
+                holding(random)
+            } else {
+                line(random)
+            };
+            draft.insert(at, record);
+        }
+        _ => {
+            let from = random.place(draft[other].len());
+            draft[at][field] = draft[other][from].clone();
+        }
+    }
+}
+
+/// Writes a draft with quotes on none, some or all fields, with or without the last CRLF.
+fn written(random: &mut Random, draft: &Draft) -> Vec<u8> {
+    let quotes = random.pick(&[0, 0, 1, 4]);
+    let mut text = Vec::new();
+    for (at, record) in draft.iter().enumerate() {
+        if at > 0 {
+            text.extend(b"\r\n");
+        }
+        for (at, field) in record.iter().enumerate() {
+            if at > 0 {
+                text.push(b',');
+            }
+            let quote = random.below(4) < quotes;
+            let bytes = field.chars().map(|letter| letter as u32 as u8);
+            text.extend(quote.then_some(b'"'));
+            text.extend(bytes);
+            text.extend(quote.then_some(b'"'));
+        }
+    }
+    if random.below(2) == 0 && !draft.is_empty() {
+        text.extend(b"\r\n");
+    }
+    text
+}
+
+/// Changes a text in one place.
+fn damage(random: &mut Random, text: &mut Vec<u8>) {
+    let at = random.place(text.len() + 1);
+    let byte = random.pick(BYTES);
+    if at == text.len() {
+        text.push(byte);
+        return;
+    }
+    match random.below(9) {
+        0 | 1 => text[at] = byte,
+        2 | 3 => text.insert(at, byte),
+        4 | 5 => {
+            text.remove(at);
+        }
+        6 => text[at] ^= 1 << random.below(8),
+        7 => text.truncate(at),
+        _ => {
+            let end = text.len().min(at + random.place(30));
+            text.extend_from_within(at..end);
+        }
+    }
+}
+
+/// Lists that fit, are longer, or, now and then, shorter.
+fn lend(random: &mut Random, text: &[u8], draft: &Draft) -> File {
+    let count = |letter| draft.iter().filter(|record| record[0] == letter).count();
+    let mut file = File::exact(text, count("H"), count("P"));
+    for length in &mut file.lists {
+        if random.below(4) == 0 {
+            *length += random.place(19);
+        }
+    }
+    if random.below(12) == 0 {
+        let at = random.place(9);
+        file.lists[at] = random.place(file.lists[at] + 1);
+    }
+    file.answer = match random.below(12) {
+        0 => random.place(21),
+        _ => 16,
+    };
+    file
+}
+
+#[test]
+fn random_files() {
+    let mut files = Files::new("random files", 0x0A01);
+    for round in 0..25_000 {
+        let random = &mut files.random;
+        let draft = small_draft(random);
+        let text = written(random, &draft);
+        let file = lend(random, &text, &draft);
+        let roomy = File::of(&text);
+        files.compare(&file, format_args!("round {round}"));
+        if round % 4 == 0 {
+            let read = files.compare(&roomy, format_args!("round {round}"));
+            assert_eq!(read.number, 0, "every random file is read");
+            let counted = read.figures().map(|(holdings, lines)| holdings + lines);
+            assert_eq!(counted, Some(draft.len() as u64));
+        }
+    }
+    files.has_seen(&[0], 15_000);
+    files.has_seen(&[2], 1_000);
+}
+
+#[test]
+fn random_files_with_changed_fields() {
+    let mut files = Files::new("changed fields", 0x0A02);
+    for round in 0..20_000 {
+        let random = &mut files.random;
+        let draft = small_draft(random);
+        for changes in [1, 1, 2, 3] {
+            let random = &mut files.random;
+            let mut changed = draft.clone();
+            for _ in 0..changes {
+                change(random, &mut changed);
+            }
+            let text = written(random, &changed);
+            let file = lend(random, &text, &changed);
+            files.compare(&file, format_args!("round {round}, {changes} changes"));
+        }
+    }
+    files.has_seen(&[0, 2, 19, 20, 21, 22], 1_000);
+}
+
+#[test]
+fn random_files_with_changed_bytes() {
+    let mut files = Files::new("changed bytes", 0x0A03);
+    for round in 0..20_000 {
+        let random = &mut files.random;
+        let draft = small_draft(random);
+        let text = written(random, &draft);
+        for changes in [1, 1, 1, 2, 3] {
+            let random = &mut files.random;
+            let mut changed = text.clone();
+            for _ in 0..changes {
+                damage(random, &mut changed);
+            }
+            let file = lend(random, &changed, &draft);
+            files.compare(&file, format_args!("round {round}, {changes} changes"));
+        }
+    }
+    files.has_seen(&[0, 2, 19, 20, 21], 1_000);
+}
+
+#[test]
+fn large_random_files_with_changes() {
+    let mut files = Files::new("large files", 0x0A06);
+    for round in 0..300 {
+        let random = &mut files.random;
+        let holdings = random.pick(&[3, 255, 256, 256, 257]);
+        let lines = random.pick(&[3, 510, 511, 512, 512, 513]);
+        let mut draft = draft(random, holdings, lines);
+        for _ in 0..random.below(3) {
+            change(random, &mut draft);
+        }
+        let text = written(random, &draft);
+        for damages in [0, 0, 1] {
+            let random = &mut files.random;
+            let mut damaged = text.clone();
+            for _ in 0..damages {
+                damage(random, &mut damaged);
+            }
+            let file = lend(random, &damaged, &draft);
+            files.compare(&file, format_args!("round {round}, {damages} damages"));
+        }
+    }
+    files.has_seen(&[0, 2, 3, 9, 19, 20, 21, 22], 10);
+}
+
+#[test]
+fn random_bytes() {
+    let mut files = Files::new("random bytes", 0x0A04);
+    let alphabets: [&[u8]; 5] = [
+        BYTES,
+        b"\",\r\n0",
+        b",,,,,,,,,,,,,,,,,,\r\n\"0HP",
+        b"HPLSBCRON,,,,,,,0123456789",
+        b",\"",
+    ];
+    for round in 0..80_000 {
+        let random = &mut files.random;
+        let length = random.place(48);
+        let mut text = Vec::with_capacity(length);
+        let alphabet = random.pick(&alphabets);
+        for _ in 0..length {
+            let any = round % 8 == 0;
+            text.push(if any {
+                random.bits() as u8
+            } else {
+                random.pick(alphabet)
+            });
+        }
+        files.compare(&File::exact(&text, 0, 0), format_args!("round {round}"));
+    }
+    files.has_seen(&[19, 20, 21], 200);
+}
+
+#[test]
+fn long_random_texts() {
+    let mut files = Files::new("long random texts", 0x0A05);
+    for round in 0..600 {
+        let random = &mut files.random;
+        let mut whole = small_draft(random);
+        let length = 65_530 + random.place(12);
+        let filler = random.pick(&[
+            ",",
+            "x",
+            "\"\"",
+            "\"",
+            "\r\n",
+            "P,0,1,1,,,\r\n",
+            "H,L,C,CA,1,1,0\r\n",
+        ]);
+        if random.below(4) == 0 {
+            change(random, &mut whole);
+        }
+        let mut text = written(random, &whole);
+        while text.len() < length {
+            text.extend(filler.as_bytes());
+        }
+        if random.below(2) == 0 {
+            text.truncate(length);
+        }
+        let mut file = File::exact(&text, 10, 10);
+        file.answer = random.pick(&[16, 16, 15, 20]);
+        files.compare(&file, format_args!("round {round}"));
+    }
+    files.has_seen(&[9, 18, 19, 20, 21, 22], 10);
+}

@@ -1,0 +1,320 @@
+//! Files and lists as bytes, lent between guard bytes, and the comparison of the readers.
+
+use std::fmt::{Arguments, Display};
+use std::io::Write;
+use std::ops::Range;
+
+use margin_host::raw::{self, ColumnsMut};
+use margin_host::samples::Random;
+use margin_host::{Sheet, calculator};
+
+use super::lent::{NAMES, pattern};
+
+/// Bytes before and after each list that nobody may write; odd, so that few lists are aligned.
+const GUARD: usize = 13;
+/// Lists that have room for every file.
+pub const ROOM: [usize; 9] = [
+    2_048, 2_048, 2_048, 2_048, 2_048, 2_048, 4_096, 4_096, 4_096,
+];
+
+/// The file that the paper prints.
+pub const PRINTED: [&str; 5] = [
+    "H,L,C,CA,2000,1000000,0",
+    "H,S,B,CA,2000,600000,5840",
+    "H,S,R,ON,2000,300000,6570",
+    "P,0,1,600000,,,",
+    "P,0,2,300000,,,",
+];
+
+/// What a reader gets: a text, and the lengths in bytes of the nine lists and of the answer.
+#[derive(Clone, Debug)]
+pub struct File {
+    pub text: Vec<u8>,
+    pub lists: [usize; 9],
+    pub answer: usize,
+}
+
+/// Text, lists and answer one behind the other with guards between them, and where each lies.
+#[derive(Clone, PartialEq, Eq)]
+struct Memory {
+    bytes: Vec<u8>,
+    spans: [Range<usize>; 11],
+}
+
+/// What a reader leaves: its number, and all memory that was lent to it.
+#[derive(PartialEq, Eq)]
+pub struct Read {
+    pub number: u64,
+    memory: Memory,
+}
+
+type Call = fn(&[u8], &mut ColumnsMut<'_>, &mut [u8]) -> u64;
+
+impl File {
+    /// A text, with lists that have room for every file.
+    pub fn of(text: &[u8]) -> File {
+        File {
+            text: text.to_vec(),
+            lists: ROOM,
+            answer: 16,
+        }
+    }
+
+    /// A text, with lists that are as long as the file of so many holdings and lines asks.
+    pub fn exact(text: &[u8], holdings: usize, lines: usize) -> File {
+        let mut file = File::of(text);
+        for (at, length) in file.lists.iter_mut().enumerate() {
+            *length = 8 * if at < 6 { holdings } else { lines };
+        }
+        file
+    }
+
+    fn memory(&self) -> Memory {
+        let mut spans = [const { 0..0 }; 11];
+        let mut end = 1 + self.answer % 7;
+        let lengths = [self.text.len()].into_iter().chain(self.lists);
+        for (span, length) in spans.iter_mut().zip(lengths.chain([self.answer])) {
+            let start = end + GUARD;
+            end = start + length;
+            *span = start..end;
+        }
+        let mut bytes = pattern(end + GUARD, 0x51);
+        bytes[spans[0].clone()].copy_from_slice(&self.text);
+        Memory { bytes, spans }
+    }
+}
+
+impl Memory {
+    fn run(&self, call: Call) -> Read {
+        let mut memory = self.clone();
+        let mut rest = memory.bytes.as_mut_slice();
+        let mut taken = 0;
+        let [
+            text,
+            side,
+            kind,
+            issuer,
+            days,
+            value,
+            price,
+            long,
+            short,
+            amount,
+            answer,
+        ] = self.spans.each_ref().map(|span| {
+            let tail = std::mem::take(&mut rest).split_at_mut(span.start - taken).1;
+            let (list, tail) = tail.split_at_mut(span.len());
+            (rest, taken) = (tail, span.end);
+            list
+        });
+        let mut lists = ColumnsMut {
+            side,
+            kind,
+            issuer,
+            days,
+            value,
+            price,
+            long,
+            short,
+            amount,
+        };
+        let number = call(text, &mut lists, answer);
+        Read { number, memory }
+    }
+
+    fn part(&self, at: usize) -> &[u8] {
+        &self.bytes[self.spans[at].clone()]
+    }
+}
+
+impl Read {
+    /// One of the nine lists.
+    pub fn list(&self, at: usize) -> &[u8] {
+        self.memory.part(1 + at)
+    }
+
+    pub fn answer(&self) -> &[u8] {
+        self.memory.part(10)
+    }
+
+    /// The two numbers of an answer that has them.
+    pub fn figures(&self) -> Option<(u64, u64)> {
+        let both: [u8; 16] = self.answer().get(..16)?.try_into().ok()?;
+        let both = u128::from_le_bytes(both);
+        Some((both as u64, (both >> 64) as u64))
+    }
+
+    /// What was read, from the front of the lists.
+    pub fn sheet(&self) -> Sheet {
+        let (holdings, lines) = self.figures().expect("a file that is read has an answer");
+        let mut sheet = Sheet::default();
+        for (at, list) in sheet.lists_mut().into_iter().enumerate() {
+            let count = if at < 6 { holdings } else { lines } as usize;
+            let entries = self.list(at).as_chunks::<8>().0;
+            list.extend(
+                entries[..count]
+                    .iter()
+                    .map(|entry| u64::from_le_bytes(*entry)),
+            );
+        }
+        sheet
+    }
+
+    /// Whether only the entries of a file that is read, and the first 16 bytes of an answer that has
+    /// them, differ from what was lent.
+    fn keeps_what_it_must(&self, mut before: Memory) -> bool {
+        let mut written = Vec::with_capacity(10);
+        if let Some((holdings, lines)) = self.figures() {
+            written.push((10, 16));
+            if self.number == 0 {
+                written.extend((1..=6).map(|at| (at, 8 * holdings as usize)));
+                written.extend((7..=9).map(|at| (at, 8 * lines as usize)));
+            }
+        }
+        for (at, length) in written {
+            let Some(front) = self.memory.part(at).get(..length) else {
+                return false;
+            };
+            let start = before.spans[at].start;
+            before.bytes[start..start + length].copy_from_slice(front);
+        }
+        before == self.memory
+    }
+}
+
+/// A test's files: where its random numbers start, and how many files it has compared.
+pub struct Files {
+    name: &'static str,
+    seed: u64,
+    count: usize,
+    /// How many files were refused with each number.
+    pub seen: [usize; 23],
+    /// The random numbers of the test.
+    pub random: Random,
+}
+
+impl Files {
+    pub fn new(name: &'static str, seed: u64) -> Files {
+        Files {
+            name,
+            seed,
+            count: 0,
+            seen: [0; 23],
+            random: Random::new(seed),
+        }
+    }
+
+    /// A test without random numbers.
+    pub fn fixed(name: &'static str) -> Files {
+        Files::new(name, 0)
+    }
+
+    /// Calls both readers on the same bytes; both must leave the same everywhere.
+    pub fn compare(&mut self, file: &File, what: Arguments<'_>) -> Read {
+        self.count += 1;
+        let memory = file.memory();
+        let ours = memory.run(raw::margin_read);
+        let calculated = memory.run(calculator::margin_read);
+        let story = || self.story(file, &what);
+        assert_eq!(ours.number, calculated.number, "the number: {}", story());
+        assert_eq!(
+            ours.figures(),
+            calculated.figures(),
+            "the answer: {}",
+            story()
+        );
+        for (at, name) in NAMES.iter().enumerate() {
+            assert!(ours.list(at) == calculated.list(at), "{name}: {}", story());
+        }
+        assert!(
+            ours == calculated && ours.keeps_what_it_must(memory),
+            "bytes that are not to be written: {}",
+            story()
+        );
+        self.seen[ours.number as usize] += 1;
+        ours
+    }
+
+    /// Compares, and demands this refusal at this place.
+    pub fn refused(&mut self, file: &File, wanted: (u64, u64), what: Arguments<'_>) {
+        let read = self.compare(file, what);
+        assert_eq!(
+            read.number,
+            wanted.0,
+            "the number: {}",
+            self.story(file, &what)
+        );
+        if let Some(figures) = read.figures() {
+            assert_eq!(
+                figures,
+                (wanted.1, 0),
+                "the place: {}",
+                self.story(file, &what)
+            );
+        }
+    }
+
+    /// Compares, and demands that this was read.
+    pub fn accepted(&mut self, file: &File, sheet: &Sheet, what: Arguments<'_>) {
+        let read = self.compare(file, what);
+        assert_eq!(read.number, 0, "the number: {}", self.story(file, &what));
+        assert_eq!(read.sheet(), *sheet, "{}", self.story(file, &what));
+    }
+
+    /// Demands that each of these numbers was seen at least so often.
+    pub fn has_seen(&self, numbers: &[usize], least: usize) {
+        for number in numbers {
+            let seen = self.seen[*number];
+            assert!(seen >= least, "{number} only {seen} times: {:?}", self.seen);
+        }
+    }
+
+    fn story(&self, file: &File, what: &dyn Display) -> String {
+        let File {
+            text,
+            lists,
+            answer,
+        } = file;
+        let shown = text[..text.len().min(2_000)].escape_ascii();
+        format!(
+            "{}, seed {:#x}, file {}: {what}\n{} bytes: {shown}\nlists {lists:?}, answer {answer}",
+            self.name,
+            self.seed,
+            self.count,
+            text.len()
+        )
+    }
+}
+
+impl Drop for Files {
+    /// Says how many files there were, where they came from and how often each number was given.
+    fn drop(&mut self) {
+        let numbers = self
+            .seen
+            .iter()
+            .enumerate()
+            .filter(|(_, count)| **count > 0);
+        let mut seen = Vec::new();
+        for (number, count) in numbers {
+            seen.push(format!("{number}: {count}"));
+        }
+        let seed = match self.seed {
+            0 => String::new(),
+            seed => format!(", seed {seed:#x}"),
+        };
+        let line = format!(
+            "    {}: files compared {}{seed}; by number {}\n",
+            self.name,
+            self.count,
+            seen.join(", ")
+        );
+        let _ = std::io::stderr().write_all(line.as_bytes());
+    }
+}
+
+/// A record of a holding or a line with another text for one field.
+pub fn with_field(record: &str, at: usize, field: &[u8]) -> Vec<u8> {
+    let mut fields: Vec<&[u8]> = record.as_bytes().split(|byte| *byte == b',').collect();
+    fields[at] = field;
+    fields.join(&b","[..])
+}
