@@ -5,10 +5,10 @@ use borrow.Author.Needs.{needs}
 use borrow.Fn.Kinds.{In}
 use borrow.Fn.PlainCycle.{Measures, is, falls, and}
 use Rattle.numerals.proofs.Written.{room-last, room-fewer, room-behind, put-more}
-use Rattle.numerals.proofs.put_digits.Reads as reads
+use Rattle.numerals.proofs.put_digits.Reads as contract
 use Rattle.numerals.proofs.put_digits.Kinds as kinds
 use Rattle.numerals.proofs.put_digit.Reads as digit
-use Rattle.numerals.proofs.+put_digits.Lts-put_digits as lts
+use Rattle.numerals.proofs.+put_digits.Lts-put_digits as walk
 use Rattle.numerals.proofs.+put_digits.{statement}
 use Rattle.numerals.proofs.+put_digits.Tie.{close}
 
@@ -17,16 +17,16 @@ abbrev μ : Measures 1 kinds.ps ℕ
 
 -- what it is given at the measure t, and what it asks of its own call, below t
 abbrev at : ℕ → In 1 kinds.ps
-at t = and 1 kinds.ps (is 1 kinds.ps μ t) reads.Pre
+at t = and 1 kinds.ps (is 1 kinds.ps μ t) contract.Pre
 
 abbrev below : ℕ → In 1 kinds.ps
-below t = and 1 kinds.ps (falls 1 kinds.ps _<_ μ t) reads.Pre
+below t = and 1 kinds.ps (falls 1 kinds.ps _<_ μ t) contract.Pre
 
 pub +put-digits-spec : {M : Type 1} → statement M
 +put-digits-spec =
     close μ
     (λ t.
-    lts.spec (digit.Asked, digit.Learnt, below t, reads.Post) (at t) reads.Post
+    walk.spec (digit.Asked, digit.Learnt, below t, contract.Post) (at t) contract.Post
     (λ c κs. search (needs, room-last))
     (λ c. search needs)
     (λ c. search needs)
