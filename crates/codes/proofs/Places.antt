@@ -10,15 +10,10 @@ use lib.ListN.{length, getD}
 use borrow.Author.Tests.{not-true}
 use Rattle.lists.specs.Choice.{same}
 use Rattle.lists.proofs.Entries.{every, each-by, each-at, same-false, eq-same, ne-same, one-or-not}
-use Rattle.codes.specs.Codes.{placeFrom, placeOf}
+use Rattle.codes.specs.Codes.{placeFrom, placeOf, Named}
 use Rattle.codes.specs.declared.Place.the-variants.{At, Nowhere}
 
--- the text is that of place n
-pub record Named (text : List ℕ) (ts : List (List ℕ)) (n : ℕ) : Type 0 where
-  pub inside : n < length ts
-  pub here : text ≡ getD ts n []
-
--- and that of none before
+-- the text is that of place n, and of none before
 pub record First (text : List ℕ) (ts : List (List ℕ)) (n : ℕ) : Type 0 where
   pub named : Named text ts n
   pub before : (k : ℕ) → k < n → text ≢ getD ts k []
@@ -83,17 +78,6 @@ module _ (text : List ℕ) where
         let z : _≡_ {A = ℕ} 0 1 = cc in
         absurd (omega arith)),
     place-first ts n,
-  )
-
-  pub nowhere-exactly : (ts : List (List ℕ)) → (placeOf text ts ≡ Nowhere) ↔ Absent text ts
-  nowhere-exactly ts = (
-    λ e. either ts
-        (λ m f.
-        let r = place-first ts m f in
-        let z : _≡_ {A = ℕ} 0 1 = cc in
-        absurd (omega arith))
-        (λ a. a),
-    place-absent ts,
   )
 
 -- no text of the list stands in it again

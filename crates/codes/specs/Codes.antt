@@ -1,8 +1,9 @@
 -- A text among named ones, told by its place. Assumes nothing.
+use mathlib.Core.Path.{_≡_}
 use mathlib.Core.Bool.{cond}
 use mathlib.Core.List.{List, [], _∷_}
-use Prim.Native.Nat.{ℕ, zero, suc}
-use lib.ListN.{take, drop}
+use Prim.Native.Nat.{ℕ, zero, suc, _<_}
+use lib.ListN.{length, getD, take, drop}
 use Rattle.lists.specs.Choice.{same}
 use Rattle.codes.specs.declared.Place.{Place}
 use Rattle.codes.specs.declared.Place.the-variants.{At, Nowhere}
@@ -20,3 +21,8 @@ placeOf text ts = placeFrom 0 text ts
 unfoldable pub cells : ℕ → ℕ → List ℕ → List (List ℕ)
 cells width zero table = []
 cells width (suc count) table = take width table ∷ cells width count (drop width table)
+
+-- the text is that of place n
+pub record Named (text : List ℕ) (ts : List (List ℕ)) (n : ℕ) : Type 0 where
+  pub inside : n < length ts
+  pub here : text ≡ getD ts n []

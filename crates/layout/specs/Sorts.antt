@@ -2,14 +2,14 @@
 use mathlib.Core.Path.{_≡_}
 use mathlib.Core.Bool.{cond}
 use mathlib.Core.List.{List, [], _∷_}
-use Prim.Native.Nat.{ℕ, _≤_, _<_}
+use Prim.Native.Nat.{ℕ, _≤_}
 use lib.Dec.{eqb}
-use lib.ListN.{length, getD}
+use lib.ListN.{length}
 use Rattle.lists.specs.Texts.{ascii}
 use Rattle.numerals.specs.Numerals.{digits, numeralOf}
 use Rattle.numerals.specs.declared.Numeral.{Numeral}
 use Rattle.numerals.specs.declared.Numeral.the-variants.{Number, NotANumeral}
-use Rattle.codes.specs.Codes.{placeOf}
+use Rattle.codes.specs.Codes.{placeOf, Named}
 use Rattle.codes.specs.declared.Place.{Place}
 use Rattle.codes.specs.declared.Place.the-variants.{At, Nowhere}
 use Rattle.layout.specs.declared.Sort.{Sort}
@@ -41,19 +41,15 @@ issuers =
     ∷ ascii "SK"
     ∷ []
 
--- the text of place v among named ones
-abbrev pub Named : List (List ℕ) → List ℕ → ℕ → Type 0
-Named texts t v = (v < length texts) × (t ≡ getD texts v [])
-
 -- the numeral of v, in at most so many digits
 abbrev pub Numbered : ℕ → List ℕ → ℕ → Type 0
 Numbered most t v = (t ≡ digits v) × (length t ≤ most)
 
 -- a text is a value of its sort: "value and amount have 1 to 12 digits, others 1 to 6"
 abbrev pub IsValue : Sort → List ℕ → ℕ → Type 0
-IsValue Side t v = Named sides t v
-IsValue Kind t v = Named kinds t v
-IsValue Issuer t v = Named issuers t v
+IsValue Side t v = Named t sides v
+IsValue Kind t v = Named t kinds v
+IsValue Issuer t v = Named t issuers v
 IsValue Six t v = Numbered 6 t v
 IsValue Twelve t v = Numbered 12 t v
 IsValue Empty t v = (t ≡ []) × (v ≡ 0)

@@ -12,16 +12,17 @@ use Rattle.lists.proofs.Tests.{by-test}
 use Rattle.holding.specs.declared.Row.{Row}
 use Rattle.pairing.specs.declared.Line.{Line}
 use Rattle.csv.specs.Reading.{formed}
-use Rattle.codes.specs.Codes.{placeOf}
+use Rattle.codes.specs.Codes.{placeOf, Named}
 use Rattle.codes.specs.declared.Place.{Place}
 use Rattle.codes.specs.declared.Place.the-variants.{At, Nowhere}
-use Rattle.layout.specs.Sorts.{Named, AreValues, no-values, value-and}
+use Rattle.layout.specs.Sorts.{AreValues, no-values, value-and}
 use Rattle.layout.specs.Layout.{letters, sortsBy, IsHolding, IsLine, Values, values, wrong, valuesOf, saidBy, saidIf, behind, saidOf, says}
 use Rattle.layout.proofs.Letters.{six-sorts}
 use Rattle.layout.specs.declared.Sort.{Sort}
 use Rattle.layout.specs.declared.Said.{Said}
 use Rattle.layout.specs.declared.Said.the-variants.{Holding, Line as Lined, Refused}
-use Rattle.readable.proofs.Values.{named-exactly, values-exactly}
+use Rattle.codes.proofs.Places.{distinct-exactly}
+use Rattle.readable.proofs.Values.{values-exactly}
 
 -- what the texts of a record are, by what it says
 abbrev pub Says : List (List ℕ) → Said → Type 0
@@ -42,28 +43,28 @@ as-many no-values = refl
 as-many (value-and h hs) = ap suc (as-many hs)
 
 -- the two letters differ, by computing
-letter-exactly : (letter : List ℕ) (k : ℕ) → (placeOf letter letters ≡ At k) ↔ Named letters letter k
+letter-exactly : (letter : List ℕ) (k : ℕ) → (placeOf letter letters ≡ At k) ↔ Named letter letters k
 unfolding same
-letter-exactly letter k = named-exactly letters refl letter k
+letter-exactly letter k = distinct-exactly letter letters refl k
 
 module _ (letter : List ℕ) (texts : List (List ℕ)) where
   -- behind a known letter
-  values-say : (vs : Values) (k : ℕ) → Named letters letter k → valuesOf (sortsBy k) texts ≡ vs → Says (letter ∷ texts) (saidIf k vs)
+  values-say : (vs : Values) (k : ℕ) → Named letter letters k → valuesOf (sortsBy k) texts ≡ vs → Says (letter ∷ texts) (saidIf k vs)
   values-say wrong k n e = tt
   values-say (values vs) zero n e =
       let good = values-exactly (sortsBy 0) texts vs .0 e in
-      (n .1, subst (AreValues (sortsBy 0) texts) (six good) good)
+      (n .here, subst (AreValues (sortsBy 0) texts) (six good) good)
   values-say (values vs) (suc zero) n e =
       let good = values-exactly (sortsBy 1) texts vs .0 e in
-      (n .1, subst (AreValues (sortsBy 1) texts) (three good) good)
-  values-say (values vs) (suc (suc k)) n e = absurd (omega (arith, n .0))
+      (n .here, subst (AreValues (sortsBy 1) texts) (three good) good)
+  values-say (values vs) (suc (suc k)) n e = absurd (omega (arith, n .inside))
 
   behind-says : (p : Place) → placeOf letter letters ≡ p → Says (letter ∷ texts) (behind p texts)
   behind-says (At k) e = values-say (valuesOf (sortsBy k) texts) k (letter-exactly letter k .0 e) refl
   behind-says Nowhere e = tt
 
   -- good values behind the letter of a place
-  says-values : (k : ℕ) (vs : List ℕ) → Named letters letter k → AreValues (sortsBy k) texts vs → says (formed (letter ∷ texts)) ≡ saidBy k vs
+  says-values : (k : ℕ) (vs : List ℕ) → Named letter letters k → AreValues (sortsBy k) texts vs → says (formed (letter ∷ texts)) ≡ saidBy k vs
   unfolding says saidOf
   says-values k vs n good =
       let seven : suc (length texts) ≡ 7 = omega (arith, as-many good, six-sorts k) in
@@ -82,11 +83,11 @@ so-says texts = by-test (Says texts) (eqb (length texts) 7) (λ e. of-says texts
 -- and says what it is
 says-holding : (texts : List (List ℕ)) (row : Row) (price : ℕ) → IsHolding texts row price → says (formed texts) ≡ Holding row price
 says-holding [] row price h = absurd h
-says-holding (letter ∷ texts) row price h = says-values letter texts 0 _ (omega arith, h .0) (h .1)
+says-holding (letter ∷ texts) row price h = says-values letter texts 0 _ (record { inside = omega arith; here = h .0 }) (h .1)
 
 says-line : (texts : List (List ℕ)) (line : Line) → IsLine texts line → says (formed texts) ≡ Lined line
 says-line [] line h = absurd h
-says-line (letter ∷ texts) line h = says-values letter texts 1 _ (omega arith, h .0) (h .1)
+says-line (letter ∷ texts) line h = says-values letter texts 1 _ (record { inside = omega arith; here = h .0 }) (h .1)
 
 pub holding-exactly : (texts : List (List ℕ)) (row : Row) (price : ℕ) → (says (formed texts) ≡ Holding row price) ↔ IsHolding texts row price
 holding-exactly texts row price = (λ e. subst (Says texts) e (so-says texts), says-holding texts row price)

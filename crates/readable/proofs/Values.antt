@@ -1,7 +1,6 @@
 -- A text is read as a value exactly when it is that value of its sort, and so are several. Assumes nothing.
 use mathlib.Core.Path.{_≡_, refl, ap, subst}
 use mathlib.Core.Logic.{_↔_, Iff·trans}
-use mathlib.Core.Bool.{true}
 use mathlib.Core.List.{List, [], _∷_}
 use Prim.Native.Nat.{ℕ, suc}
 use native.Mathlib.Omega.{arith}
@@ -11,12 +10,12 @@ use Rattle.lists.specs.Choice.{same}
 use Rattle.codes.specs.Codes.{placeOf}
 use Rattle.codes.specs.declared.Place.{Place}
 use Rattle.codes.specs.declared.Place.the-variants.{At, Nowhere}
-use Rattle.codes.proofs.Places.{distinct, distinct-exactly}
+use Rattle.codes.proofs.Places.{distinct-exactly}
 use Rattle.numerals.specs.Numerals.{numeralOf}
 use Rattle.numerals.specs.declared.Numeral.{Numeral}
 use Rattle.numerals.specs.declared.Numeral.the-variants.{Number, NotANumeral}
 use Rattle.numerals.proofs.Exactly.{numeral-exactly}
-use Rattle.layout.specs.Sorts.{Named, IsValue, AreValues, no-values, value-and, sides, kinds, issuers, byPlace, byNumeral, valueOf}
+use Rattle.layout.specs.Sorts.{IsValue, AreValues, no-values, value-and, sides, kinds, issuers, byPlace, byNumeral, valueOf}
 use Rattle.layout.specs.Layout.{Values, values, wrong, andValue, valuesOf}
 use Rattle.layout.specs.declared.Sort.{Sort}
 use Rattle.layout.specs.declared.Sort.the-variants.{Side, Kind, Issuer, Six, Twelve, Empty}
@@ -32,12 +31,6 @@ numeral-value : (n : Numeral) (v : ℕ) → (byNumeral n ≡ Of v) ↔ (n ≡ Nu
 numeral-value (Number n) v = (λ e. cc, λ e. cc)
 numeral-value NotANumeral v = (λ e. cc, λ e. cc)
 
--- a place among different texts
-pub named-exactly : (ts : List (List ℕ)) → distinct ts ≡ true → (t : List ℕ) (v : ℕ) → (placeOf t ts ≡ At v) ↔ Named ts t v
-named-exactly ts d t v =
-    let e = distinct-exactly t ts d v in
-    (λ p. (e .0 p .inside, e .0 p .here), λ n. e .1 (record { inside = n .0; here = n .1 }))
-
 -- nothing is the text of an empty field, and 0 its value
 empty-value : (t : List ℕ) (v : ℕ) → (valueOf Empty t ≡ Of v) ↔ IsValue Empty t v
 unfolding valueOf
@@ -52,9 +45,9 @@ empty-value (c ∷ t) v = (
 -- a text and its value; the texts of each table differ, by computing
 pub value-exactly : (s : Sort) (t : List ℕ) (v : ℕ) → (valueOf s t ≡ Of v) ↔ IsValue s t v
 unfolding valueOf same
-value-exactly Side t v = Iff·trans (place-value (placeOf t sides) v) (named-exactly sides refl t v)
-value-exactly Kind t v = Iff·trans (place-value (placeOf t kinds) v) (named-exactly kinds refl t v)
-value-exactly Issuer t v = Iff·trans (place-value (placeOf t issuers) v) (named-exactly issuers refl t v)
+value-exactly Side t v = Iff·trans (place-value (placeOf t sides) v) (distinct-exactly t sides refl v)
+value-exactly Kind t v = Iff·trans (place-value (placeOf t kinds) v) (distinct-exactly t kinds refl v)
+value-exactly Issuer t v = Iff·trans (place-value (placeOf t issuers) v) (distinct-exactly t issuers refl v)
 value-exactly Six t v = Iff·trans (numeral-value (numeralOf 6 t) v) (numeral-exactly 6 t v)
 value-exactly Twelve t v = Iff·trans (numeral-value (numeralOf 12 t) v) (numeral-exactly 12 t v)
 value-exactly Empty t v = empty-value t v
