@@ -12,10 +12,10 @@ use Rattle.article.proofs.RateTable.{rate-table}
 use Rattle.article.proofs.Rates.{rate-high, half-exact}
 use Rattle.article.proofs.PairRates.{difference-excess, rate-and-saving, saving-high}
 use Rattle.article.proofs.Legs.{allowed-meets, meets-allowed, bonds-no-rule, kinds-pair, class-rule, no-class-long, no-class-short, no-rule}
-use Rattle.article.specs.Article.{MayPair, Pairing, Stranger, Article}
+use Rattle.article.specs.Article.{MayPair, Pairing, UnknownIssuer, Article}
 use Rattle.holding.specs.Holding.{InRange, sideNumber, kindNumber, noIssuer, issuerNumber, rowOf}
 use Rattle.article.specs.Rate.{classOf, rateOf}
-use Rattle.article.specs.Pair.{legOf, isCanada, isProvince, ruleOf, ruleRate, permits, allowed, pairRate}
+use Rattle.article.specs.Pair.{legOf, isCanada, isProvince, ruleOf, ruleRate, permits, allowed, pairRateOf}
 use Rattle.holding.specs.declared.Side.{Side}
 use Rattle.holding.specs.declared.Side.the-variants.{Long, Short}
 use Rattle.holding.specs.declared.Issuer.{Issuer}
@@ -61,8 +61,8 @@ module _ (l s : Holding) (f : InRange l) (g : InRange s) where
   })
 
   -- the pair's rate by that rule
-  rate-by : (r : Rule) → ruleOf (legOf l) (legOf s) ≡ r → pairRate (legOf l) (legOf s) ≡ ruleRate r (rateOf l) (rateOf s)
-  unfolding pairRate
+  rate-by : (r : Rule) → ruleOf (legOf l) (legOf s) ≡ r → pairRateOf (legOf l) (legOf s) ≡ ruleRate r (rateOf l) (rateOf s)
+  unfolding pairRateOf
   rate-by r e = rw e (unfold legOf in refl)
 
   pairing : Pairing l s
@@ -82,8 +82,8 @@ module _ (p : ℕ) (stray : within 1 10 p ≡ false) where
   unfolding isCanada isProvince legOf rowOf within
   stray-leg h e = (rw (stray-number (h .issuer) e), rw (stray-number (h .issuer) e))
 
-  stranger : Stranger p
-  stranger = record {
+  unknown-issuer : UnknownIssuer p
+  unknown-issuer = record {
     out-of-range = λ h e g. unfold rowOf in omega (arith, g .issuer, stray-number (h .issuer) e);
     as-long = λ l s e. let (c, n) = stray-leg l e in no-rule _ _ (no-class-long _ _ c n);
     as-short = λ l s e. let (c, n) = stray-leg s e in no-rule _ _ (no-class-short _ _ c n);
@@ -93,7 +93,7 @@ pub article : Article
 article = record {
   rows = λ r. record { no-fault = (fault-none r, none-fault r); kept = row-kept r };
   records = holding-kept;
-  strangers = stranger;
+  unknown-issuers = unknown-issuer;
   rates = rate-table;
   pairs = pairing;
 }

@@ -6,4 +6,4 @@ pub mod RateTable
 pub mod Rates
 pub mod Legs
 pub mod Article
-pub mod Told
+pub mod Answered

@@ -3,7 +3,7 @@ use mathlib.Core.Path.{_≡_}
 use mathlib.Core.Bool.{true, false≢true}
 use Prim.Native.Nat.{ℕ, _+_, _≤_, min, max}
 use native.Mathlib.Omega.{arith}
-use Rattle.article.specs.Pair.{ruleRate, permits, pairRate, savingRate, ruleOf, RateInRange}
+use Rattle.article.specs.Pair.{ruleRate, permits, pairRateOf, savingRateOf, ruleOf, RateInRange}
 use Rattle.article.specs.declared.pair.Rule.{Rule}
 use Rattle.article.specs.declared.pair.Rule.the-variants.{Difference, HalfSum, NotAllowed}
 use Rattle.article.specs.declared.pair.Leg.{Leg}
@@ -20,13 +20,13 @@ rule-rate-le HalfSum a b = omega arith
 rule-rate-le NotAllowed a b = omega arith
 
 -- a pair's rate and its saving rate are together the two rates
-pub rate-and-saving : (l s : Leg) → pairRate l s + savingRate l s ≡ l .rate + s .rate
-unfolding savingRate pairRate
+pub rate-and-saving : (l s : Leg) → pairRateOf l s + savingRateOf l s ≡ l .rate + s .rate
+unfolding savingRateOf pairRateOf
 rate-and-saving l s = omega (arith, rule-rate-le (ruleOf l s) (l .rate) (s .rate))
 
 -- the saving rate lies between 0 and 43,800
-pub saving-high : (l s : Leg) → RateInRange l → RateInRange s → savingRate l s ≤ 43800
-unfolding savingRate
+pub saving-high : (l s : Leg) → RateInRange l → RateInRange s → savingRateOf l s ≤ 43800
+unfolding savingRateOf
 saving-high l s f g = omega arith
 
 -- a rule that permits makes no rate above the article's highest

@@ -9,7 +9,7 @@ use borrow.Author.Tests.{ltb-false}
 use Rattle.lists.proofs.Tests.{by-test}
 use Rattle.article.proofs.FlatRates.{flat-high}
 use Rattle.article.proofs.Terms.{small}
-use Rattle.article.specs.Rate.{over, atLeast, periodOf, percents, flatRate, bondRate, stripRate, kindRate, classOf, rateAt, rateOf}
+use Rattle.article.specs.Rate.{longerThan, atLeast, periodOf, percents, flatRate, bondRate, stripRate, kindRate, classOf, rateAt, rateOf}
 use Rattle.article.specs.Pair.{ruleRate}
 use Rattle.holding.specs.declared.Kind.{Kind}
 use Rattle.holding.specs.declared.Kind.the-variants.{Bond, Coupon, Residual}
@@ -24,7 +24,7 @@ bond-times : (class d : ℕ) → Times 4 (bondRate class d)
 unfolding bondRate flatRate
 bond-times class d =
     let percent = getD (getD percents class []) (periodOf d - 1) 0 in
-    by-test (Times 4) (over d 1) (λ _. (percent * 365, omega arith)) (λ _. (percent * d, omega arith))
+    by-test (Times 4) (longerThan d 1) (λ _. (percent * 365, omega arith)) (λ _. (percent * d, omega arith))
 
 strip-even : (bond d : ℕ) → Times 4 bond → Times 2 (stripRate bond d)
 unfolding stripRate
@@ -50,7 +50,7 @@ half-exact l s =
 
 -- in period 1 the days are at most the year's
 pub bond-high : (class d : ℕ) → bondRate class d ≤ 7300
-unfolding bondRate over
+unfolding bondRate longerThan
 bond-high class d =
     by-test (_≤ 7300) (ltb (1 * 365) d) (λ _. flat-high class (periodOf d)) (λ e. omega (arith, small class d (ltb-false 365 d e)))
 

@@ -4,15 +4,15 @@ use Prim.Native.Nat.{ℕ, _*_, _/_, _≤_, _<_}
 use native.Mathlib.Nat.{mul-le-mul}
 use borrow.Author.Tests.{le-ltb, lt-ltb, le-leb, lt-leb}
 use Rattle.article.proofs.FlatRates.{flat-high}
-use Rattle.article.specs.Rate.{over, atLeast, periodOf, flatRate, bondRate, stripRate}
+use Rattle.article.specs.Rate.{longerThan, atLeast, periodOf, flatRate, bondRate, stripRate}
 
 module _ (class d : ℕ) where
   pub within-year : d ≤ 365 → bondRate class d ≡ flatRate class (periodOf d) * d / 365
-  unfolding bondRate over
+  unfolding bondRate longerThan
   within-year h = rw (le-ltb 365 d h)
 
   pub over-year : 365 < d → bondRate class d ≡ flatRate class (periodOf d)
-  unfolding bondRate over
+  unfolding bondRate longerThan
   over-year h = rw (lt-ltb 365 d h)
 
   -- within a year the product is small

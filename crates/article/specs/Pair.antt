@@ -81,21 +81,21 @@ ruleRate HalfSum a b = (a + b) / 2
 ruleRate NotAllowed a b = a + b
 
 -- the rate of a pair
-unfoldable pub pairRate : Leg → Leg → ℕ
-pairRate l s = ruleRate (ruleOf l s) (l .rate) (s .rate)
+unfoldable pub pairRateOf : Leg → Leg → ℕ
+pairRateOf l s = ruleRate (ruleOf l s) (l .rate) (s .rate)
 
 -- the sum of the two rates less the pair's rate
-unfoldable pub savingRate : Leg → Leg → ℕ
-savingRate l s = l .rate + s .rate - pairRate l s
+unfoldable pub savingRateOf : Leg → Leg → ℕ
+savingRateOf l s = l .rate + s .rate - pairRateOf l s
 
 -- the paper's number and values of each answer: 0 with the pair's rate and the saving rate, or 13
-unfoldable pub told : Pair → Answer
-told (pairs.Allowed rate saving) = answer 0 rate saving
-told pairs.NotAllowed = answer 13 0 0
+unfoldable pub pairAnswer : Pair → Answer
+pairAnswer (pairs.Allowed rate saving) = answer 0 rate saving
+pairAnswer pairs.NotAllowed = answer 13 0 0
 
 -- what two legs are told
 unfoldable pub pairOf : Leg → Leg → Answer
-pairOf l s = cond (allowed l s) (answer 0 (pairRate l s) (savingRate l s)) (answer 13 0 0)
+pairOf l s = cond (allowed l s) (answer 0 (pairRateOf l s) (savingRateOf l s)) (answer 13 0 0)
 
 -- a leg's rate is at most the article's highest
 abbrev pub RateInRange : Leg → Type 0
@@ -103,6 +103,6 @@ RateInRange l = l .rate ≤ 21900
 
 -- what pairing two legs promises
 pub record Pairs (l s : Leg) (r : Pair) : Type 0 where
-  pub answered : told r ≡ pairOf l s
-  pub rate-high : told r .first ≤ 21900
-  pub saving-high : told r .second ≤ 43800
+  pub answered : pairAnswer r ≡ pairOf l s
+  pub rate-high : pairAnswer r .first ≤ 21900
+  pub saving-high : pairAnswer r .second ≤ 43800

@@ -12,8 +12,8 @@ use Rattle.holding.specs.declared.Issuer.the-variants.{Canada, Province}
 use Rattle.holding.specs.declared.Holding.{Holding}
 
 -- a term of more than so many years. A year is 365 days here
-unfoldable pub over : ℕ → ℕ → Bool
-over days years = ltb (years * 365) days
+unfoldable pub longerThan : ℕ → ℕ → Bool
+longerThan days years = ltb (years * 365) days
 
 -- a term of so many years or more
 unfoldable pub atLeast : ℕ → ℕ → Bool
@@ -21,7 +21,7 @@ atLeast days years = leb (years * 365) days
 
 -- 1 year or less, over 1 year to 3, over 3 to 7, over 7 to 11, over 11 years: periods 1 to 5, each end inside the earlier period
 unfoldable pub periodOf : ℕ → ℕ
-periodOf days = 1 + count (over days) (1 ∷ 3 ∷ 7 ∷ 11 ∷ [])
+periodOf days = 1 + count (longerThan days) (1 ∷ 3 ∷ 7 ∷ 11 ∷ [])
 
 -- the issuer class, as a place in the table: Group I, Canada; Group II, the provinces
 abbrev pub classOf : Issuer → ℕ
@@ -43,7 +43,7 @@ flatRate class period = getD (getD percents class []) (period - 1) 0 * (146000 /
 unfoldable pub bondRate : ℕ → ℕ → ℕ
 bondRate class days =
     let flat = flatRate class (periodOf days) in
-    cond (over days 1) flat (flat * days / 365)
+    cond (longerThan days 1) flat (flat * days / 365)
 
 -- a strip's rate: one and a half times the bond's at the strip's own term, three times from 20 years
 unfoldable pub stripRate : ℕ → ℕ → ℕ

@@ -3,7 +3,6 @@ use crate::rate;
 use holding::Holding;
 ghost use mathlib.Core.Path.{_≡_};
 ghost use Prim.Native.Nat.{_+_, _≤_};
-ghost use Rattle.holding.specs.Holding.{InRange};
 ghost use Rattle.article.specs.Pair.{legOf, classRule, ruleOf, permits, ruleRate, RateInRange, Pairs};
 
 // Which rule a pair has.
@@ -30,7 +29,6 @@ pub enum Pair {
 
 // What a pair asks of this holding, worked out once.
 pub fn leg_of(h: Holding) -> Leg
-    requires { ⌜ InRange h ⌝ }
     ensures { λ r. ⌜ (r ≡ legOf h) × RateInRange r ⌝ }
 {
     let row = holding::row_of(h);
@@ -136,12 +134,4 @@ pub fn pair_legs(long: Leg, short: Leg) -> Pair
         rate,
         saving: long.rate + short.rate - rate,
     }
-}
-
-// Two holdings as a pair.
-pub fn pair_of(long: Holding, short: Holding) -> Pair
-    requires { ⌜ InRange long × InRange short ⌝ }
-    ensures { λ r. ⌜ Pairs (legOf long) (legOf short) r ⌝ }
-{
-    pair_legs(leg_of(long), leg_of(short))
 }

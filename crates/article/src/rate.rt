@@ -4,7 +4,6 @@ use holding::Issuer;
 use holding::Kind;
 ghost use mathlib.Core.Path.{_≡_};
 ghost use Prim.Native.Nat.{_≤_, _<_};
-ghost use Rattle.holding.specs.Holding.{InRange};
 ghost use Rattle.article.specs.Rate.{periodOf, classOf, bondRate, stripRate, rateOf};
 
 // Issuer class (Canada, the provinces) by period: the article's percentages in units.
@@ -61,7 +60,6 @@ fn strip_rate(bond: u64, days: u64) -> u64
 
 // The rate of a holding alone.
 pub fn rate(h: Holding) -> u64
-    requires { ⌜ InRange h ⌝ }
     ensures { λ r. ⌜ (r ≡ rateOf h) × (r ≤ 21900) ⌝ }
 {
     let kind = h.kind;

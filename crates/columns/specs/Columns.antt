@@ -23,11 +23,11 @@ pub record LineColumns : Type 0 where
   pub short : List ℕ
   pub amount : List ℕ
 
-abbrev pub bookColumns : List ℕ → List ℕ → List ℕ → List ℕ → List ℕ → List ℕ → BookColumns
-bookColumns side kind issuer days value price = record { side = side; kind = kind; issuer = issuer; days = days; value = value; price = price }
+abbrev pub makeBookColumns : List ℕ → List ℕ → List ℕ → List ℕ → List ℕ → List ℕ → BookColumns
+makeBookColumns side kind issuer days value price = record { side = side; kind = kind; issuer = issuer; days = days; value = value; price = price }
 
-abbrev pub lineColumns : List ℕ → List ℕ → List ℕ → LineColumns
-lineColumns long short amount = record { long = long; short = short; amount = amount }
+abbrev pub makeLineColumns : List ℕ → List ℕ → List ℕ → LineColumns
+makeLineColumns long short amount = record { long = long; short = short; amount = amount }
 
 -- numbers at the front of a column of bytes; what the column held past them is kept
 unfoldable pub column : List ℕ → List ℕ → List ℕ

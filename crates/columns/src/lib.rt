@@ -9,7 +9,7 @@ ghost use lib.ListN.{length};
 ghost use Rattle.lists.specs.Tables.{listTo, front};
 ghost use Rattle.words.specs.Words.{encode};
 ghost use Rattle.proposal.specs.Submission.{rowsOf, pricesOf, linesOf};
-ghost use Rattle.columns.specs.Columns.{rowNumber, lineNumber, rowColumn, lineColumn, bookColumns, lineColumns, filledBook, filledLines, BookRoom, LinesRoom};
+ghost use Rattle.columns.specs.Columns.{rowNumber, lineNumber, rowColumn, lineColumn, makeBookColumns, makeLineColumns, filledBook, filledLines, BookRoom, LinesRoom};
 
 // The number of a row in column j: side, kind, issuer, days, value.
 fn row_number(row: Row, j: usize) -> u64
@@ -36,7 +36,7 @@ fn line_number(line: Line, j: usize) -> u64
 }
 
 // Lays column j of the first n rows at the front; the bytes past them are kept.
-fn lay_rows(rows: [Row; 256], n: usize, j: usize, bytes: &mut [u8])
+fn write_rows(rows: [Row; 256], n: usize, j: usize, bytes: &mut [u8])
     requires { ⌜ (n ≤ 256) × (8 * n ≤ length (now bytes)) ⌝ }
     ensures { λ _. ⌜ now (bytes .exit) ≡ front (encode (listTo n (rowColumn j rows))) (now (bytes .entry)) ⌝ }
 {
@@ -49,7 +49,7 @@ fn lay_rows(rows: [Row; 256], n: usize, j: usize, bytes: &mut [u8])
 }
 
 // Lays column j of the first n lines in the same way.
-fn lay_lines(lines: [Line; 512], n: usize, j: usize, bytes: &mut [u8])
+fn write_lines(lines: [Line; 512], n: usize, j: usize, bytes: &mut [u8])
     requires { ⌜ (n ≤ 512) × (8 * n ≤ length (now bytes)) ⌝ }
     ensures { λ _. ⌜ now (bytes .exit) ≡ front (encode (listTo n (lineColumn j lines))) (now (bytes .entry)) ⌝ }
 {
@@ -62,7 +62,7 @@ fn lay_lines(lines: [Line; 512], n: usize, j: usize, bytes: &mut [u8])
 }
 
 // Lays a book and the prices on its holdings into their columns.
-pub fn lay_book(
+pub fn write_book(
     book: Book,
     proposal: Proposal,
     side: &mut [u8],
@@ -72,28 +72,28 @@ pub fn lay_book(
     value: &mut [u8],
     price: &mut [u8],
 )
-    requires { ⌜ BookRoom (book .count) (bookColumns (now side) (now kind) (now issuer) (now days) (now value) (now price)) ⌝ }
-    ensures { λ _. ⌜ bookColumns (now (side .exit)) (now (kind .exit)) (now (issuer .exit)) (now (days .exit)) (now (value .exit)) (now (price .exit)) ≡ filledBook (rowsOf book) (pricesOf book (proposal .prices)) (bookColumns (now (side .entry)) (now (kind .entry)) (now (issuer .entry)) (now (days .entry)) (now (value .entry)) (now (price .entry))) ⌝ }
+    requires { ⌜ BookRoom (book .count) (makeBookColumns (now side) (now kind) (now issuer) (now days) (now value) (now price)) ⌝ }
+    ensures { λ _. ⌜ makeBookColumns (now (side .exit)) (now (kind .exit)) (now (issuer .exit)) (now (days .exit)) (now (value .exit)) (now (price .exit)) ≡ filledBook (rowsOf book) (pricesOf book (proposal .prices)) (makeBookColumns (now (side .entry)) (now (kind .entry)) (now (issuer .entry)) (now (days .entry)) (now (value .entry)) (now (price .entry))) ⌝ }
 {
     let n = book.count;
     let prices = proposal.prices;
-    words::lay(&prices, n, price);
+    words::write_words(&prices, n, price);
     let rows = book.rows;
-    lay_rows(rows, n, 0, side);
-    lay_rows(rows, n, 1, kind);
-    lay_rows(rows, n, 2, issuer);
-    lay_rows(rows, n, 3, days);
-    lay_rows(rows, n, 4, value);
+    write_rows(rows, n, 0, side);
+    write_rows(rows, n, 1, kind);
+    write_rows(rows, n, 2, issuer);
+    write_rows(rows, n, 3, days);
+    write_rows(rows, n, 4, value);
 }
 
 // Lays the lines of a proposal into their columns.
-pub fn lay_proposal(proposal: Proposal, long: &mut [u8], short: &mut [u8], amount: &mut [u8])
-    requires { ⌜ LinesRoom (proposal .count) (lineColumns (now long) (now short) (now amount)) ⌝ }
-    ensures { λ _. ⌜ lineColumns (now (long .exit)) (now (short .exit)) (now (amount .exit)) ≡ filledLines (linesOf proposal) (lineColumns (now (long .entry)) (now (short .entry)) (now (amount .entry))) ⌝ }
+pub fn write_proposal(proposal: Proposal, long: &mut [u8], short: &mut [u8], amount: &mut [u8])
+    requires { ⌜ LinesRoom (proposal .count) (makeLineColumns (now long) (now short) (now amount)) ⌝ }
+    ensures { λ _. ⌜ makeLineColumns (now (long .exit)) (now (short .exit)) (now (amount .exit)) ≡ filledLines (linesOf proposal) (makeLineColumns (now (long .entry)) (now (short .entry)) (now (amount .entry))) ⌝ }
 {
     let n = proposal.count;
     let lines = proposal.lines;
-    lay_lines(lines, n, 0, long);
-    lay_lines(lines, n, 1, short);
-    lay_lines(lines, n, 2, amount);
+    write_lines(lines, n, 0, long);
+    write_lines(lines, n, 1, short);
+    write_lines(lines, n, 2, amount);
 }

@@ -1,4 +1,4 @@
-pub mod Gaps
+pub mod Uncovered
 pub mod Noted
 pub mod RepeatsCovered
 pub mod Totals

@@ -12,7 +12,7 @@ use Rattle.proposal.specs.Outcome.{atPair, atLong}
 use Rattle.positions.specs.Positions.{heldBook}
 use Rattle.positions.specs.declared.Positions.{Positions}
 use Rattle.cover.specs.Repeats.{Repeat, Repeats}
-use Rattle.cover.proofs.Gaps.{leg, none-covered, covered-none}
+use Rattle.cover.proofs.Uncovered.{leg, none-covered, covered-none}
 
 module _ (p : Positions) {xs : List ℕ} (r : Repeats (heldBook p) xs) (k : ℕ) (entry : getD xs k 0 ≢ 0) where
   -- the earlier holding that k repeats

@@ -7,7 +7,7 @@ ghost use Prim.Native.Nat.{_<_};
 ghost use Rattle.article.specs.Pair.{RateInRange};
 ghost use Rattle.pairing.specs.Pairing.{pricedTotal};
 ghost use Rattle.proposal.specs.Submission.{termsOf};
-ghost use Rattle.proposal.specs.Outcome.{answerOf, gaps, firstFault};
+ghost use Rattle.proposal.specs.Outcome.{faultAnswer, uncoveredPairs, firstFault};
 ghost use Rattle.positions.specs.Positions.{heldBook, InBounds};
 ghost use Rattle.cover.specs.Repeats.{Repeats};
 
@@ -47,9 +47,9 @@ fn repeats(positions: Positions) -> [u64; 256]
 
 // The first allowed pair of the book that the prices do not cover, lowest long, then lowest short, or no fault. A holding that repeats an
 // earlier one is passed over: the earlier one is in a gap wherever it is.
-pub fn first_gap(positions: Positions) -> Fault
+pub fn first_uncovered(positions: Positions) -> Fault
     requires { ⌜ InBounds positions ⌝ }
-    ensures { λ r. ⌜ answerOf r ≡ firstFault (gaps (heldBook positions)) ⌝ }
+    ensures { λ r. ⌜ faultAnswer r ≡ firstFault (uncoveredPairs (heldBook positions)) ⌝ }
 {
     let n = positions.count;
     let repeats = repeats(positions);

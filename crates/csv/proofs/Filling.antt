@@ -8,7 +8,7 @@ use native.Mathlib.Omega.{arith}
 use lib.ListN.{length, take, drop, set, length-set, take-append-drop}
 use lib.Seq.{take-nil, drop-nil, set-out}
 use Rattle.lists.specs.Tables.{front}
-use Rattle.csv.specs.Reading.{fieldAt, Parsed, fields, malformed, push, onPiece, recordAt, noSpans, fieldsOf}
+use Rattle.csv.specs.Reading.{fieldAt, Split, fields, malformed, push, onPiece, recordAt, noSpans, fieldsOf}
 use Rattle.csv.specs.declared.Span.{Span}
 use Rattle.csv.specs.declared.Piece.{Piece}
 use Rattle.csv.specs.declared.Piece.the-variants.{Field, Broken}
@@ -16,29 +16,29 @@ use Rattle.csv.specs.declared.Fields.{Fields}
 use Rattle.csv.proofs.Pieces.{FieldRead, field-read, reach, ahead}
 use Rattle.csv.proofs.Places.{record-turn, not-last}
 
--- the entries of a row from place n on, as far as it reaches, written over
-abbrev over : {A : Type 0} → List A → ℕ → List A → List A
-over row n xs = take n row ++ front (take (length row - n) xs) (drop n row)
+-- the entries of a row from place n on, as far as it reaches, overwritten
+abbrev overwriteWithin : {A : Type 0} → List A → ℕ → List A → List A
+overwriteWithin row n xs = take n row ++ front (take (length row - n) xs) (drop n row)
 
-over-more : {A : Type 0} (row : List A) (n : ℕ) (x : A) (xs : List A) → over row n (x ∷ xs) ≡ over (set row n x) (n + 1) xs
+overwrite-within-more : {A : Type 0} (row : List A) (n : ℕ) (x : A) (xs : List A) → overwriteWithin row n (x ∷ xs) ≡ overwriteWithin (set row n x) (n + 1) xs
 unfolding front
-over-more [] n x xs =
+overwrite-within-more [] n x xs =
     let a : 0 - n ≡ 0 = omega arith in
     let b : 0 - (n + 1) ≡ 0 = omega arith in
     rw (a, b, take-nil n, take-nil (n + 1), drop-nil n, drop-nil (n + 1))
-over-more (y ∷ row) zero x xs =
+overwrite-within-more (y ∷ row) zero x xs =
     let a : suc (length row) - 0 ≡ suc (length row) = omega arith in
     let b : suc (length row) - 1 ≡ length row = omega arith in
     rw (a, b)
-over-more (y ∷ row) (suc n) x xs =
+overwrite-within-more (y ∷ row) (suc n) x xs =
     let a : suc (length row) - suc n ≡ length row - n = omega arith in
     let b : suc (length (set row n x)) - suc (n + 1) ≡ length (set row n x) - (n + 1) = omega arith in
     let c : suc n + 1 ≡ suc (n + 1) = omega arith in
-    rw (a, c, b) (ap (λ l. y ∷ l) (over-more row n x xs))
+    rw (a, c, b) (ap (λ l. y ∷ l) (overwrite-within-more row n x xs))
 
 -- a record as it is handed back, its first n fields being in the row
-abbrev filled : List Span → ℕ → Parsed → Fields
-filled row n (fields ss next) = record { formed = true; count = n + length ss; spans = over row n ss; next = next }
+abbrev filled : List Span → ℕ → Split → Fields
+filled row n (fields ss next) = record { formed = true; count = n + length ss; spans = overwriteWithin row n ss; next = next }
 filled row n malformed = fieldsOf malformed
 
 -- what the loop keeps when it comes to place i with n fields in the row: the record from there on completes the one that is asked for
@@ -52,21 +52,21 @@ pub filling-none : (text : List ℕ) (at : ℕ) → Filling text at noSpans 0 at
 unfolding fieldsOf
 filling-none text at = record { behind = omega arith; few = omega arith; seven = refl; completes = go (recordAt text at) }
   where
-    go : (p : Parsed) → filled noSpans 0 p ≡ fieldsOf p
+    go : (p : Split) → filled noSpans 0 p ≡ fieldsOf p
     go (fields ss next) =
         let c : 0 + length ss ≡ length ss = omega arith in
         rw c
     go malformed = refl
 
-filled-push : (row : List Span) (n : ℕ) (s : Span) (p : Parsed) → filled row n (push s p) ≡ filled (set row n s) (n + 1) p
+filled-push : (row : List Span) (n : ℕ) (s : Span) (p : Split) → filled row n (push s p) ≡ filled (set row n s) (n + 1) p
 filled-push row n s (fields ss next) =
     let c : n + suc (length ss) ≡ n + 1 + length ss = omega arith in
-    rw (c, over-more row n s ss)
+    rw (c, overwrite-within-more row n s ss)
 filled-push row n s malformed = refl
 
 filled-last : (row : List Span) (n : ℕ) (s : Span) (next : ℕ) → filled row n (fields (s ∷ []) next) ≡ record { formed = true; count = n + 1; spans = set row n s; next = next }
 unfolding front
-filled-last row n s next = rw (over-more row n s [], take-nil (length (set row n s) - (n + 1)), take-append-drop (n + 1) (set row n s))
+filled-last row n s next = rw (overwrite-within-more row n s [], take-nil (length (set row n s) - (n + 1)), take-append-drop (n + 1) (set row n s))
 
 -- a turn that finds piece p at i
 module _ {text : List ℕ} {at : ℕ} {row : List Span} {n i : ℕ} (t : Filling text at row n i) where

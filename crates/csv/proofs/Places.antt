@@ -9,7 +9,7 @@ use lib.Dec.{ltb}
 use lib.ListN.{length, take}
 use lib.Seq.{take-all}
 use Rattle.lists.specs.Tables.{front}
-use Rattle.csv.specs.Reading.{part, fieldAt, Parsed, fields, malformed, push, onPiece, fieldsFrom, recordAt, fieldsOf, Read, formed, broken, onParsed, recordsFrom, recordsAt}
+use Rattle.csv.specs.Reading.{part, fieldAt, Split, fields, malformed, push, onPiece, fieldsFrom, recordAt, fieldsOf, Read, formed, broken, onSplit, recordsFrom, recordsAt}
 use Rattle.csv.specs.declared.Span.{Span}
 use Rattle.csv.specs.declared.Piece.{Piece}
 use Rattle.csv.specs.declared.Piece.the-variants.{Field, Broken}
@@ -26,13 +26,13 @@ pub not-last : {A : Type 0} → false ≡ true → A
 not-last e = absurd (false≢true e)
 
 -- a record that begins with a field
-pushed : (s : Span) (p : Parsed) {l : List Span} {next : ℕ} → push s p ≡ fields l next → (ss : List Span) × (l ≡ s ∷ ss) × (p ≡ fields ss next)
+pushed : (s : Span) (p : Split) {l : List Span} {next : ℕ} → push s p ≡ fields l next → (ss : List Span) × (l ≡ s ∷ ss) × (p ≡ fields ss next)
 pushed s (fields ss next) e = (ss, cc, cc)
 pushed s malformed e = clash cc
 
 module _ (text : List ℕ) where
   -- reading on from a field asks only of places further on, and in the text
-  onward : (g h : ℕ → Parsed) (i : ℕ) → ((j : ℕ) → i < j → j ≤ length text → g j ≡ h j) → (p : Piece) → PieceRead text i p → onPiece p g ≡ onPiece p h
+  onward : (g h : ℕ → Split) (i : ℕ) → ((j : ℕ) → i < j → j ≤ length text → g j ≡ h j) → (p : Piece) → PieceRead text i p → onPiece p g ≡ onPiece p h
   onward g h i e (Field s true next) r = refl
   onward g h i e (Field s false next) r = ap (push s) (e next (ahead r not-last) (reach r not-last .1))
   onward g h i e Broken r = refl
@@ -94,18 +94,18 @@ module _ (text : List ℕ) where
       (reads-ahead r h, reads-reach r (omega arith) .1)
 
   -- and so does reading on from a record
-  later : (g h : ℕ → List Read) (i : ℕ) → ((j : ℕ) → i < j → j ≤ length text → g j ≡ h j) → (p : Parsed) → recordAt text i ≡ p → (b : Bool) → ltb i (length text) ≡ b
-      → cond b (onParsed text p g) [] ≡ cond b (onParsed text p h) []
+  later : (g h : ℕ → List Read) (i : ℕ) → ((j : ℕ) → i < j → j ≤ length text → g j ≡ h j) → (p : Split) → recordAt text i ≡ p → (b : Bool) → ltb i (length text) ≡ b
+      → cond b (onSplit text p g) [] ≡ cond b (onSplit text p h) []
   later g h i e (fields ss next) p true b =
       let (l, m) = progress i ss next (ltb-true i (length text) b) p in
       ap (λ rs. formed (map (part text) ss) ∷ rs) (e next l m)
   later g h i e malformed p true b = refl
   later g h i e p q false b = refl
 
-  records-turn : (i : ℕ) → recordsAt text i ≡ cond (ltb i (length text)) (onParsed text (recordAt text i) (recordsAt text)) []
+  records-turn : (i : ℕ) → recordsAt text i ≡ cond (ltb i (length text)) (onSplit text (recordAt text i) (recordsAt text)) []
   unfolding recordsAt recordsFrom
   records-turn =
-      unbounded (length text) (recordsFrom text) (λ g i. cond (ltb i (length text)) (onParsed text (recordAt text i) g) []) (λ k i. refl)
+      unbounded (length text) (recordsFrom text) (λ g i. cond (ltb i (length text)) (onSplit text (recordAt text i) g) []) (λ k i. refl)
       (λ g h i e. later g h i e (recordAt text i) refl (ltb i (length text)) refl)
 
   module _ (i : ℕ) where
@@ -119,19 +119,19 @@ module _ (text : List ℕ) where
     records-next h e = records-turn i ∙ rw (lt-ltb i (length text) h, e)
 
 -- a record that the code hands back as not formed is outside the grammar
-pub code-broken : (p : Parsed) (r : Fields) → r ≡ fieldsOf p → r .formed ≡ false → p ≡ malformed
+pub code-broken : (p : Split) (r : Fields) → r ≡ fieldsOf p → r .formed ≡ false → p ≡ malformed
 unfolding fieldsOf
 code-broken (fields ss next) r e f = clash cc
 code-broken malformed r e f = refl
 
 -- one that it hands back as formed is in it, with as many fields as are counted
-pub code-formed : (p : Parsed) (r : Fields) → r ≡ fieldsOf p → r .formed ≡ true → (ss : List Span) × (p ≡ fields ss (r .next)) × (length ss ≡ r .count)
+pub code-formed : (p : Split) (r : Fields) → r ≡ fieldsOf p → r .formed ≡ true → (ss : List Span) × (p ≡ fields ss (r .next)) × (length ss ≡ r .count)
 unfolding fieldsOf
 code-formed (fields ss next) r e f = (ss, rw e, rw e)
 code-formed malformed r e f = clash cc
 
 -- seven fields are all in the array
-pub code-seven : (p : Parsed) (r : Fields) → r ≡ fieldsOf p → r .formed ≡ true → r .count ≡ 7 → p ≡ fields (r .spans) (r .next)
+pub code-seven : (p : Split) (r : Fields) → r ≡ fieldsOf p → r .formed ≡ true → r .count ≡ 7 → p ≡ fields (r .spans) (r .next)
 unfolding fieldsOf front
 code-seven (fields ss next) r e f n =
     let long : length ss ≡ 7 = sym (ap (λ x. x .count) e) ∙ n in

@@ -75,28 +75,28 @@ fieldAt text i =
     cond (opens text i) inQuotes plain
 
 -- a record as the places of its fields and the place where the next record starts, or one outside the grammar
-pub data Parsed : Type 0 where
-  fields : List Span → ℕ → Parsed
-  malformed : Parsed
+pub data Split : Type 0 where
+  fields : List Span → ℕ → Split
+  malformed : Split
 
 -- a field before those of a record
-abbrev pub push : Span → Parsed → Parsed
+abbrev pub push : Span → Split → Split
 push s (fields ss next) = fields (s ∷ ss) next
 push s malformed = malformed
 
 -- a field alone, or before those that are read from the next place
-abbrev pub onPiece : Piece → (ℕ → Parsed) → Parsed
+abbrev pub onPiece : Piece → (ℕ → Split) → Split
 onPiece (Field s true next) more = fields (s ∷ []) next
 onPiece (Field s false next) more = push s (more next)
 onPiece Broken more = malformed
 
 -- the record at place i, of at most k fields
-unfoldable pub fieldsFrom : List ℕ → ℕ → ℕ → Parsed
+unfoldable pub fieldsFrom : List ℕ → ℕ → ℕ → Split
 fieldsFrom text zero i = malformed
 fieldsFrom text (suc k) i = onPiece (fieldAt text i) (fieldsFrom text k)
 
 -- the record at place i: it has at most one field more than the text has bytes
-unfoldable pub recordAt : List ℕ → ℕ → Parsed
+unfoldable pub recordAt : List ℕ → ℕ → Split
 recordAt text i = fieldsFrom text (suc (length text)) i
 
 -- no span in any place
@@ -104,7 +104,7 @@ abbrev pub noSpans : List Span
 noSpans = replicate 7 (span 0 0)
 
 -- a record as the code hands it back: the first seven spans laid over zeros, and the count of all
-unfoldable pub fieldsOf : Parsed → Fields
+unfoldable pub fieldsOf : Split → Fields
 fieldsOf (fields ss next) = record { formed = true; count = length ss; spans = front (take 7 ss) noSpans; next = next }
 fieldsOf malformed = record { formed = false; count = 0; spans = noSpans; next = 0 }
 
@@ -114,15 +114,15 @@ pub data Read : Type 0 where
   broken : Read
 
 -- a record before those that are read from the next place; nothing is read past one outside the grammar
-abbrev pub onParsed : List ℕ → Parsed → (ℕ → List Read) → List Read
-onParsed text (fields ss next) more = formed (map (part text) ss) ∷ more next
-onParsed text malformed more = broken ∷ []
+abbrev pub onSplit : List ℕ → Split → (ℕ → List Read) → List Read
+onSplit text (fields ss next) more = formed (map (part text) ss) ∷ more next
+onSplit text malformed more = broken ∷ []
 
 -- the records from place i on, at most k; at the text's end there is none
 unfoldable pub recordsFrom : List ℕ → ℕ → ℕ → List Read
 recordsFrom text zero i = []
 recordsFrom text (suc k) i =
-    let found = onParsed text (recordAt text i) (recordsFrom text k) in
+    let found = onSplit text (recordAt text i) (recordsFrom text k) in
     cond (ltb i (length text)) found []
 
 -- the records from place i on: there are no more than the text has bytes

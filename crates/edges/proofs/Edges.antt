@@ -9,30 +9,30 @@ use Rattle.lists.specs.Sums.{sumTo, sumOf, only}
 use Rattle.lists.specs.Tables.{listTo, turns, inTurn}
 use Rattle.lists.proofs.Entries.{every, each-by, same-true}
 use Rattle.holding.specs.Holding.{rowFaults, faultOf, holdingOf, sideOf, kindOf, issuerOf, rowOf}
-use Rattle.article.specs.Rate.{over, atLeast, periodOf, percents, flatRate, bondRate, stripRate, kindRate, rateAt, rateOf}
-use Rattle.article.specs.Pair.{legOf, isLong, isShort, isBond, isStrip, isCanada, isProvince, kindsPair, sameClass, mixedClass, classRule, ruleOf, ruleRate, allowed, pairRate, savingRate, pairOf}
+use Rattle.article.specs.Rate.{longerThan, atLeast, periodOf, percents, flatRate, bondRate, stripRate, kindRate, rateAt, rateOf}
+use Rattle.article.specs.Pair.{legOf, isLong, isShort, isBond, isStrip, isCanada, isProvince, kindsPair, sameClass, mixedClass, classRule, ruleOf, ruleRate, allowed, pairRateOf, savingRateOf, pairOf}
 use Rattle.pairing.specs.Pairing as theory
 use Rattle.pairing.specs.Pairing.{used, saving, pairUnits, pricedTotal}
 use Rattle.ranking.specs.Ranking.{ranksBefore, rankingOf}
 use Rattle.proposal.specs.Submission.{bookOf, termsOf, priced}
 use Rattle.proposal.specs.Figures.{remainder, margin, unitsOf, remaindersOf, ranked, centsOf}
-use Rattle.proposal.specs.Outcome.{atPlace, holdingFaults, pairFaults, lineFaults, atHolding, bookFaults, atLine, linesFaults, uncovered, atPair, atLong, gaps, totalsDiffer, totalsFaults, sizeFaults, faults, accepted, outcome}
+use Rattle.proposal.specs.Outcome.{atPlace, holdingFaults, pairFaults, lineFaults, atHolding, bookFaults, atLine, linesFaults, uncovered, atPair, atLong, uncoveredPairs, totalsDiffer, totalsFaults, sizeFaults, faults, accepted, outcome}
 use Rattle.numerals.specs.Numerals.{lead, digits, valueFrom, numeralOf}
 use Rattle.codes.specs.Codes.{placeFrom, placeOf}
 use Rattle.csv.specs.Bytes.{isText, isQuotable}
 use Rattle.csv.specs.Reading.{part, textFrom, textEnd, closeFrom, closeAt, followedBy, followed, begins, opens, enclosed, fieldAt, fieldsFrom, recordAt, recordsFrom, recordsAt, recordsOf}
 use Rattle.layout.specs.Sorts.{valueOf}
-use Rattle.layout.specs.Layout.{valuesOf, saidOf, says}
-use Rattle.reader.specs.File.{saidIn, rowsSaid, pricesSaid, linesSaid, submissionOf, atRecord, fileFaults, fileFault}
-use Rattle.report.specs.Report.{behindComma, lineOf, numbersOf, refusalLine, marginLine, remainderLine, linesOf, bookLine, printedOf}
-use Rattle.printing.specs.Printed.{answerTo, printed}
+use Rattle.layout.specs.Layout.{valuesOf, parsedOf, parse}
+use Rattle.reader.specs.File.{parsedIn, parsedRows, parsedPrices, parsedLines, submissionOf, atRecord, fileFaults, fileFault}
+use Rattle.report.specs.Report.{afterComma, lineOf, numbersOf, refusalLine, marginLine, remainderLine, printedLines, bookLine, printedOf}
+use Rattle.printing.specs.Printed.{fileAnswer, printed}
 use Rattle.edges.specs.Edges.{Case, Holds, alone, together, judged, worked, table}
 
 abbrev test : Case → Bool
 test c = same (c .computed) (c .stated)
 
 tested : every test table ≡ true
-unfolding table alone together judged worked within firstOf count same insert ordered sumTo sumOf only listTo turns inTurn rowFaults faultOf holdingOf sideOf kindOf issuerOf rowOf over atLeast periodOf percents flatRate bondRate stripRate kindRate rateAt rateOf legOf isLong isShort isBond isStrip isCanada isProvince kindsPair sameClass mixedClass classRule ruleOf ruleRate allowed pairRate savingRate pairOf used theory.savingRate saving pairUnits pricedTotal ranksBefore rankingOf bookOf termsOf priced remainder margin unitsOf remaindersOf ranked centsOf atPlace holdingFaults pairFaults lineFaults atHolding bookFaults atLine linesFaults uncovered atPair atLong gaps totalsDiffer totalsFaults sizeFaults faults accepted outcome lead digits valueFrom numeralOf placeFrom placeOf isText isQuotable part textFrom textEnd closeFrom closeAt followedBy followed begins opens enclosed fieldAt fieldsFrom recordAt recordsFrom recordsAt recordsOf valueOf valuesOf saidOf says saidIn rowsSaid pricesSaid linesSaid submissionOf atRecord fileFaults fileFault behindComma lineOf numbersOf refusalLine marginLine remainderLine linesOf bookLine printedOf answerTo printed flatMap
+unfolding table alone together judged worked within firstOf count same insert ordered sumTo sumOf only listTo turns inTurn rowFaults faultOf holdingOf sideOf kindOf issuerOf rowOf longerThan atLeast periodOf percents flatRate bondRate stripRate kindRate rateAt rateOf legOf isLong isShort isBond isStrip isCanada isProvince kindsPair sameClass mixedClass classRule ruleOf ruleRate allowed pairRateOf savingRateOf pairOf used theory.savingRate saving pairUnits pricedTotal ranksBefore rankingOf bookOf termsOf priced remainder margin unitsOf remaindersOf ranked centsOf atPlace holdingFaults pairFaults lineFaults atHolding bookFaults atLine linesFaults uncovered atPair atLong uncoveredPairs totalsDiffer totalsFaults sizeFaults faults accepted outcome lead digits valueFrom numeralOf placeFrom placeOf isText isQuotable part textFrom textEnd closeFrom closeAt followedBy followed begins opens enclosed fieldAt fieldsFrom recordAt recordsFrom recordsAt recordsOf valueOf valuesOf parsedOf parse parsedIn parsedRows parsedPrices parsedLines submissionOf atRecord fileFaults fileFault afterComma lineOf numbersOf refusalLine marginLine remainderLine printedLines bookLine printedOf fileAnswer printed flatMap
 tested = refl
 
 pub edges : Each Holds table

@@ -34,13 +34,13 @@ alone r = cond (eqb (faultOf r) 0) (0 ∷ rateOf (holdingOf r) ∷ []) (faultOf 
 -- a row as the long and a row as the short: the first fault of either, or 13, or 0 with the pair's rate and the saving rate
 unfoldable pub together : Row → Row → List ℕ
 together l s =
-    let told = pairOf (legOf (holdingOf l)) (legOf (holdingOf s)) in
+    let expected = pairOf (legOf (holdingOf l)) (legOf (holdingOf s)) in
     firstOf
     ((not (eqb (faultOf l) 0), faultOf l ∷ [])
     ∷ (not (eqb (faultOf s) 0), faultOf s ∷ [])
-    ∷ (not (eqb (told .number) 0), told .number ∷ [])
+    ∷ (not (eqb (expected .number) 0), expected .number ∷ [])
     ∷ [])
-    (0 ∷ told .first ∷ told .second ∷ [])
+    (0 ∷ expected .first ∷ expected .second ∷ [])
 
 -- a book with its prices and lines, and whether 1 and 2 hold of what is lent: the answer, and after an accepted one the remainders and the
 -- ranking
@@ -69,16 +69,16 @@ abbrev no-pair : Row → Row → ℕ → Case
 no-pair l s n = record { computed = together l s; stated = n ∷ [] }
 
 abbrev proposal : List Row → List ℕ → List Line → List ℕ → Case
-proposal rows prices lines told = record { computed = judged false false rows prices lines; stated = told }
+proposal rows prices lines expected = record { computed = judged false false rows prices lines; stated = expected }
 
 abbrev lent : Bool → Bool → List Row → List Line → List ℕ → Case
-lent one two rows lines told = record { computed = judged one two rows [] lines; stated = told }
+lent one two rows lines expected = record { computed = judged one two rows [] lines; stated = expected }
 
 abbrev figures : List Row → List Line → List ℕ → Case
-figures rows lines told = record { computed = worked rows lines; stated = told }
+figures rows lines expected = record { computed = worked rows lines; stated = expected }
 
 abbrev prints : String → String → Case
-prints text told = record { computed = printed (ascii text); stated = ascii told }
+prints text expected = record { computed = printed (ascii text); stated = ascii expected }
 
 -- long, short, amount
 abbrev line : ℕ → ℕ → ℕ → Line

@@ -7,7 +7,7 @@ use native.Mathlib.Omega.{arith}
 use lib.ListN.{length, drop, length-append, length-drop, drop-of-length-le}
 use Rattle.lists.proofs.Tests.{by-end}
 use Rattle.csv.specs.Grammar.{Record, one, more, File, none, last, line}
-use Rattle.csv.specs.Reading.{part, Parsed, fields, malformed, recordAt, formed, recordsAt, recordsOf}
+use Rattle.csv.specs.Reading.{part, Split, fields, malformed, recordAt, formed, recordsAt, recordsOf}
 use Rattle.csv.specs.declared.Span.{Span}
 use Rattle.csv.proofs.Pieces as pieces
 use Rattle.csv.proofs.Pieces.{Ending}
@@ -68,7 +68,7 @@ module _ (text : List ℕ) where
       (λ k h e. go k h (recordAt text k) refl e)
       (λ k h e. rw (drop-of-length-le text h) none)
     where
-      go : (k : ℕ) → k < length text → (p : Parsed) → recordAt text k ≡ p → recordsAt text k ≡ [] → File (drop k text) []
+      go : (k : ℕ) → k < length text → (p : Split) → recordAt text k ≡ p → recordsAt text k ≡ [] → File (drop k text) []
       go k h (fields ss next) p e = let z = sym e ∙ records-next text k h p in clash cc
       go k h malformed p e = let z = sym e ∙ records-broken text k h p in clash cc
   records-sound (fs ∷ rs) =
@@ -76,7 +76,7 @@ module _ (text : List ℕ) where
       (λ k h e. go k h (recordAt text k) refl e (records-sound rs))
       (λ k h e. let z = sym e ∙ records-end text k h in clash cc)
     where
-      go : (k : ℕ) → k < length text → (p : Parsed) → recordAt text k ≡ p → recordsAt text k ≡ formed fs ∷ map formed rs
+      go : (k : ℕ) → k < length text → (p : Split) → recordAt text k ≡ p → recordsAt text k ≡ formed fs ∷ map formed rs
           → ((n : ℕ) → recordsAt text n ≡ map formed rs → File (drop n text) rs) → File (drop k text) (fs ∷ rs)
       go k h (fields ss next) p e f =
           let z = sym (records-next text k h p) ∙ e in

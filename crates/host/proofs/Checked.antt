@@ -21,10 +21,10 @@ use Rattle.verdict.proofs.Judged.{written-none, ranked-length, all-ranked}
 use Rattle.words.specs.Words.{encode}
 use Rattle.lent.specs.Columns.{Columns, submission, HoldsRows, HoldsLines}
 use Rattle.sizes.specs.Sizes.{differ, tooShort, lengthFault}
-use Rattle.lent.specs.Lists.{Lent, lent, Tells, countWritten, Publishes}
+use Rattle.lent.specs.Lists.{Lent, makeLent, Answers, countWritten, Publishes}
 use Rattle.host.specs.Boundary.{sizesOf, outcomeOf, Checks}
 use Rattle.lent.proofs.Columns.{submitted-read, holdings-read, lines-read}
-use Rattle.host.proofs.Heard.{heard-demands}
+use Rattle.host.proofs.Returned.{returned-demands}
 use Rattle.sizes.proofs.Sizes.{Passed, long-enough, lengths, sizes-refused}
 
 -- a refusal leaves a list as it was
@@ -52,37 +52,37 @@ module _ (c : Columns) where
 
   module _ (before : Lent) where
     -- what is told of the outcome, and the two lists, are all that is promised
-    told-all : (remainder′ ranking′ out′ : List ℕ) (r : ℕ) → Tells (outcomeOf c before) (before .answer) out′ r
+    checks-all : (remainder′ ranking′ out′ : List ℕ) (r : ℕ) → Answers (outcomeOf c before) (before .answer) out′ r
         → remainder′ ≡ front (encode (written (outcomeOf c before) (remaindersOf (priced (submission c)) (submission c .lines)))) (before .remainder)
         → ranking′ ≡ front (encode (written (outcomeOf c before) (ranked (priced (submission c)) (submission c .lines)))) (before .ranking)
-        → Checks c before (lent remainder′ ranking′ out′) r
+        → Checks c before (makeLent remainder′ ranking′ out′) r
     unfolding outcomeOf sizesOf
-    told-all remainder′ ranking′ out′ r tells p q =
+    checks-all remainder′ ranking′ out′ r returned p q =
         let z = sizesOf c before in
-        let d = heard-demands (differ z) (tooShort z) (submission c) (before .answer) out′ r (λ e. long-enough z e .2) tells in
+        let d = returned-demands (differ z) (tooShort z) (submission c) (before .answer) out′ r (λ e. long-enough z e .2) returned in
         let l = lengths z in
         record {
-          tells = tells;
+          returned = returned;
           remainder = p;
           ranking = q;
-          ranks = all-ranked (submission c);
+          order = all-ranked (submission c);
           exactly = ((λ e. let (neither, rest) = d .exactly .0 e in (l .0 neither, rest)), (λ a. d .exactly .1 (l .1 (a .0), a .1)));
-          demands = d;
+          keeps = d;
         }
 
     -- refused by the lengths
     pub refused-checks : (number r : ℕ) (out′ : List ℕ) → number ≡ lengthFault (sizesOf c before) → (number ≡ 0 → ⊥)
-        → Tells (answer number 0 0) (before .answer) out′ r → Checks c before (lent (before .remainder) (before .ranking) out′) r
+        → Answers (answer number 0 0) (before .answer) out′ r → Checks c before (makeLent (before .remainder) (before .ranking) out′) r
     unfolding outcomeOf
-    refused-checks number r out′ e h tells =
+    refused-checks number r out′ e h returned =
         let o : outcomeOf c before ≡ answer number 0 0 = unfold sizesOf in sizes-refused (sizesOf c before) (submission c) number (holdings-read c) (lines-read c) e h in
         let none : outcomeOf c before .number ≡ 0 → ⊥ = λ z. h (sym (ap (λ (a : Answer). a .number) o) ∙ z) in
-        told-all _ _ _ r (rw o tells) (nothing-written _ _ _ none) (nothing-written _ _ _ none)
+        checks-all _ _ _ r (rw o returned) (nothing-written _ _ _ none) (nothing-written _ _ _ none)
 
     -- judged by the check
     pub judged-checks : (remainder′ ranking′ out′ : List ℕ) (book : Book) (proposal : Proposal) (j : Judgement) (r : ℕ) → Passed (sizesOf c before)
         → HoldsRows (c .side) (c .kind) (c .issuer) (c .days) (c .value) book → HoldsLines (c .price) (c .long) (c .short) (c .amount) proposal
-        → Judges (submitted book proposal) j → Publishes j (length (c .side) / 8) before (lent remainder′ ranking′ out′) r → Checks c before (lent remainder′ ranking′ out′) r
+        → Judges (submitted book proposal) j → Publishes j (length (c .side) / 8) before (makeLent remainder′ ranking′ out′) r → Checks c before (makeLent remainder′ ranking′ out′) r
     unfolding outcomeOf
     judged-checks remainder′ ranking′ out′ book proposal j r passed rows lines judges p =
         let n = length (c .side) / 8 in
@@ -93,6 +93,6 @@ module _ (c : Columns) where
         rw (judged .verdict, judged .remainders, o) (published-list (outcome false false (submission c)) n _ remainders-length) in
         let order : take (countWritten (j .verdict) n) (j .ranking) ≡ written (outcomeOf c before) (ranked (priced (submission c)) (submission c .lines)) =
         rw (judged .verdict, judged .ranking, o) (published-list (outcome false false (submission c)) n _ (ranked-length (submission c) ∙ count-read)) in
-        told-all remainder′ ranking′ out′ r (rw (o, ← judged .answer) (p .tells))
+        checks-all remainder′ ranking′ out′ r (rw (o, ← judged .answer) (p .returned))
         (p .remainder ∙ ap (λ (ys : List ℕ). front (encode ys) (before .remainder)) left)
         (p .ranking ∙ ap (λ (ys : List ℕ). front (encode ys) (before .ranking)) order)

@@ -1,3 +1,3 @@
-pub mod Heard
+pub mod Returned
 pub mod Checked
 pub mod Received

@@ -12,22 +12,22 @@ use Rattle.lists.specs.Choice.{firstOf}
 use Rattle.lists.specs.Tables.{front}
 use Rattle.lists.proofs.Tables.{length-to}
 use Rattle.lists.proofs.Tests.{same-or-not}
-use Rattle.lists.proofs.Firsts.{first-append, first-told, first-of-none}
+use Rattle.lists.proofs.Firsts.{first-append, first-refused, first-of-none}
 use Rattle.article.specs.Answer.{Answer, answer}
 use Rattle.proposal.specs.Submission.{Submission, rowsOf, pricesOf, linesOf, submitted}
 use Rattle.proposal.proofs.Clear.{number}
 use Rattle.words.specs.Words.{encode}
 use Rattle.columns.specs.Columns.{BookColumns, LineColumns, column, filledBook, filledLines}
-use Rattle.sizes.specs.Room.{Room, Holds, tooShort}
+use Rattle.sizes.specs.Room.{Room, Holds, columnsTooShort}
 use Rattle.sizes.proofs.Room.{holds-exactly}
-use Rattle.lent.specs.Lists.{Tells}
-use Rattle.reader.specs.File.{submissionOf, fileFaults, fileFault, readAnswer}
-use Rattle.reader.specs.Drafts.{Drafts, nothing}
-use Rattle.reader.specs.declared.Draft.{Draft}
+use Rattle.lent.specs.Lists.{Answers}
+use Rattle.reader.specs.File.{submissionOf, submissionIn, fileFaults, fileFault, readAnswer}
+use Rattle.reader.specs.ReadsFile.{ReadsFile, nothing}
+use Rattle.reader.specs.declared.Contents.{Contents}
 use Rattle.readable.specs.Readable.{Submits}
 use Rattle.readable.proofs.Numbers.{none-exactly}
 use Rattle.readable.proofs.Exactly.{read-exactly}
-use Rattle.host.specs.Reading.{roomOf, submits, answerTo, taken, Reads}
+use Rattle.host.specs.Reading.{roomOf, readingAnswer, filling, Reads}
 
 -- nothing goes into the columns
 none-filled : (b : BookColumns) → b ≡ filledBook [] [] b
@@ -41,13 +41,13 @@ no-lines-filled l = refl
 -- what the reader answers by the refusals of the file and by the lengths of the lists
 module _ (text : List ℕ) (two : Bool) where
   counts : Answer
-  counts = answer 0 (length (submits text .rows)) (length (submits text .lines))
+  counts = answer 0 (length (submissionIn text .rows)) (length (submissionIn text .lines))
 
   answer-refused : fileFault text .number ≢ 0 → readAnswer two text ≡ fileFault text
   unfolding readAnswer fileFault
   answer-refused h =
       first-append (fileFaults text) ((two, answer 2 0 0) ∷ []) _
-      ∙ first-told number (fileFaults text) (answer 0 0 0) _ refl h
+      ∙ first-refused number (fileFaults text) (answer 0 0 0) _ refl h
 
   answer-none : fileFault text .number ≡ 0 → readAnswer two text ≡ cond two (answer 2 0 0) counts
   unfolding readAnswer firstOf submissionOf counts
@@ -69,78 +69,78 @@ module _ (text : List ℕ) (two : Bool) where
 
 -- a text, and what is lent
 module _ (text : List ℕ) (book : BookColumns) (lines : LineColumns) (out : List ℕ) where
-  abbrev lent : Room
-  lent = roomOf book lines out
+  abbrev given : Room
+  given = roomOf book lines out
 
   abbrev short : Bool
-  short = tooShort (length (submits text .rows)) (length (submits text .lines)) lent
+  short = columnsTooShort (length (submissionIn text .rows)) (length (submissionIn text .lines)) given
 
-  read-when : (answerTo text lent .number ≡ 0) ↔ (Submits text (submits text) × Holds (length (submits text .rows)) (length (submits text .lines)) lent)
-  unfolding answerTo
+  read-when : (readingAnswer text given .number ≡ 0) ↔ (Submits text (submissionIn text) × Holds (length (submissionIn text .rows)) (length (submissionIn text .lines)) given)
+  unfolding readingAnswer
   read-when =
       let both = answer-exactly text short in
       let file = read-exactly text .read in
-      let room = holds-exactly (length (submits text .rows)) (length (submits text .lines)) lent in
+      let room = holds-exactly (length (submissionIn text .rows)) (length (submissionIn text .lines)) given in
       (λ e. (file .0 (both .0 e .0), room .0 (both .0 e .1)), λ h. both .1 (file .1 (h .0), room .1 (h .1)))
 
   -- on a refusal nothing goes into the columns, and they are left untouched
-  taken-by : {t : Bool} → eqb (answerTo text lent .number) 0 ≡ t → taken text lent ≡ cond t (submits text) nothing
-  unfolding taken
-  taken-by e = ap (λ (t : Bool). cond t (submits text) nothing) e
+  filling-by : {t : Bool} → eqb (readingAnswer text given .number) 0 ≡ t → filling text given ≡ cond t (submissionIn text) nothing
+  unfolding filling
+  filling-by e = ap (λ (t : Bool). cond t (submissionIn text) nothing) e
 
-  refused : (a : Answer) (out′ : List ℕ) (r : ℕ) → answerTo text lent ≡ a → a .number ≢ 0 → Tells a out out′ r → Reads text book book lines lines out out′ r
+  refused : (a : Answer) (out′ : List ℕ) (r : ℕ) → readingAnswer text given ≡ a → a .number ≢ 0 → Answers a out out′ r → Reads text book book lines lines out out′ r
   refused a out′ r e h t =
-      let none : taken text lent ≡ nothing = taken-by {t = false} (rw e (ne-eqb (a .number) 0 h)) in
+      let none : filling text given ≡ nothing = filling-by {t = false} (rw e (ne-eqb (a .number) 0 h)) in
       record {
-        tells = rw e t;
+        returned = rw e t;
         filled-book = rw none (none-filled book);
         filled-lines = rw none (no-lines-filled lines);
         exactly = rw (t .number ∙ sym (ap number e)) read-when;
         only = read-exactly text .only;
       }
 
-  module _ {d : Draft} (drafts : Drafts text d) where
-    pub record-refused : (out′ : List ℕ) (r : ℕ) → d .number ≢ 0 → Tells (answer (d .number) (d .place) 0) out out′ r → Reads text book book lines lines out out′ r
-    unfolding answerTo
+  module _ {d : Contents} (from-file : ReadsFile text d) where
+    pub record-refused : (out′ : List ℕ) (r : ℕ) → d .number ≢ 0 → Answers (answer (d .number) (d .place) 0) out out′ r → Reads text book book lines lines out out′ r
+    unfolding readingAnswer
     record-refused out′ r h t =
-        let fault : fileFault text .number ≢ 0 = λ z. h (ap number (drafts .fault) ∙ z) in
-        refused (answer (d .number) (d .place) 0) out′ r (answer-refused text short fault ∙ sym (drafts .fault)) h t
+        let fault : fileFault text .number ≢ 0 = λ z. h (ap number (from-file .fault) ∙ z) in
+        refused (answer (d .number) (d .place) 0) out′ r (answer-refused text short fault ∙ sym (from-file .fault)) h t
 
     -- nothing is refused: what was read is what is submitted
     module _ (z : d .number ≡ 0) where
       no-fault : fileFault text .number ≡ 0
-      no-fault = sym (ap number (drafts .fault)) ∙ z
+      no-fault = sym (ap number (from-file .fault)) ∙ z
 
-      read : submitted (d .book) (d .proposal) ≡ submits text
-      read = drafts .submits ∙ rw z
+      read : submitted (d .book) (d .proposal) ≡ submissionIn text
+      read = from-file .submits ∙ rw z
 
-      holdings : d .book .count ≡ length (submits text .rows)
+      holdings : d .book .count ≡ length (submissionIn text .rows)
       unfolding submitted rowsOf
       holdings = sym (length-to (d .book .count) _) ∙ ap (λ (s : Submission). length (s .rows)) read
 
-      pairs : d .proposal .count ≡ length (submits text .lines)
+      pairs : d .proposal .count ≡ length (submissionIn text .lines)
       unfolding submitted linesOf
       pairs = sym (length-to (d .proposal .count) _) ∙ ap (λ (s : Submission). length (s .lines)) read
 
-      module _ {two : Bool} (t : two ≡ tooShort (d .book .count) (d .proposal .count) lent) where
+      module _ {two : Bool} (t : two ≡ columnsTooShort (d .book .count) (d .proposal .count) given) where
         same-test : two ≡ short
         same-test = t ∙ rw (holdings, pairs)
 
-        pub list-refused : (out′ : List ℕ) (r : ℕ) → two ≡ true → Tells (answer 2 0 0) out out′ r → Reads text book book lines lines out out′ r
-        unfolding answerTo
-        list-refused out′ r e told =
-            refused (answer 2 0 0) out′ r (answer-none text short no-fault ∙ rw (sym same-test ∙ e)) (λ w. omega arith) told
+        pub list-refused : (out′ : List ℕ) (r : ℕ) → two ≡ true → Answers (answer 2 0 0) out out′ r → Reads text book book lines lines out out′ r
+        unfolding readingAnswer
+        list-refused out′ r e answered =
+            refused (answer 2 0 0) out′ r (answer-none text short no-fault ∙ rw (sym same-test ∙ e)) (λ w. omega arith) answered
 
         pub all-read : (book′ : BookColumns) (lines′ : LineColumns) (out′ : List ℕ) (r : ℕ) → two ≡ false → book′ ≡ filledBook (rowsOf (d .book)) (pricesOf (d .book) (d .proposal .prices)) book
-            → lines′ ≡ filledLines (linesOf (d .proposal)) lines → Tells (answer 0 (d .book .count) (d .proposal .count)) out out′ r → Reads text book book′ lines lines′ out out′ r
-        unfolding answerTo submitted counts
-        all-read book′ lines′ out′ r e b l told =
-            let whole : answerTo text lent ≡ answer 0 (d .book .count) (d .proposal .count) = answer-none text short no-fault ∙ rw (sym same-test ∙ e, holdings, pairs) in
-            let zero : taken text lent ≡ submits text = taken-by {t = true} (rw whole) in
+            → lines′ ≡ filledLines (linesOf (d .proposal)) lines → Answers (answer 0 (d .book .count) (d .proposal .count)) out out′ r → Reads text book book′ lines lines′ out out′ r
+        unfolding readingAnswer submitted counts
+        all-read book′ lines′ out′ r e b l answered =
+            let whole : readingAnswer text given ≡ answer 0 (d .book .count) (d .proposal .count) = answer-none text short no-fault ∙ rw (sym same-test ∙ e, holdings, pairs) in
+            let zero : filling text given ≡ submissionIn text = filling-by {t = true} (rw whole) in
             record {
-              tells = rw whole told;
+              returned = rw whole answered;
               filled-book = rw zero (b ∙ ap (λ (s : Submission). filledBook (s .rows) (s .prices) book) read);
               filled-lines = rw zero (l ∙ ap (λ (s : Submission). filledLines (s .lines) lines) read);
-              exactly = rw (told .number ∙ sym (ap number whole)) read-when;
+              exactly = rw (answered .number ∙ sym (ap number whole)) read-when;
               only = read-exactly text .only;
             }

@@ -14,13 +14,13 @@ use Rattle.proposal.specs.Demands.{Acceptable, Demands}
 use Rattle.verdict.specs.Judges.{written}
 use Rattle.words.specs.Words.{encode}
 use Rattle.lent.specs.Columns.{Columns, submission}
-use Rattle.sizes.specs.Sizes.{Sizes, sizes, Lengths, differ, tooShort}
-use Rattle.lent.specs.Lists.{Lent, heard, Tells}
+use Rattle.sizes.specs.Sizes.{Sizes, makeSizes, Lengths, differ, tooShort}
+use Rattle.lent.specs.Lists.{Lent, answerIn, Answers}
 
 -- the byte lengths of what is lent
 unfoldable pub sizesOf : Columns → Lent → Sizes
 sizesOf c l =
-    sizes (length (c .side)) (length (c .kind)) (length (c .issuer)) (length (c .days)) (length (c .value)) (length (c .price)) (length (c .long)) (length (c .short))
+    makeSizes (length (c .side)) (length (c .kind)) (length (c .issuer)) (length (c .days)) (length (c .value)) (length (c .price)) (length (c .long)) (length (c .short))
     (length (c .amount)) (length (l .remainder)) (length (l .ranking)) (length (l .answer))
 
 -- the outcome of what is lent
@@ -31,14 +31,14 @@ outcomeOf c l = outcome (differ (sizesOf c l)) (tooShort (sizesOf c l)) (submiss
 module _ (c : Columns) (before after : Lent) (r : ℕ) where
   pub record Checks : Type 0 where
     -- the refusal number, 0 for accepted, is returned; units and cents, or the two places, stand in the answer slice, where the host reads them
-    pub tells : Tells (outcomeOf c before) (before .answer) (after .answer) r
+    pub returned : Answers (outcomeOf c before) (before .answer) (after .answer) r
     -- each holding's remainder; on a refusal nothing is written, and entries past what the list is to hold keep what they held
     pub remainder : after .remainder ≡ front (encode (written (outcomeOf c before) (remaindersOf (priced (submission c)) (submission c .lines)))) (before .remainder)
     -- the ranking, in the same way
     pub ranking : after .ranking ≡ front (encode (written (outcomeOf c before) (ranked (priced (submission c)) (submission c .lines)))) (before .ranking)
     -- what is called the ranking has every holding once, by margin of the remainder, largest first, ties by lower number
-    pub ranks : Ranks (margin (priced (submission c)) (submission c .lines)) (priced (submission c) .count) (ranked (priced (submission c)) (submission c .lines))
+    pub order : Ranks (margin (priced (submission c)) (submission c .lines)) (priced (submission c) .count) (ranked (priced (submission c)) (submission c .lines))
     -- accepted exactly when what is lent has the lengths, and the proposal is within the limits, keeps the article, is covered and has equal totals
     pub exactly : (r ≡ 0) ↔ (Lengths (sizesOf c before) × Acceptable (submission c))
     -- the least and the rounding, of what the host reads, and the terms that they speak of
-    pub demands : Demands (submission c) (differ (sizesOf c before)) (tooShort (sizesOf c before)) (heard r (after .answer))
+    pub keeps : Demands (submission c) (differ (sizesOf c before)) (tooShort (sizesOf c before)) (answerIn r (after .answer))

@@ -1,7 +1,7 @@
 // The reader and the check for the desk's Rust host: columns and lent lists as byte slices.
-ghost use Rattle.lent.specs.Columns.{columns};
-ghost use Rattle.lent.specs.Lists.{lent};
-ghost use Rattle.columns.specs.Columns.{bookColumns, lineColumns};
+ghost use Rattle.lent.specs.Columns.{makeColumns};
+ghost use Rattle.lent.specs.Lists.{makeLent};
+ghost use Rattle.columns.specs.Columns.{makeBookColumns, makeLineColumns};
 ghost use Rattle.host.specs.Boundary.{Checks};
 ghost use Rattle.host.specs.Reading.{Reads};
 
@@ -22,7 +22,7 @@ pub extern "C" fn margin_check(
     ranking: &mut [u8],
     answer: &mut [u8],
 ) -> u64
-    ensures { λ r. ⌜ Checks (columns (now (side .entry)) (now (kind .entry)) (now (issuer .entry)) (now (days .entry)) (now (value .entry)) (now (price .entry)) (now (long .entry)) (now (short .entry)) (now (amount .entry))) (lent (now (remainder .entry)) (now (ranking .entry)) (now (answer .entry))) (lent (now (remainder .exit)) (now (ranking .exit)) (now (answer .exit))) r ⌝ }
+    ensures { λ r. ⌜ Checks (makeColumns (now (side .entry)) (now (kind .entry)) (now (issuer .entry)) (now (days .entry)) (now (value .entry)) (now (price .entry)) (now (long .entry)) (now (short .entry)) (now (amount .entry))) (makeLent (now (remainder .entry)) (now (ranking .entry)) (now (answer .entry))) (makeLent (now (remainder .exit)) (now (ranking .exit)) (now (answer .exit))) r ⌝ }
 {
     let number = sizes::lengths(
         side.len(),
@@ -39,7 +39,7 @@ pub extern "C" fn margin_check(
         answer.len(),
     );
     if number != 0 {
-        return lent::tell(number, 0, 0, answer);
+        return lent::put_answer(number, 0, 0, answer);
     }
     let book = lent::book_of(side, kind, issuer, days, value);
     let proposal = lent::proposal_of(price, long, short, amount);
@@ -62,15 +62,15 @@ pub extern "C" fn margin_read(
     amount: &mut [u8],
     answer: &mut [u8],
 ) -> u64
-    ensures { λ r. ⌜ Reads (now (text .entry)) (bookColumns (now (side .entry)) (now (kind .entry)) (now (issuer .entry)) (now (days .entry)) (now (value .entry)) (now (price .entry))) (bookColumns (now (side .exit)) (now (kind .exit)) (now (issuer .exit)) (now (days .exit)) (now (value .exit)) (now (price .exit))) (lineColumns (now (long .entry)) (now (short .entry)) (now (amount .entry))) (lineColumns (now (long .exit)) (now (short .exit)) (now (amount .exit))) (now (answer .entry)) (now (answer .exit)) r ⌝ }
+    ensures { λ r. ⌜ Reads (now (text .entry)) (makeBookColumns (now (side .entry)) (now (kind .entry)) (now (issuer .entry)) (now (days .entry)) (now (value .entry)) (now (price .entry))) (makeBookColumns (now (side .exit)) (now (kind .exit)) (now (issuer .exit)) (now (days .exit)) (now (value .exit)) (now (price .exit))) (makeLineColumns (now (long .entry)) (now (short .entry)) (now (amount .entry))) (makeLineColumns (now (long .exit)) (now (short .exit)) (now (amount .exit))) (now (answer .entry)) (now (answer .exit)) r ⌝ }
 {
-    let draft = reader::read(text);
-    let refusal = draft.number;
+    let contents = reader::read(text);
+    let refusal = contents.number;
     if refusal != 0 {
-        return lent::tell(refusal, draft.place, 0, answer);
+        return lent::put_answer(refusal, contents.place, 0, answer);
     }
-    let book = draft.book;
-    let proposal = draft.proposal;
+    let book = contents.book;
+    let proposal = contents.proposal;
     let holdings = book.count;
     let lines = proposal.count;
     if sizes::too_short(
@@ -87,9 +87,9 @@ pub extern "C" fn margin_read(
         amount.len(),
         answer.len(),
     ) {
-        return lent::tell(2, 0, 0, answer);
+        return lent::put_answer(2, 0, 0, answer);
     }
-    columns::lay_book(book, proposal, side, kind, issuer, days, value, price);
-    columns::lay_proposal(proposal, long, short, amount);
-    lent::tell(0, holdings as u64, lines as u64, answer)
+    columns::write_book(book, proposal, side, kind, issuer, days, value, price);
+    columns::write_proposal(proposal, long, short, amount);
+    lent::put_answer(0, holdings as u64, lines as u64, answer)
 }

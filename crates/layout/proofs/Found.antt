@@ -47,10 +47,10 @@ module _ (ss : List Sort) (ts : List (List ℕ)) (found : List ℕ) (j : ℕ) wh
   found-all hs ht = rw (drop-of-length-le ss hs, drop-of-length-le ts ht, append-nil)
 
 -- the value of the field that stands at j behind the letter
-pub value-behind : (text : List ℕ) (spans : List Span) (letter j : ℕ) {x : Value} {sort : Sort} {field : List ℕ} → x ≡ valueOf sort field → sort ≡ getD (sortsBy letter) j Empty
+pub value-after : (text : List ℕ) (spans : List Span) (letter j : ℕ) {x : Value} {sort : Sort} {field : List ℕ} → x ≡ valueOf sort field → sort ≡ getD (sortsBy letter) j Empty
     → field ≡ part text (getD spans (j + 1) (span 0 0)) → x ≡ valueOf (getD (sortsBy letter) j Empty) (getD (drop 1 (map (part text) spans)) j [])
 unfolding part
-value-behind text spans letter j e p q =
+value-after text spans letter j e p q =
     let next : 1 + j ≡ j + 1 = omega arith in
     let there : getD (drop 1 (map (part text) spans)) j [] ≡ part text (getD spans (j + 1) (span 0 0)) =
     getD-drop 1 (map (part text) spans) j [] ∙ rw next (List·getD-map (part text) spans (j + 1) (span 0 0)) in

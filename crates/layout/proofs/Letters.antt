@@ -4,12 +4,12 @@ use mathlib.Core.List.{List}
 use Prim.Native.Nat.{ℕ, zero, suc, _≤_}
 use native.Mathlib.Omega.{arith}
 use lib.ListN.{length, getD, List·getD-eq-default}
-use Rattle.layout.specs.Layout.{sortsBy, saidBy, lineBy}
+use Rattle.layout.specs.Layout.{sortsBy, parsedBy, lineBy}
 use Rattle.layout.specs.declared.Sort.the-variants.{Empty}
-use Rattle.layout.specs.declared.Said.the-variants.{Line}
+use Rattle.layout.specs.declared.Parsed.the-variants.{Line}
 
 -- any letter but the first is a line's
-pub by-other : (letter : ℕ) (values : List ℕ) → (letter ≡ 0 → ⊥) → Line (lineBy values) ≡ saidBy letter values
+pub by-other : (letter : ℕ) (values : List ℕ) → (letter ≡ 0 → ⊥) → Line (lineBy values) ≡ parsedBy letter values
 by-other zero values h = absurd (h refl)
 by-other (suc letter) values h = refl
 

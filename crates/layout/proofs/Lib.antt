@@ -1,3 +1,3 @@
 pub mod Letters
 pub mod Found
-pub mod Sayings
+pub mod Parsing

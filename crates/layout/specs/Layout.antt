@@ -8,7 +8,7 @@ use lib.ListN.{length, getD, replicate}
 use Rattle.lists.specs.Texts.{ascii}
 use Rattle.holding.specs.declared.Row.{Row}
 use Rattle.pairing.specs.declared.Line.{Line}
-use Rattle.csv.specs.Reading.{part, Parsed, fields, malformed, recordAt, fieldsOf, Read, formed, broken}
+use Rattle.csv.specs.Reading.{part, Split, fields, malformed, recordAt, fieldsOf, Read, formed, broken}
 use Rattle.codes.specs.Codes.{placeOf}
 use Rattle.codes.specs.declared.Place.{Place}
 use Rattle.codes.specs.declared.Place.the-variants.{At, Nowhere}
@@ -17,8 +17,8 @@ use Rattle.layout.specs.declared.Sort.{Sort}
 use Rattle.layout.specs.declared.Sort.the-variants.{Side, Kind, Issuer, Six, Twelve, Empty}
 use Rattle.layout.specs.declared.Value.{Value}
 use Rattle.layout.specs.declared.Value.the-variants.{Of, Wrong}
-use Rattle.layout.specs.declared.Said.{Said}
-use Rattle.layout.specs.declared.Said.the-variants.{Holding, Line as Lined, Refused}
+use Rattle.layout.specs.declared.Parsed.{Parsed}
+use Rattle.layout.specs.declared.Parsed.the-variants.{Holding, Line as Lined, Refused}
 use Rattle.layout.specs.declared.Entry.{Entry}
 use Rattle.layout.specs.declared.Cells.{Cells}
 
@@ -67,40 +67,40 @@ rowBy vs = record { side = getD vs 0 0; kind = getD vs 1 0; issuer = getD vs 2 0
 abbrev pub lineBy : List ℕ → Line
 lineBy vs = record { long = getD vs 0 0; short = getD vs 1 0; amount = getD vs 2 0 }
 
-abbrev pub saidBy : ℕ → List ℕ → Said
-saidBy zero vs = Holding (rowBy vs) (getD vs 5 0)
-saidBy (suc k) vs = Lined (lineBy vs)
+abbrev pub parsedBy : ℕ → List ℕ → Parsed
+parsedBy zero vs = Holding (rowBy vs) (getD vs 5 0)
+parsedBy (suc k) vs = Lined (lineBy vs)
 
-abbrev pub saidIf : ℕ → Values → Said
-saidIf k (values vs) = saidBy k vs
-saidIf k wrong = Refused 21
+abbrev pub parsedIf : ℕ → Values → Parsed
+parsedIf k (values vs) = parsedBy k vs
+parsedIf k wrong = Refused 21
 
-abbrev pub behind : Place → List (List ℕ) → Said
-behind (At k) texts = saidIf k (valuesOf (sortsBy k) texts)
-behind Nowhere texts = Refused 21
+abbrev pub afterLetter : Place → List (List ℕ) → Parsed
+afterLetter (At k) texts = parsedIf k (valuesOf (sortsBy k) texts)
+afterLetter Nowhere texts = Refused 21
 
 -- of seven fields: 21 a field isn't a value of its sort, one that must be empty is filled, or the first is no known letter
-unfoldable pub saidOf : List (List ℕ) → Said
-saidOf [] = Refused 21
-saidOf (letter ∷ texts) = behind (placeOf letter letters) texts
+unfoldable pub parsedOf : List (List ℕ) → Parsed
+parsedOf [] = Refused 21
+parsedOf (letter ∷ texts) = afterLetter (placeOf letter letters) texts
 
 -- of a record: 19 outside the grammar, 20 not seven fields, then 21
-unfoldable pub says : Read → Said
-says broken = Refused 19
-says (formed texts) = cond (eqb (length texts) 7) (saidOf texts) (Refused 20)
+unfoldable pub parse : Read → Parsed
+parse broken = Refused 19
+parse (formed texts) = cond (eqb (length texts) 7) (parsedOf texts) (Refused 20)
 
 -- what the code hands back: the values with whether they are good, and a record with where the next one starts
 abbrev pub cellsOf : Values → Cells
 cellsOf (values vs) = record { good = true; values = vs }
 cellsOf wrong = record { good = false; values = replicate 6 0 }
 
-abbrev pub entry : Said → ℕ → Entry
-entry said next = record { said = said; next = next }
+abbrev pub entry : Parsed → ℕ → Entry
+entry parsed next = record { parsed = parsed; next = next }
 
-abbrev pub readOf : List ℕ → Parsed → Read
+abbrev pub readOf : List ℕ → Split → Read
 readOf text (fields ss next) = formed (map (part text) ss)
 readOf text malformed = broken
 
 -- what the record at a place says, and where the next one starts
 abbrev pub EntryAt : List ℕ → ℕ → Entry → Type 0
-EntryAt text at r = r ≡ entry (says (readOf text (recordAt text at))) (fieldsOf (recordAt text at) .next)
+EntryAt text at r = r ≡ entry (parse (readOf text (recordAt text at))) (fieldsOf (recordAt text at) .next)

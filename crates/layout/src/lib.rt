@@ -9,7 +9,7 @@ ghost use mathlib.Core.List.{map};
 ghost use lib.ListN.{drop, getD};
 ghost use Rattle.csv.specs.Reading.{part};
 ghost use Rattle.layout.specs.Sorts.{byPlace, byNumeral, valueOf};
-ghost use Rattle.layout.specs.Layout.{sortsBy, valuesOf, cellsOf, saidBy, entry, EntryAt};
+ghost use Rattle.layout.specs.Layout.{sortsBy, valuesOf, cellsOf, parsedBy, entry, EntryAt};
 
 // What a field can be: a letter or a code that is named, a numeral of at most so many digits, or nothing.
 pub enum Sort {
@@ -28,7 +28,7 @@ pub enum Value {
 }
 
 // What a record says: a holding with its price, a line, or a refusal from 19 to 21.
-pub enum Said {
+pub enum Parsed {
     Holding { row: Row, price: u64 },
     Line { line: Line },
     Refused { number: u64 },
@@ -36,7 +36,7 @@ pub enum Said {
 
 // A record, and where the next one starts.
 pub struct Entry {
-    pub said: Said,
+    pub parsed: Parsed,
     pub next: usize,
 }
 
@@ -109,7 +109,7 @@ fn value_in(sort: Sort, text: &[u8]) -> Value
 }
 
 // The values of the fields behind a letter.
-fn values_behind(text: &[u8], spans: [Span; csv::FIELDS], letter: usize) -> Cells
+fn values_after(text: &[u8], spans: [Span; csv::FIELDS], letter: usize) -> Cells
     ensures { λ r. ⌜ r ≡ cellsOf (valuesOf (sortsBy letter) (drop 1 (map (part (now (text .entry))) spans))) ⌝ }
 {
     let mut values = [0u64; 6];
@@ -135,11 +135,11 @@ fn values_behind(text: &[u8], spans: [Span; csv::FIELDS], letter: usize) -> Cell
 }
 
 // What good values behind a letter say.
-fn said_by(letter: usize, values: [u64; 6]) -> Said
-    ensures { λ r. ⌜ r ≡ saidBy letter values ⌝ }
+fn parsed_by(letter: usize, values: [u64; 6]) -> Parsed
+    ensures { λ r. ⌜ r ≡ parsedBy letter values ⌝ }
 {
     if letter == 0 {
-        return Said::Holding {
+        return Parsed::Holding {
             row: Row {
                 side: values[0],
                 kind: values[1],
@@ -150,7 +150,7 @@ fn said_by(letter: usize, values: [u64; 6]) -> Said
             price: values[5],
         };
     }
-    Said::Line {
+    Parsed::Line {
         line: Line {
             long: values[0],
             short: values[1],
@@ -161,10 +161,10 @@ fn said_by(letter: usize, values: [u64; 6]) -> Said
 
 // A record that is refused.
 fn refused(number: u64, next: usize) -> Entry
-    ensures { λ r. ⌜ r ≡ entry (Said.Refused number) next ⌝ }
+    ensures { λ r. ⌜ r ≡ entry (Parsed.Refused number) next ⌝ }
 {
     Entry {
-        said: Said::Refused { number },
+        parsed: Parsed::Refused { number },
         next,
     }
 }
@@ -187,13 +187,13 @@ pub fn entry_at(text: &[u8], at: usize) -> Entry
     let Place::At(letter) = place else {
         return refused(21, next);
     };
-    let cells = values_behind(text, spans, letter);
+    let cells = values_after(text, spans, letter);
     if !cells.good {
         return refused(21, next);
     }
     let values = cells.values;
     Entry {
-        said: said_by(letter, values),
+        parsed: parsed_by(letter, values),
         next,
     }
 }

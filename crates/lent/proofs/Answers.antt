@@ -8,25 +8,25 @@ use borrow.Author.Tests.{lt-ltb, le-ltb}
 use Rattle.article.specs.Answer.{Answer}
 use Rattle.lists.specs.Tables.{front}
 use Rattle.words.specs.Words.{withWord, encode}
-use Rattle.words.proofs.Laid.{laid-none, laid-more}
+use Rattle.words.proofs.Encoded.{encoded-none, encoded-more}
 use Rattle.words.proofs.ReadBack.{read-back}
-use Rattle.lent.specs.Lists.{answered, Tells}
+use Rattle.lent.specs.Lists.{answered, Answers}
 
 -- 16 bytes or more: both numbers are written
-pub two-told : (a : Answer) (old first second : List ℕ) → a .first < 2 ^ 64 → a .second < 2 ^ 64 → 16 ≤ length old → first ≡ withWord old 0 (a .first)
-    → second ≡ withWord first 1 (a .second) → Tells a old second (a .number)
+pub two-answered : (a : Answer) (old first second : List ℕ) → a .first < 2 ^ 64 → a .second < 2 ^ 64 → 16 ≤ length old → first ≡ withWord old 0 (a .first)
+    → second ≡ withWord first 1 (a .second) → Answers a old second (a .number)
 unfolding answered
-two-told a old first second p q h e f =
+two-answered a old first second p q h e f =
     let both = a .first ∷ a .second ∷ [] in
-    let laid : second ≡ front (encode both) old = laid-more both old first second 1 (omega arith) (laid-more both old old first 0 (omega arith) (laid-none both old) e) f in
+    let in-bytes : second ≡ front (encode both) old = encoded-more both old first second 1 (omega arith) (encoded-more both old old first 0 (omega arith) (encoded-none both old) e) f in
     let read = read-back both old (p, (q, tt)) in
     record {
       number = refl;
-      slice = rw (le-ltb _ _ h) laid;
-      reads = λ _. rw (laid, read 0 (omega arith), read 1 (omega arith));
+      slice = rw (le-ltb _ _ h) in-bytes;
+      reads = λ _. rw (in-bytes, read 0 (omega arith), read 1 (omega arith));
     }
 
 -- fewer: nothing is
-pub none-told : (a : Answer) (old : List ℕ) → length old < 16 → Tells a old old (a .number)
+pub none-answered : (a : Answer) (old : List ℕ) → length old < 16 → Answers a old old (a .number)
 unfolding answered
-none-told a old h = record { number = refl; slice = rw (lt-ltb _ _ h); reads = λ l. absurd (omega arith) }
+none-answered a old h = record { number = refl; slice = rw (lt-ltb _ _ h); reads = λ l. absurd (omega arith) }

@@ -4,18 +4,18 @@ use mathlib.Core.List.{List}
 use Prim.Native.Nat.{ℕ}
 use lib.ListN.{take}
 use Rattle.lists.specs.Tables.{front}
-use Rattle.verdict.specs.Judges.{told}
+use Rattle.verdict.specs.Judges.{answerOf}
 use Rattle.verdict.specs.declared.Verdict.{Verdict}
 use Rattle.verdict.specs.declared.Judgement.{Judgement}
 use Rattle.words.specs.Words.{encode}
-use Rattle.lent.specs.Lists.{lent, Tells, countWritten, Publishes}
+use Rattle.lent.specs.Lists.{makeLent, Answers, countWritten, Publishes}
 
 -- the entries that the verdict asks for are laid, and its answer told
 pub published : (j : Judgement) (n m r : ℕ) (remainder ranking out remainder′ ranking′ out′ : List ℕ) (v : Verdict) → j .verdict ≡ v → m ≡ countWritten (j .verdict) n
     → remainder′ ≡ front (encode (take m (j .remainders))) remainder → ranking′ ≡ front (encode (take m (j .ranking))) ranking
-    → Tells (told v) out out′ r → Publishes j n (lent remainder ranking out) (lent remainder′ ranking′ out′) r
-published j n m r remainder ranking out remainder′ ranking′ out′ v e f p q tells = record {
-  tells = rw e tells;
+    → Answers (answerOf v) out out′ r → Publishes j n (makeLent remainder ranking out) (makeLent remainder′ ranking′ out′) r
+published j n m r remainder ranking out remainder′ ranking′ out′ v e f p q returned = record {
+  returned = rw e returned;
   remainder = rw (← f) p;
   ranking = rw (← f) q;
 }

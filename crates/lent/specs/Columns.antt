@@ -22,8 +22,8 @@ pub record Columns : Type 0 where
   pub short : List ℕ
   pub amount : List ℕ
 
-abbrev pub columns : List ℕ → List ℕ → List ℕ → List ℕ → List ℕ → List ℕ → List ℕ → List ℕ → List ℕ → Columns
-columns side kind issuer days value price long short amount = record {
+abbrev pub makeColumns : List ℕ → List ℕ → List ℕ → List ℕ → List ℕ → List ℕ → List ℕ → List ℕ → List ℕ → Columns
+makeColumns side kind issuer days value price long short amount = record {
   side = side;
   kind = kind;
   issuer = issuer;

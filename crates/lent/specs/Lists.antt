@@ -7,7 +7,7 @@ use lib.Dec.{ltb}
 use lib.ListN.{length, take}
 use Rattle.lists.specs.Tables.{front}
 use Rattle.article.specs.Answer.{Answer, answer}
-use Rattle.verdict.specs.Judges.{told}
+use Rattle.verdict.specs.Judges.{answerOf}
 use Rattle.verdict.specs.declared.Verdict.{Verdict}
 use Rattle.verdict.specs.declared.Verdict.the-variants.{Accepted, Refused}
 use Rattle.verdict.specs.declared.Judgement.{Judgement}
@@ -19,22 +19,22 @@ pub record Lent : Type 0 where
   pub ranking : List ℕ
   pub answer : List ℕ
 
-abbrev pub lent : List ℕ → List ℕ → List ℕ → Lent
-lent remainder ranking answer = record { remainder = remainder; ranking = ranking; answer = answer }
+abbrev pub makeLent : List ℕ → List ℕ → List ℕ → Lent
+makeLent remainder ranking answer = record { remainder = remainder; ranking = ranking; answer = answer }
 
 -- units and cents, or the two places, in the first 16 bytes of the answer slice; one below 16 bytes stays unwritten
 unfoldable pub answered : Answer → List ℕ → List ℕ
 answered a old = cond (ltb (length old) 16) old (front (encode (a .first ∷ a .second ∷ [])) old)
 
 -- what the host reads: the number returned, and the two numbers in the answer slice
-abbrev pub heard : ℕ → List ℕ → Answer
-heard r bytes = answer r (wordAt bytes 0) (wordAt bytes 1)
+abbrev pub answerIn : ℕ → List ℕ → Answer
+answerIn r bytes = answer r (wordAt bytes 0) (wordAt bytes 1)
 
 -- a number and two more are told: the number is returned, and the two stand in the answer slice, where the host reads them
-pub record Tells (a : Answer) (before after : List ℕ) (r : ℕ) : Type 0 where
+pub record Answers (a : Answer) (before after : List ℕ) (r : ℕ) : Type 0 where
   pub number : r ≡ a .number
   pub slice : after ≡ answered a before
-  pub reads : 16 ≤ length before → heard r after ≡ a
+  pub reads : 16 ≤ length before → answerIn r after ≡ a
 
 -- how many entries of a list of n are written: on a refusal none
 abbrev pub countWritten : Verdict → ℕ → ℕ
@@ -43,6 +43,6 @@ countWritten (Refused number place second) n = 0
 
 -- a judgement of n holdings is in the lent lists
 pub record Publishes (j : Judgement) (n : ℕ) (before after : Lent) (r : ℕ) : Type 0 where
-  pub tells : Tells (told (j .verdict)) (before .answer) (after .answer) r
+  pub returned : Answers (answerOf (j .verdict)) (before .answer) (after .answer) r
   pub remainder : after .remainder ≡ front (encode (take (countWritten (j .verdict) n) (j .remainders))) (before .remainder)
   pub ranking : after .ranking ≡ front (encode (take (countWritten (j .verdict) n) (j .ranking))) (before .ranking)

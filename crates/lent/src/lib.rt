@@ -13,7 +13,7 @@ ghost use Rattle.article.specs.Answer.{answer};
 ghost use Rattle.words.specs.Words.{decode};
 ghost use Rattle.sizes.specs.Sizes.{BookFits, ProposalFits, ListsFit};
 ghost use Rattle.lent.specs.Columns.{HoldsRows, HoldsLines};
-ghost use Rattle.lent.specs.Lists.{lent, Tells, countWritten, Publishes};
+ghost use Rattle.lent.specs.Lists.{makeLent, Answers, countWritten, Publishes};
 
 // The book of its columns.
 pub fn book_of(side: &[u8], kind: &[u8], issuer: &[u8], days: &[u8], value: &[u8]) -> Book
@@ -75,8 +75,8 @@ pub fn proposal_of(price: &[u8], long: &[u8], short: &[u8], amount: &[u8]) -> Pr
 }
 
 // Puts two numbers into an answer slice of 16 bytes or more, and returns the number.
-pub fn tell(number: u64, first: u64, second: u64, out: &mut [u8]) -> u64
-    ensures { λ r. ⌜ Tells (answer number first second) (now (out .entry)) (now (out .exit)) r ⌝ }
+pub fn put_answer(number: u64, first: u64, second: u64, out: &mut [u8]) -> u64
+    ensures { λ r. ⌜ Answers (answer number first second) (now (out .entry)) (now (out .exit)) r ⌝ }
 {
     if out.len() >= 16 {
         words::put_word(out, 0, first);
@@ -108,20 +108,20 @@ pub fn publish(
     out: &mut [u8],
 ) -> u64
     requires { ⌜ ListsFit n (length (now remainder)) (length (now ranking)) ⌝ }
-    ensures { λ r. ⌜ Publishes judgement n (lent (now (remainder .entry)) (now (ranking .entry)) (now (out .entry))) (lent (now (remainder .exit)) (now (ranking .exit)) (now (out .exit))) r ⌝ }
+    ensures { λ r. ⌜ Publishes judgement n (makeLent (now (remainder .entry)) (now (ranking .entry)) (now (out .entry))) (makeLent (now (remainder .exit)) (now (ranking .exit)) (now (out .exit))) r ⌝ }
 {
     let verdict = judgement.verdict;
     let entries = count_written(verdict, n);
     let remainders = judgement.remainders;
-    words::lay(&remainders, entries, remainder);
+    words::write_words(&remainders, entries, remainder);
     let ranks = judgement.ranking;
-    words::lay(&ranks, entries, ranking);
+    words::write_words(&ranks, entries, ranking);
     match verdict {
-        Verdict::Accepted { units, cents } => tell(0, units, cents, out),
+        Verdict::Accepted { units, cents } => put_answer(0, units, cents, out),
         Verdict::Refused {
             number,
             place,
             second,
-        } => tell(number, place, second, out),
+        } => put_answer(number, place, second, out),
     }
 }

@@ -107,11 +107,11 @@ module _ {A : Type 0} (number : A → ℕ) where
       ((refl, n), o)
 
   -- a refusal that was told does not rest on what follows
-  pub first-told : (fs : List (Bool × A)) (z w : A) → number z ≡ 0 → (number (firstOf fs z) ≡ 0 → ⊥) → firstOf fs w ≡ firstOf fs z
+  pub first-refused : (fs : List (Bool × A)) (z w : A) → number z ≡ 0 → (number (firstOf fs z) ≡ 0 → ⊥) → firstOf fs w ≡ firstOf fs z
   unfolding firstOf
-  first-told [] z w e h = absurd (h e)
-  first-told ((true, a) ∷ fs) z w e h = refl
-  first-told ((false, a) ∷ fs) z w e h = first-told fs z w e h
+  first-refused [] z w e h = absurd (h e)
+  first-refused ((true, a) ∷ fs) z w e h = refl
+  first-refused ((false, a) ∷ fs) z w e h = first-refused fs z w e h
 
 -- refusals that are told by their numbers alone
 abbrev pub Listed : List (Bool × ℕ) → Type 0

@@ -6,4 +6,4 @@ pub mod Sums
 pub mod Order
 pub mod Passed
 pub mod Filled
-pub mod Over
+pub mod Overwrite

@@ -22,8 +22,8 @@ unfoldable pub front : {A : Type 0} → List A → List A → List A
 front xs old = xs ++ drop (length xs) old
 
 -- written into a list from a place on, the others kept
-unfoldable pub over : {A : Type 0} → ℕ → List A → List A → List A
-over at xs old = take at old ++ front xs (drop at old)
+unfoldable pub overwrite : {A : Type 0} → ℕ → List A → List A → List A
+overwrite at xs old = take at old ++ front xs (drop at old)
 
 -- n zeros
 unfoldable pub zeros : ℕ → List ℕ

@@ -4,7 +4,7 @@ use mathlib.Core.List.{List, _++_}
 use Prim.Native.Nat.{ℕ, _+_, _*_, _/_, _%_, _≤_, _<_}
 use native.Mathlib.Omega.{arith}
 use lib.ListN.{length, set, length-append}
-use Rattle.lists.proofs.Over.{over-one, over-over}
+use Rattle.lists.proofs.Overwrite.{overwrite-one, overwrite-overwrite}
 use Rattle.numerals.specs.Numerals.{digits, Put}
 use Rattle.numerals.proofs.Digits.{digits-one, digits-more, digits-some, digits-fewer}
 
@@ -24,14 +24,14 @@ room-fewer x y at n l h = omega (arith, digits-fewer x y l)
 pub room-last : (x at n : ℕ) → at + length (digits x) ≤ n → at < n
 room-last x at n h = omega (arith, digits-some x)
 
-pub room-behind : (x at n : ℕ) → 10 ≤ x → at + length (digits x) ≤ n → at + length (digits (x / 10)) < n
-room-behind x at n l h = omega (arith, length-split x l)
+pub room-after : (x at n : ℕ) → 10 ≤ x → at + length (digits x) ≤ n → at + length (digits (x / 10)) < n
+room-after x at n l h = omega (arith, length-split x l)
 
 pub put-one : (x at : ℕ) (old : List ℕ) → x < 10 → at < length old → Put x at (at + 1) old (set old at (48 + x))
-put-one x at old h l = record { behind = rw (digits-one x h); bytes = rw (digits-one x h) (over-one at (48 + x) old l) }
+put-one x at old h l = record { ends = rw (digits-one x h); bytes = rw (digits-one x h) (overwrite-one at (48 + x) old l) }
 
 pub put-more : (x at last next : ℕ) (old mid now : List ℕ) → 10 ≤ x → at ≤ length old → Put (x / 10) at last old mid → Put (x % 10) last next mid now → Put x at next old now
 put-more x at last next old mid now h l p q = record {
-  behind = omega (arith, p .behind, q .behind, length-split x h, ap (length {A = ℕ}) (digits-one (x % 10) (omega arith)));
-  bytes = q .bytes ∙ rw (p .behind, p .bytes, digits-split x h) (over-over at (digits (x / 10)) (digits (x % 10)) old l);
+  ends = omega (arith, p .ends, q .ends, length-split x h, ap (length {A = ℕ}) (digits-one (x % 10) (omega arith)));
+  bytes = q .bytes ∙ rw (p .ends, p .bytes, digits-split x h) (overwrite-overwrite at (digits (x / 10)) (digits (x % 10)) old l);
 }

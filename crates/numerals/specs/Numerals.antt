@@ -6,7 +6,7 @@ use Prim.Native.Nat.{ℕ, zero, suc, _+_, _-_, _*_, _/_, _%_}
 use lib.Dec.{leb}
 use lib.ListN.{length}
 use Rattle.lists.specs.Choice.{same}
-use Rattle.lists.specs.Tables.{over}
+use Rattle.lists.specs.Tables.{overwrite}
 use Rattle.numerals.specs.declared.Numeral.{Numeral}
 use Rattle.numerals.specs.declared.Numeral.the-variants.{Number, NotANumeral}
 
@@ -31,5 +31,5 @@ numeralOf most text = cond (leb (length text) most && same text (digits (valueFr
 
 -- the numeral of x stands in a list from a place on, and the next place is behind it
 pub record Put (x at next : ℕ) (old now : List ℕ) : Type 0 where
-  pub behind : next ≡ at + length (digits x)
-  pub bytes : now ≡ over at (digits x) old
+  pub ends : next ≡ at + length (digits x)
+  pub bytes : now ≡ overwrite at (digits x) old

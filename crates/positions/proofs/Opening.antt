@@ -18,7 +18,7 @@ use Rattle.article.specs.Pair.{legOf, RateInRange}
 use Rattle.article.proofs.Rates.{rate-high}
 use Rattle.article.specs.declared.pair.Leg.{Leg}
 use Rattle.proposal.specs.Submission.{bookOf, rowsOf, pricesOf, noRow, noLeg}
-use Rattle.proposal.specs.Outcome.{answerOf, atPlace, holdingFaults, atHolding, bookFaults}
+use Rattle.proposal.specs.Outcome.{faultAnswer, atPlace, holdingFaults, atHolding, bookFaults}
 use Rattle.proposal.proofs.Places.{none-at, at-none, first-at}
 use Rattle.proposal.proofs.PricedBooks.{rows-count}
 use Rattle.proposal.proofs.Limits.{none-ranges, ranges-none}
@@ -99,7 +99,7 @@ module _ {book : Book} {price : List ℕ} {ls : List Leg} {vs ps : List ℕ} whe
     -- the first fault is at i
     pub opens-refused : {n : ℕ} {r : Opened} → i < book .count → (n ≡ 0 → ⊥) → n ≡ firstOf (holdingFaults (row book i) (getD price i 0)) 0 → r ≡ refusedAt n i
         → Opens (rowsOf book) (pricesOf book price) r
-    unfolding refusedAt bookFaults answerOf
+    unfolding refusedAt bookFaults faultAnswer
     opens-refused {n} h other e g = rw g (record {
       fault = sym (passed-first passed-listed (answer 0 0 0) (rw (rows-count book) h) (λ w. rw (is-listed book price i h) (first-at i _ n e other w)));
       positions = rw (ne-eqb n 0 other) no-book;
@@ -112,12 +112,12 @@ module _ {book : Book} {price : List ℕ} {ls : List Leg} {vs ps : List ℕ} whe
         let e : i ≡ book .count = omega (arith, o .passed .few) in
         rw e at o
 
-    abbrev laid : Positions
-    laid = record { legs = ls; values = vs; prices = ps; count = book .count }
+    abbrev opened : Positions
+    opened = record { legs = ls; values = vs; prices = ps; count = book .count }
 
-    laid-book : book .count ≤ i → heldBook laid ≡ bookOf (rowsOf book) (pricesOf book price)
+    opened-book : book .count ≤ i → heldBook opened ≡ bookOf (rowsOf book) (pricesOf book price)
     unfolding heldBook bookOf rowsOf pricesOf
-    laid-book h =
+    opened-book h =
         let whole = opening-end h in
         λ j. record {
           count = sym (rows-count book) j;
@@ -129,9 +129,9 @@ module _ {book : Book} {price : List ℕ} {ls : List Leg} {vs ps : List ℕ} whe
     in-ranges : (k : ℕ) → k < i → Ranges (row book k) × (getD price k 0 ≤ 43800)
     in-ranges k h = none-ranges _ _ (at-none k _ (o .passed .none k h))
 
-    laid-in-bounds : book .count ≤ 256 → InBounds laid
+    opened-in-bounds : book .count ≤ 256 → InBounds opened
     unfolding legOf
-    laid-in-bounds few = record {
+    opened-in-bounds few = record {
       count = few;
       rate = filled-all 256 noLeg _ RateInRange i ls (o .legs) (λ k h. rate-high _) (omega arith);
       value = filled-all 256 0 _ (_≤ 100000000000) i vs (o .values) (λ k h. in-ranges k h .0 .value-high) (omega arith);
@@ -139,10 +139,10 @@ module _ {book : Book} {price : List ℕ} {ls : List Leg} {vs ps : List ℕ} whe
     }
 
     -- no holding has a fault
-    pub opens-all : book .count ≤ i → book .count ≤ 256 → Opens (rowsOf book) (pricesOf book price) (record { fault = record { number = 0; place = 0; second = 0 }; positions = laid })
-    unfolding bookFaults answerOf
+    pub opens-all : book .count ≤ i → book .count ≤ 256 → Opens (rowsOf book) (pricesOf book price) (record { fault = record { number = 0; place = 0; second = 0 }; positions = opened })
+    unfolding bookFaults faultAnswer
     opens-all h few = record {
       fault = sym (first-of-none (bookFaults (rowsOf book) (pricesOf book price)) (answer 0 0 0) (passed-all passed-listed (rw (rows-count book) h)));
-      positions = laid-book h;
-      bounds = laid-in-bounds few;
+      positions = opened-book h;
+      bounds = opened-in-bounds few;
     }

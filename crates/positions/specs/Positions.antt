@@ -9,7 +9,7 @@ use Rattle.lists.specs.Tables.{zeros}
 use Rattle.holding.specs.declared.Row.{Row}
 use Rattle.article.specs.Pair.{RateInRange}
 use Rattle.proposal.specs.Submission.{PricedBook, bookOf, noLeg}
-use Rattle.proposal.specs.Outcome.{answerOf, bookFaults, firstFault}
+use Rattle.proposal.specs.Outcome.{faultAnswer, bookFaults, firstFault}
 use Rattle.positions.specs.declared.Positions.{Positions}
 use Rattle.positions.specs.declared.Opened.{Opened}
 
@@ -39,6 +39,6 @@ refusedAt number place = record { fault = record { number = number; place = plac
 
 -- what opening a book promises: its first fault, and its positions, on a refusal those of the empty book
 pub record Opens (rows : List Row) (prices : List ℕ) (r : Opened) : Type 0 where
-  pub fault : answerOf (r .fault) ≡ firstFault (bookFaults rows prices)
+  pub fault : faultAnswer (r .fault) ≡ firstFault (bookFaults rows prices)
   pub positions : heldBook (r .positions) ≡ cond (eqb (r .fault .number) 0) (bookOf rows prices) (bookOf [] [])
   pub bounds : InBounds (r .positions)

@@ -18,17 +18,17 @@ use Rattle.proposal.specs.Outcome.{outcome}
 use Rattle.proposal.specs.Demands.{Acceptable, Demands}
 use Rattle.proposal.proofs.Clear.{number}
 use Rattle.proposal.proofs.Demands.{demands}
-use Rattle.reader.specs.File.{fileFault}
-use Rattle.reader.specs.Drafts.{Drafts}
-use Rattle.reader.specs.declared.Draft.{Draft}
+use Rattle.reader.specs.File.{submissionIn, fileFault}
+use Rattle.reader.specs.ReadsFile.{ReadsFile}
+use Rattle.reader.specs.declared.Contents.{Contents}
 use Rattle.readable.specs.Readable.{Submits}
 use Rattle.readable.proofs.Exactly.{read-exactly}
 use Rattle.verdict.specs.Judges.{Judges}
 use Rattle.verdict.specs.declared.Judgement.{Judgement}
-use Rattle.report.specs.Report.{refusalLine, linesOf, printedOf, reportOf}
+use Rattle.report.specs.Report.{refusalLine, printedLines, printedOf, reportOf}
 use Rattle.report.specs.Written.{fitted, Prints}
 use Rattle.report.proofs.Judged.{report-judged}
-use Rattle.printing.specs.Printed.{submits, answerTo, printed, Within, PrintsFile}
+use Rattle.printing.specs.Printed.{fileAnswer, printed, Within, PrintsFile}
 
 -- what is printed is within the list that it is printed into
 prints-within : {text old now : List ℕ} {count : ℕ} → Prints text old now count → Within count now
@@ -40,18 +40,18 @@ prints-within {text} {old} {now} {count} p =
 
 module _ (text : List ℕ) where
   -- the answer by the reader's refusals
-  answer-refused : fileFault text .number ≢ 0 → answerTo text ≡ fileFault text
-  unfolding answerTo
+  answer-refused : fileFault text .number ≢ 0 → fileAnswer text ≡ fileFault text
+  unfolding fileAnswer
   answer-refused h = rw (ne-eqb (fileFault text .number) 0 h)
 
-  answer-checked : fileFault text .number ≡ 0 → answerTo text ≡ outcome false false (submits text)
-  unfolding answerTo
+  answer-checked : fileFault text .number ≡ 0 → fileAnswer text ≡ outcome false false (submissionIn text)
+  unfolding fileAnswer
   answer-checked e = rw e
 
-  accepted-when : (answerTo text .number ≡ 0) ↔ (Submits text (submits text) × Acceptable (submits text))
+  accepted-when : (fileAnswer text .number ≡ 0) ↔ (Submits text (submissionIn text) × Acceptable (submissionIn text))
   accepted-when =
       let file = read-exactly text .read in
-      let check = demands false false (submits text) .exactly in (
+      let check = demands false false (submissionIn text) .exactly in (
         λ e.
             same-or-not (fileFault text .number) 0
             (λ z. (file .0 z, check .0 (sym (ap number (answer-checked z)) ∙ e) .1))
@@ -59,27 +59,27 @@ module _ (text : List ℕ) where
         λ h. ap number (answer-checked (file .1 (h .0))) ∙ check .1 ((refl, refl), h .1),
       )
 
-  accepted-least : answerTo text .number ≡ 0 → Demands (submits text) false false (answerTo text)
+  accepted-least : fileAnswer text .number ≡ 0 → Demands (submissionIn text) false false (fileAnswer text)
   accepted-least e =
       same-or-not (fileFault text .number) 0
-      (λ z. rw (answer-checked z) (demands false false (submits text)))
+      (λ z. rw (answer-checked z) (demands false false (submissionIn text)))
       (λ z. absurd (z (sym (ap number (answer-refused z)) ∙ e)))
 
   promised : {before after : List ℕ} {r : ℕ} → Prints (printed text) before after r → PrintsFile text before after r
   promised p = record { prints = p; within = prints-within p; exactly = accepted-when; demands = accepted-least; only = read-exactly text .only }
 
-  module _ {d : Draft} (drafts : Drafts text d) where
+  module _ {d : Contents} (from-file : ReadsFile text d) where
     pub refused-printed : {before after : List ℕ} {r : ℕ} → d .number ≢ 0 → Prints (refusalLine (answer (d .number) (d .place) 0)) before after r → PrintsFile text before after r
-    unfolding printed printedOf linesOf
+    unfolding printed printedOf printedLines
     refused-printed h p =
-        let fault : fileFault text .number ≢ 0 = λ z. h (ap number (drafts .fault) ∙ z) in
-        promised (rw (answer-refused fault, ← drafts .fault, ne-eqb (d .number) 0 h) p)
+        let fault : fileFault text .number ≢ 0 = λ z. h (ap number (from-file .fault) ∙ z) in
+        promised (rw (answer-refused fault, ← from-file .fault, ne-eqb (d .number) 0 h) p)
 
     pub judged-printed : {before after : List ℕ} {r : ℕ} (j : Judgement) → d .number ≡ 0 → Judges (submitted (d .book) (d .proposal)) j
         → Prints (reportOf j (d .book .count)) before after r → PrintsFile text before after r
     unfolding printed submitted rowsOf
     judged-printed j z judges p =
-        let read : submitted (d .book) (d .proposal) ≡ submits text = drafts .submits ∙ rw z in
-        let none : fileFault text .number ≡ 0 = sym (ap number (drafts .fault)) ∙ z in
-        let count : length (submits text .rows) ≡ d .book .count = ap (λ (s : Submission). length (s .rows)) (sym read) ∙ length-to (d .book .count) _ in
-        promised (rw (answer-checked none, ← report-judged (submits text) j (rw (← read) judges), count) p)
+        let read : submitted (d .book) (d .proposal) ≡ submissionIn text = from-file .submits ∙ rw z in
+        let none : fileFault text .number ≡ 0 = sym (ap number (from-file .fault)) ∙ z in
+        let count : length (submissionIn text .rows) ≡ d .book .count = ap (λ (s : Submission). length (s .rows)) (sym read) ∙ length-to (d .book .count) _ in
+        promised (rw (answer-checked none, ← report-judged (submissionIn text) j (rw (← read) judges), count) p)

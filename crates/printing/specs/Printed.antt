@@ -11,22 +11,18 @@ use Rattle.article.specs.Answer.{Answer}
 use Rattle.proposal.specs.Submission.{Submission}
 use Rattle.proposal.specs.Outcome.{outcome}
 use Rattle.proposal.specs.Demands.{Acceptable, Demands}
-use Rattle.reader.specs.File.{saidIn, submissionOf, fileFault}
+use Rattle.reader.specs.File.{submissionIn, fileFault}
 use Rattle.readable.specs.Readable.{Submits}
 use Rattle.report.specs.Report.{printedOf}
 use Rattle.report.specs.Written.{Prints}
 
--- what a text submits by its records
-abbrev pub submits : List ℕ → Submission
-submits text = submissionOf (saidIn text)
-
 -- the answer to a file: the reader's refusal with its place; or, of what the file submits, the figures or the check's refusal with its places
-unfoldable pub answerTo : List ℕ → Answer
-answerTo text = cond (eqb (fileFault text .number) 0) (outcome false false (submits text)) (fileFault text)
+unfoldable pub fileAnswer : List ℕ → Answer
+fileAnswer text = cond (eqb (fileFault text .number) 0) (outcome false false (submissionIn text)) (fileFault text)
 
 -- accepted, M with units and cents, and R for each holding in ranking order; refused, X with number and places
 unfoldable pub printed : List ℕ → List ℕ
-printed text = printedOf (submits text) (answerTo text)
+printed text = printedOf (submissionIn text) (fileAnswer text)
 
 -- so many of a list's first bytes, which may be lent on
 abbrev pub Within : ℕ → List ℕ → Type 0
@@ -39,8 +35,8 @@ module _ (text before after : List ℕ) (r : ℕ) where
     pub prints : Prints (printed text) before after r
     pub within : Within r after
     -- M is printed exactly when the file submits a book and a proposal in the paper's words, and they are acceptable
-    pub exactly : (answerTo text .number ≡ 0) ↔ (Submits text (submits text) × Acceptable (submits text))
+    pub exactly : (fileAnswer text .number ≡ 0) ↔ (Submits text (submissionIn text) × Acceptable (submissionIn text))
     -- the units and cents are then the least margin of what is submitted, rounded once
-    pub demands : answerTo text .number ≡ 0 → Demands (submits text) false false (answerTo text)
+    pub demands : fileAnswer text .number ≡ 0 → Demands (submissionIn text) false false (fileAnswer text)
     -- what a text submits is one submission
-    pub only : (s : Submission) → Submits text s → s ≡ submits text
+    pub only : (s : Submission) → Submits text s → s ≡ submissionIn text

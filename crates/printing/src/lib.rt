@@ -5,13 +5,13 @@ ghost use Rattle.printing.specs.Printed.{PrintsFile};
 pub fn print_file(text: &[u8], out: &mut [u8]) -> usize
     ensures { λ r. ⌜ PrintsFile (now (text .entry)) (now (out .entry)) (now (out .exit)) r ⌝ }
 {
-    let draft = reader::read(text);
-    let number = draft.number;
+    let contents = reader::read(text);
+    let number = contents.number;
     if number != 0 {
-        return report::refusal(number, draft.place, 0, out);
+        return report::refusal(number, contents.place, 0, out);
     }
-    let book = draft.book;
-    let proposal = draft.proposal;
+    let book = contents.book;
+    let proposal = contents.proposal;
     let judgement = verdict::check(book, proposal);
     report::report(judgement, book.count, out)
 }

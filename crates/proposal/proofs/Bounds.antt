@@ -30,8 +30,8 @@ module _ (s : Submission) where
         arith,
         units-sum (priced s) (s .lines),
         units-high (termsOf (priced s)) (s .lines) 21900 100000000000 (fair (priced s)) (lines-pair s a)
-            (λ k h. rate-at s k (in-book s k h)) (value-high (a .limits)),
-        few (a .limits),
+            (λ k h. rate-at s k (in-book s k h)) (value-high (a .in-limits)),
+        few (a .in-limits),
       )
 
   -- and the priced total is at most 256 times 10^11 times 43,800

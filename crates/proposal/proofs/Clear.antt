@@ -9,7 +9,7 @@ use lib.ListN.{length, getD, take}
 use Rattle.lists.proofs.Firsts.{None, Numbered, none-append, append-none, none-in-turn, in-turn-none, numbered-append, numbered-in-turn}
 use Rattle.article.specs.Answer.{Answer}
 use Rattle.proposal.specs.Submission.{Submission, priced, noRow, noLine}
-use Rattle.proposal.specs.Outcome.{atPlace, holdingFaults, lineFaults, atHolding, bookFaults, atLine, linesFaults, uncovered, atPair, atLong, gaps, totalsDiffer, totalsFaults, sizeFaults, fromPairs, fromLines, fromBook, faults}
+use Rattle.proposal.specs.Outcome.{atPlace, holdingFaults, lineFaults, atHolding, bookFaults, atLine, linesFaults, uncovered, atPair, atLong, uncoveredPairs, totalsDiffer, totalsFaults, sizeFaults, fromPairs, fromLines, fromBook, faults}
 use Rattle.proposal.proofs.Places.{none-at, at-none, listed-at, holding-listed, line-listed}
 
 abbrev pub number : Answer → ℕ
@@ -31,13 +31,13 @@ module _ (one two : Bool) (s : Submission) where
   sizes = sizeFaults one two (length (s .rows)) (length (s .lines))
 
   pub none-clear : None (faults one two s) → Clear
-  unfolding faults sizeFaults bookFaults atHolding linesFaults atLine gaps atLong atPair totalsFaults
+  unfolding faults sizeFaults bookFaults atHolding linesFaults atLine uncoveredPairs atLong atPair totalsFaults
   none-clear h =
       let (at-first, rest) = append-none (atPlace 0 sizes) (fromBook s) h in
       let first = at-none 0 sizes at-first in
       let (book, rest₁) = append-none (bookFaults (s .rows) (s .prices)) (fromLines s) rest in
       let (lines, rest₂) = append-none (linesFaults (priced s) (s .lines)) (fromPairs s) rest₁ in
-      let (pairs, last) = append-none (gaps (priced s)) (totalsFaults (priced s) (s .lines)) rest₂ in
+      let (pairs, last) = append-none (uncoveredPairs (priced s)) (totalsFaults (priced s) (s .lines)) rest₂ in
       record {
         no-1 = first .0;
         no-3 = first .1 .0;
@@ -50,12 +50,12 @@ module _ (one two : Bool) (s : Submission) where
       }
 
   pub clear-none : Clear → None (faults one two s)
-  unfolding faults sizeFaults bookFaults atHolding linesFaults atLine gaps atLong atPair totalsFaults
+  unfolding faults sizeFaults bookFaults atHolding linesFaults atLine uncoveredPairs atLong atPair totalsFaults
   clear-none c =
       none-append (atPlace 0 sizes) (fromBook s) (none-at 0 sizes (c .no-1, (c .no-3, (c .no-9, (c .no-2, tt)))))
       (none-append (bookFaults (s .rows) (s .prices)) (fromLines s) (none-in-turn (atHolding (s .rows) (s .prices)) _ (λ k q. none-at k _ (c .holdings k q)))
       (none-append (linesFaults (priced s) (s .lines)) (fromPairs s) (none-in-turn (atLine (priced s) (s .lines)) _ (λ k q. none-at k _ (c .lines k q)))
-      (none-append (gaps (priced s)) (totalsFaults (priced s) (s .lines))
+      (none-append (uncoveredPairs (priced s)) (totalsFaults (priced s) (s .lines))
       (none-in-turn (atLong (priced s)) _ (λ i p. none-in-turn (atPair (priced s) i) _ (λ j q. (c .pairs i j p q, tt))))
       (c .totals, tt))))
 
@@ -68,9 +68,9 @@ module _ (one two : Bool) (s : Submission) where
   unfolding linesFaults atLine
   lines-numbered = numbered-in-turn number (atLine (priced s) (s .lines)) (λ k. listed-at k _ (line-listed _ _ _)) _
 
-  pub gaps-numbered : Numbered number (gaps (priced s))
-  unfolding gaps atLong atPair
-  gaps-numbered = numbered-in-turn number (atLong (priced s)) (λ i. numbered-in-turn number (atPair (priced s) i) (λ j. (omega arith, tt)) _) _
+  pub uncovered-numbered : Numbered number (uncoveredPairs (priced s))
+  unfolding uncoveredPairs atLong atPair
+  uncovered-numbered = numbered-in-turn number (atLong (priced s)) (λ i. numbered-in-turn number (atPair (priced s) i) (λ j. (omega arith, tt)) _) _
 
   pub numbered : Numbered number (faults one two s)
   unfolding faults sizeFaults totalsFaults
@@ -78,4 +78,4 @@ module _ (one two : Bool) (s : Submission) where
       numbered-append number (atPlace 0 sizes) (fromBook s) (listed-at 0 sizes (omega arith, (omega arith, (omega arith, (omega arith, tt)))))
       (numbered-append number (bookFaults (s .rows) (s .prices)) (fromLines s) book-numbered
       (numbered-append number (linesFaults (priced s) (s .lines)) (fromPairs s) lines-numbered
-      (numbered-append number (gaps (priced s)) (totalsFaults (priced s) (s .lines)) gaps-numbered (omega arith, tt))))
+      (numbered-append number (uncoveredPairs (priced s)) (totalsFaults (priced s) (s .lines)) uncovered-numbered (omega arith, tt))))

@@ -43,7 +43,7 @@ module _ (s : Submission) where
   -- acceptable lines are a pairing at 1
   pub lines-pair : Acceptable s → IsPairing (termsOf (priced s)) 1 (s .lines)
   lines-pair a =
-      let f = keeps-fitting s (a .limits) (a .article) in
+      let f = keeps-fitting s (a .in-limits) (a .article) in
       record {
         pairs = at-each (AllowedPair (termsOf (priced s))) noLine (s .lines) (λ i h. let g = f i h in unfold termsOf in record { long = g .first; short = g .second; pair = g .pair });
         within = λ k h. unfold termsOf in omega (arith, all-within (priced s) (s .lines) f k);
@@ -70,7 +70,7 @@ module _ (one two : Bool) (s : Submission) where
   clear-acceptable c =
       let l = limits one two s c in
       record {
-        limits = l;
+        in-limits = l;
         article = fitting-keeps s l (λ k h. none-fits _ _ _ (c .lines k h));
         covered = clear-covers (priced s) (c .pairs);
         totals = eqb-true _ _ (not-false _ (c .totals));
@@ -81,10 +81,10 @@ module _ (one two : Bool) (s : Submission) where
   acceptable-clear p q a = record {
     no-1 = p;
     no-2 = q;
-    no-3 = le-ltb _ _ (a .limits .holdings);
-    no-9 = le-ltb _ _ (a .limits .lines);
-    holdings = λ k h. ranges-none _ _ (a .limits .ranges k h) (a .limits .prices k h);
-    lines = λ k h. fits-none _ _ _ (keeps-fitting s (a .limits) (a .article) k h);
+    no-3 = le-ltb _ _ (a .in-limits .holdings);
+    no-9 = le-ltb _ _ (a .in-limits .lines);
+    holdings = λ k h. ranges-none _ _ (a .in-limits .ranges k h) (a .in-limits .prices k h);
+    lines = λ k h. fits-none _ _ _ (keeps-fitting s (a .in-limits) (a .article) k h);
     pairs = covers-clear (priced s) (a .covered);
     totals = ap not (eq-eqb _ _ (a .totals));
   }
@@ -99,8 +99,8 @@ module _ (one two : Bool) (s : Submission) where
   clear-accepted c = first-of-none (faults one two s) _ (clear-none one two s c)
 
   -- the figures of an outcome that is not a refusal
-  told : outcome one two s .number ≡ 0 → outcome one two s ≡ accepted (priced s) (s .lines)
-  told e = clear-accepted (zero-clear e)
+  as-accepted : outcome one two s .number ≡ 0 → outcome one two s ≡ accepted (priced s) (s .lines)
+  as-accepted e = clear-accepted (zero-clear e)
 
   pub demands : Demands s one two (outcome one two s)
   demands = record {
@@ -108,7 +108,7 @@ module _ (one two : Bool) (s : Submission) where
       (λ e. let c = zero-clear e in ((c .no-1, c .no-2), clear-acceptable c)),
       (λ a. unfold accepted in ap (λ (x : Answer). x .number) (clear-accepted (acceptable-clear (a .0 .0) (a .0 .1) (a .1)))),
     );
-    least = λ e. rw (told e) (units-least s (clear-acceptable (zero-clear e)));
+    cheapest = λ e. rw (as-accepted e) (units-least s (clear-acceptable (zero-clear e)));
     terms = terms s;
-    rounding = λ e. rw (told e) (unfold accepted in rounded (unitsOf (priced s) (s .lines)));
+    rounding = λ e. rw (as-accepted e) (unfold accepted in rounded (unitsOf (priced s) (s .lines)));
   }

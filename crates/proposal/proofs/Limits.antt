@@ -6,7 +6,7 @@ use Prim.Native.Nat.{ℕ, _≤_, _<_}
 use lib.Dec.{ltb}
 use borrow.Author.Tests.{ltb-false, le-ltb, lt-ltb}
 use Rattle.lists.specs.Choice.{firstOf}
-use Rattle.lists.proofs.Firsts.{None, none-append, append-none, first-append, first-of-none, first-told}
+use Rattle.lists.proofs.Firsts.{None, none-append, append-none, first-append, first-of-none, first-refused}
 use Rattle.holding.specs.Holding.{Ranges, rowFaults, faultOf}
 use Rattle.holding.specs.declared.Row.{Row}
 use Rattle.holding.proofs.Ranges.{none-of-row, fault-none, none-fault}
@@ -24,7 +24,7 @@ module _ (r : Row) (price : ℕ) where
   pub row-first : (n : ℕ) → n ≡ faultOf r → (n ≡ 0 → ⊥) → n ≡ firstOf (holdingFaults r price) 0
   unfolding holdingFaults faultOf
   row-first n e h =
-      e ∙ sym (first-append (rowFaults r) dear 0 ∙ first-told (λ (m : ℕ). m) (rowFaults r) 0 (firstOf dear 0) refl (λ z. h (e ∙ z)))
+      e ∙ sym (first-append (rowFaults r) dear 0 ∙ first-refused (λ (m : ℕ). m) (rowFaults r) 0 (firstOf dear 0) refl (λ z. h (e ∙ z)))
 
   pub price-first : faultOf r ≡ 0 → 43800 < price → 10 ≡ firstOf (holdingFaults r price) 0
   unfolding holdingFaults firstOf

@@ -23,5 +23,5 @@ pub one-figure : (one two : Bool) (rows : List Row) (p q : List ℕ) (a b : List
     → outcome one two (proposed rows p a) .first ≡ outcome one two (proposed rows q b) .first
 one-figure one two rows p q a b e f =
     least-unique (termsOf (priced (proposed rows q b))) a b _ _
-    (rw (same-terms rows p q a b) at (demands one two (proposed rows p a) .least e))
-    (demands one two (proposed rows q b) .least f)
+    (rw (same-terms rows p q a b) at (demands one two (proposed rows p a) .cheapest e))
+    (demands one two (proposed rows q b) .cheapest f)

@@ -6,7 +6,7 @@ use Rattle.lists.proofs.Tables.{length-to, getD-map-in}
 use Rattle.holding.specs.Holding.{InRange, holdingOf}
 use Rattle.holding.specs.declared.Row.{Row}
 use Rattle.holding.proofs.Ranges.{none-fault, kept}
-use Rattle.article.specs.Pair.{legOf, ruleOf, pairRate, RateInRange}
+use Rattle.article.specs.Pair.{legOf, ruleOf, pairRateOf, RateInRange}
 use Rattle.article.proofs.PairRates.{rule-rate-le}
 use Rattle.article.proofs.Rates.{rate-high}
 use Rattle.article.specs.Pair as article
@@ -43,12 +43,12 @@ module _ (s : Submission) where
 
 -- a pair's rate is no more than its two rates
 pub fair : (b : PricedBook) → Fair (termsOf b)
-unfolding termsOf pairRate
+unfolding termsOf pairRateOf
 fair b i j = rule-rate-le (ruleOf (b .leg i) (b .leg j)) (b .leg i .rate) (b .leg j .rate)
 
 -- the saving rate of two holdings is that of their legs
-pub saving-rate : (b : PricedBook) (i j : ℕ) → savingRate (termsOf b) i j ≡ article.savingRate (b .leg i) (b .leg j)
-unfolding savingRate article.savingRate termsOf
+pub saving-rate : (b : PricedBook) (i j : ℕ) → savingRate (termsOf b) i j ≡ article.savingRateOf (b .leg i) (b .leg j)
+unfolding savingRate article.savingRateOf termsOf
 saving-rate b i j = refl
 
 -- a book and a proposal by value have as many holdings and lines as they say

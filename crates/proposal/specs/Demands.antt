@@ -9,7 +9,7 @@ use Rattle.lists.specs.Each.{Each}
 use Rattle.holding.specs.Holding.{Ranges}
 use Rattle.article.specs.Answer.{Answer}
 use Rattle.article.specs.Rate.{rateOf}
-use Rattle.article.specs.Pair.{legOf, pairRate}
+use Rattle.article.specs.Pair.{legOf, pairRateOf}
 use Rattle.article.specs.Article.{MayPair}
 use Rattle.pairing.specs.Pairing.{used, saving, Covers, pricedTotal, Least}
 use Rattle.pairing.specs.declared.Line.{Line}
@@ -38,7 +38,7 @@ module _ (s : Submission) where
 
   -- accepted: covered, and the totals equal, in a proposal that is within the limits and keeps the article
   pub record Acceptable : Type 0 where
-    pub limits : Limits
+    pub in-limits : Limits
     pub article : KeepsArticle
     pub covered : Covers (termsOf (priced s)) (priced s .price)
     pub totals : pricedTotal (termsOf (priced s)) (priced s .price) ≡ saving (termsOf (priced s)) (s .lines)
@@ -48,14 +48,14 @@ module _ (s : Submission) where
     pub value : termsOf (priced s) .value i ≡ getD (s .rows) i noRow .value
     pub rate : termsOf (priced s) .rate i ≡ rateOf (holdingAt s i)
     pub allowed : (termsOf (priced s) .allowed i j ≡ true) ↔ MayPair (holdingAt s i) (holdingAt s j)
-    pub pair-rate : termsOf (priced s) .pairRate i j ≡ pairRate (legOf (holdingAt s i)) (legOf (holdingAt s j))
+    pub pair-rate : termsOf (priced s) .pairRate i j ≡ pairRateOf (legOf (holdingAt s i)) (legOf (holdingAt s j))
 
   -- what an answer keeps; `one` and `two` say whether refusals 1 and 2 hold of what is lent
   pub record Demands (one two : Bool) (a : Answer) : Type 0 where
     -- a proposal is accepted exactly when lengths, limits, article, cover and equal totals hold
     pub exactly : (a .number ≡ 0) ↔ (((one ≡ false) × (two ≡ false)) × Acceptable)
     -- accepted units are the least: the lines are a pairing at 1, its sum is those units, and no pairing at any N is cheaper
-    pub least : a .number ≡ 0 → Least (termsOf (priced s)) (s .lines) (a .first)
+    pub cheapest : a .number ≡ 0 → Least (termsOf (priced s)) (s .lines) (a .first)
     -- accepted cents are the units rounded up once
     pub rounding : a .number ≡ 0 → RoundedUp (a .first) (a .second)
     -- the terms that all this speaks of are the article's

@@ -19,8 +19,8 @@ use Rattle.proposal.specs.declared.Fault.{Fault}
 use Rattle.proposal.specs.Figures.{remainder, unitsOf, centsOf}
 
 -- the paper's number and places of what is found: number 0 for no fault
-unfoldable pub answerOf : Fault → Answer
-answerOf f = answer (f .number) (f .place) (f .second)
+unfoldable pub faultAnswer : Fault → Answer
+faultAnswer f = answer (f .number) (f .place) (f .second)
 
 -- refusals, each with its test, at one place
 unfoldable pub atPlace : ℕ → List (Bool × ℕ) → List (Bool × Answer)
@@ -71,8 +71,8 @@ atPair b i j = (uncovered b i j, answer 16 i j) ∷ []
 unfoldable pub atLong : PricedBook → ℕ → List (Bool × Answer)
 atLong b i = inTurn (b .count) (atPair b i)
 
-unfoldable pub gaps : PricedBook → List (Bool × Answer)
-gaps b = inTurn (b .count) (atLong b)
+unfoldable pub uncoveredPairs : PricedBook → List (Bool × Answer)
+uncoveredPairs b = inTurn (b .count) (atLong b)
 
 -- 17 priced total differs from the saving
 unfoldable pub totalsDiffer : PricedBook → List Line → Bool
@@ -87,7 +87,7 @@ sizeFaults one two holdings lines = (one, 1) ∷ (ltb 256 holdings, 3) ∷ (ltb 
 
 -- check order: 1, 3, 9, 2; each holding in turn; each line in turn; 16; 17
 abbrev pub fromPairs : Submission → List (Bool × Answer)
-fromPairs s = gaps (priced s) ++ totalsFaults (priced s) (s .lines)
+fromPairs s = uncoveredPairs (priced s) ++ totalsFaults (priced s) (s .lines)
 
 abbrev pub fromLines : Submission → List (Bool × Answer)
 fromLines s = linesFaults (priced s) (s .lines) ++ fromPairs s

@@ -6,7 +6,7 @@ use Rattle.lists.specs.Tables.{listTo}
 use Rattle.holding.specs.Holding.{holdingOf}
 use Rattle.holding.specs.declared.Holding.{Holding}
 use Rattle.holding.specs.declared.Row.{Row}
-use Rattle.article.specs.Pair.{legOf, allowed, pairRate}
+use Rattle.article.specs.Pair.{legOf, allowed, pairRateOf}
 use Rattle.article.specs.declared.pair.Leg.{Leg}
 use Rattle.pairing.specs.Pairing.{Terms}
 use Rattle.pairing.specs.declared.Line.{Line}
@@ -64,7 +64,7 @@ termsOf b = record {
   value = b .value;
   rate = λ k. b .leg k .rate;
   allowed = λ i j. allowed (b .leg i) (b .leg j);
-  pairRate = λ i j. pairRate (b .leg i) (b .leg j);
+  pairRate = λ i j. pairRateOf (b .leg i) (b .leg j);
 }
 
 -- what is submitted, by number

@@ -9,16 +9,16 @@ use Rattle.proposal.specs.Submission.{Submission}
 use Rattle.csv.specs.Reading.{recordsOf}
 use Rattle.grammar.proofs.Sound.{file-sound}
 use Rattle.grammar.proofs.Complete.{file-complete}
-use Rattle.reader.specs.File.{saidIn, submissionOf}
+use Rattle.reader.specs.File.{parsedIn, submissionOf}
 use Rattle.readable.specs.Readable.{Submits, ReadExactly}
 use Rattle.readable.proofs.Orders.{InOrder, none-order}
 use Rattle.readable.proofs.Numbers.{none-exactly}
-use Rattle.readable.proofs.Submitted.{parted, records-tell}
+use Rattle.readable.proofs.Submitted.{parted, records-give}
 
 module _ (text : List ℕ) where
   -- what is said in order is submitted
-  order-submits : length text ≤ 65536 → InOrder 0 0 (saidIn text) → Submits text (submissionOf (saidIn text))
-  unfolding saidIn submissionOf
+  order-submits : length text ≤ 65536 → InOrder 0 0 (parsedIn text) → Submits text (submissionOf (parsedIn text))
+  unfolding parsedIn submissionOf
   order-submits short order =
       let records = parted (recordsOf text) 0 0 (omega arith) (omega arith) order in
       record {
@@ -33,10 +33,10 @@ module _ (text : List ℕ) where
       }
 
   -- what is submitted is said in order
-  submits-order : (s : Submission) → Submits text s → InOrder 0 0 (saidIn text) × (submissionOf (saidIn text) ≡ s)
-  unfolding saidIn
+  submits-order : (s : Submission) → Submits text s → InOrder 0 0 (parsedIn text) × (submissionOf (parsedIn text) ≡ s)
+  unfolding parsedIn
   submits-order s h =
-      rw (file-complete text _ (h .rendering)) (records-tell (h .each-holding) (h .each-line) 0 (omega (arith, h .few-holdings)) (h .few-lines))
+      rw (file-complete text _ (h .rendering)) (records-give (h .each-holding) (h .each-line) 0 (omega (arith, h .few-holdings)) (h .few-lines))
 
   pub read-exactly : ReadExactly text
   read-exactly = record {

@@ -16,19 +16,19 @@ use Rattle.codes.specs.Codes.{placeOf, Named}
 use Rattle.codes.specs.declared.Place.{Place}
 use Rattle.codes.specs.declared.Place.the-variants.{At, Nowhere}
 use Rattle.layout.specs.Sorts.{AreValues, no-values, value-and}
-use Rattle.layout.specs.Layout.{letters, sortsBy, IsHolding, IsLine, Values, values, wrong, valuesOf, saidBy, saidIf, behind, saidOf, says}
+use Rattle.layout.specs.Layout.{letters, sortsBy, IsHolding, IsLine, Values, values, wrong, valuesOf, parsedBy, parsedIf, afterLetter, parsedOf, parse}
 use Rattle.layout.proofs.Letters.{six-sorts}
 use Rattle.layout.specs.declared.Sort.{Sort}
-use Rattle.layout.specs.declared.Said.{Said}
-use Rattle.layout.specs.declared.Said.the-variants.{Holding, Line as Lined, Refused}
+use Rattle.layout.specs.declared.Parsed.{Parsed}
+use Rattle.layout.specs.declared.Parsed.the-variants.{Holding, Line as Lined, Refused}
 use Rattle.codes.proofs.Places.{distinct-exactly}
 use Rattle.readable.proofs.Values.{values-exactly}
 
 -- what the texts of a record are, by what it says
-abbrev pub Says : List (List ℕ) → Said → Type 0
-Says texts (Holding row price) = IsHolding texts row price
-Says texts (Lined line) = IsLine texts line
-Says texts (Refused number) = Unit {0}
+abbrev pub ParsedAs : List (List ℕ) → Parsed → Type 0
+ParsedAs texts (Holding row price) = IsHolding texts row price
+ParsedAs texts (Lined line) = IsLine texts line
+ParsedAs texts (Refused number) = Unit {0}
 
 -- six values behind a letter; where three must be empty they are 0
 six : {a b c d e f : Sort} {ts : List (List ℕ)} {vs : List ℕ} → AreValues (a ∷ b ∷ c ∷ d ∷ e ∷ f ∷ []) ts vs → vs ≡ getD vs 0 0 ∷ getD vs 1 0 ∷ getD vs 2 0 ∷ getD vs 3 0 ∷ getD vs 4 0 ∷ getD vs 5 0 ∷ []
@@ -49,48 +49,48 @@ letter-exactly letter k = distinct-exactly letter letters refl k
 
 module _ (letter : List ℕ) (texts : List (List ℕ)) where
   -- behind a known letter
-  values-say : (vs : Values) (k : ℕ) → Named letter letters k → valuesOf (sortsBy k) texts ≡ vs → Says (letter ∷ texts) (saidIf k vs)
-  values-say wrong k n e = tt
-  values-say (values vs) zero n e =
+  values-parsed : (vs : Values) (k : ℕ) → Named letter letters k → valuesOf (sortsBy k) texts ≡ vs → ParsedAs (letter ∷ texts) (parsedIf k vs)
+  values-parsed wrong k n e = tt
+  values-parsed (values vs) zero n e =
       let good = values-exactly (sortsBy 0) texts vs .0 e in
       (n .here, subst (AreValues (sortsBy 0) texts) (six good) good)
-  values-say (values vs) (suc zero) n e =
+  values-parsed (values vs) (suc zero) n e =
       let good = values-exactly (sortsBy 1) texts vs .0 e in
       (n .here, subst (AreValues (sortsBy 1) texts) (three good) good)
-  values-say (values vs) (suc (suc k)) n e = absurd (omega (arith, n .inside))
+  values-parsed (values vs) (suc (suc k)) n e = absurd (omega (arith, n .inside))
 
-  behind-says : (p : Place) → placeOf letter letters ≡ p → Says (letter ∷ texts) (behind p texts)
-  behind-says (At k) e = values-say (valuesOf (sortsBy k) texts) k (letter-exactly letter k .0 e) refl
-  behind-says Nowhere e = tt
+  after-parsed : (p : Place) → placeOf letter letters ≡ p → ParsedAs (letter ∷ texts) (afterLetter p texts)
+  after-parsed (At k) e = values-parsed (valuesOf (sortsBy k) texts) k (letter-exactly letter k .0 e) refl
+  after-parsed Nowhere e = tt
 
   -- good values behind the letter of a place
-  says-values : (k : ℕ) (vs : List ℕ) → Named letter letters k → AreValues (sortsBy k) texts vs → says (formed (letter ∷ texts)) ≡ saidBy k vs
-  unfolding says saidOf
-  says-values k vs n good =
+  parse-values : (k : ℕ) (vs : List ℕ) → Named letter letters k → AreValues (sortsBy k) texts vs → parse (formed (letter ∷ texts)) ≡ parsedBy k vs
+  unfolding parse parsedOf
+  parse-values k vs n good =
       let seven : suc (length texts) ≡ 7 = omega (arith, as-many good, six-sorts k) in
       rw (eq-eqb (suc (length texts)) 7 seven, letter-exactly letter k .1 n, values-exactly (sortsBy k) texts vs .1 good)
 
-of-says : (texts : List (List ℕ)) → Says texts (saidOf texts)
-unfolding saidOf
-of-says [] = tt
-of-says (letter ∷ texts) = behind-says letter texts (placeOf letter letters) refl
+parsed-fields : (texts : List (List ℕ)) → ParsedAs texts (parsedOf texts)
+unfolding parsedOf
+parsed-fields [] = tt
+parsed-fields (letter ∷ texts) = after-parsed letter texts (placeOf letter letters) refl
 
 -- every record is what it says
-pub so-says : (texts : List (List ℕ)) → Says texts (says (formed texts))
-unfolding says
-so-says texts = by-test (Says texts) (eqb (length texts) 7) (λ e. of-says texts) (λ e. tt)
+pub parsed-as : (texts : List (List ℕ)) → ParsedAs texts (parse (formed texts))
+unfolding parse
+parsed-as texts = by-test (ParsedAs texts) (eqb (length texts) 7) (λ e. parsed-fields texts) (λ e. tt)
 
 -- and says what it is
-says-holding : (texts : List (List ℕ)) (row : Row) (price : ℕ) → IsHolding texts row price → says (formed texts) ≡ Holding row price
-says-holding [] row price h = absurd h
-says-holding (letter ∷ texts) row price h = says-values letter texts 0 _ (record { inside = omega arith; here = h .0 }) (h .1)
+parse-holding : (texts : List (List ℕ)) (row : Row) (price : ℕ) → IsHolding texts row price → parse (formed texts) ≡ Holding row price
+parse-holding [] row price h = absurd h
+parse-holding (letter ∷ texts) row price h = parse-values letter texts 0 _ (record { inside = omega arith; here = h .0 }) (h .1)
 
-says-line : (texts : List (List ℕ)) (line : Line) → IsLine texts line → says (formed texts) ≡ Lined line
-says-line [] line h = absurd h
-says-line (letter ∷ texts) line h = says-values letter texts 1 _ (record { inside = omega arith; here = h .0 }) (h .1)
+parse-line : (texts : List (List ℕ)) (line : Line) → IsLine texts line → parse (formed texts) ≡ Lined line
+parse-line [] line h = absurd h
+parse-line (letter ∷ texts) line h = parse-values letter texts 1 _ (record { inside = omega arith; here = h .0 }) (h .1)
 
-pub holding-exactly : (texts : List (List ℕ)) (row : Row) (price : ℕ) → (says (formed texts) ≡ Holding row price) ↔ IsHolding texts row price
-holding-exactly texts row price = (λ e. subst (Says texts) e (so-says texts), says-holding texts row price)
+pub holding-exactly : (texts : List (List ℕ)) (row : Row) (price : ℕ) → (parse (formed texts) ≡ Holding row price) ↔ IsHolding texts row price
+holding-exactly texts row price = (λ e. subst (ParsedAs texts) e (parsed-as texts), parse-holding texts row price)
 
-pub line-exactly : (texts : List (List ℕ)) (line : Line) → (says (formed texts) ≡ Lined line) ↔ IsLine texts line
-line-exactly texts line = (λ e. subst (Says texts) e (so-says texts), says-line texts line)
+pub line-exactly : (texts : List (List ℕ)) (line : Line) → (parse (formed texts) ≡ Lined line) ↔ IsLine texts line
+line-exactly texts line = (λ e. subst (ParsedAs texts) e (parsed-as texts), parse-line texts line)

@@ -9,7 +9,7 @@ use Rattle.pairing.specs.declared.Line.{Line}
 use Rattle.proposal.specs.Submission.{Submission}
 use Rattle.csv.specs.Grammar.{File}
 use Rattle.layout.specs.Layout.{IsHolding, IsLine}
-use Rattle.reader.specs.File.{saidIn, submissionOf, fileFault}
+use Rattle.reader.specs.File.{parsedIn, submissionOf, fileFault}
 
 -- records each a good H, with their rows and prices
 pub data AreHoldings : List (List (List ℕ)) → List Row → List ℕ → Type 0 where
@@ -35,5 +35,5 @@ pub record Submits (text : List ℕ) (s : Submission) : Type 0 where
 
 -- a text is not refused exactly when it submits what is read from it, and it submits nothing else
 pub record ReadExactly (text : List ℕ) : Type 0 where
-  pub read : (fileFault text .number ≡ 0) ↔ Submits text (submissionOf (saidIn text))
-  pub only : (s : Submission) → Submits text s → s ≡ submissionOf (saidIn text)
+  pub read : (fileFault text .number ≡ 0) ↔ Submits text (submissionOf (parsedIn text))
+  pub only : (s : Submission) → Submits text s → s ≡ submissionOf (parsedIn text)

@@ -1,3 +1,3 @@
 pub mod Listed
 pub mod Turns
-pub mod Drafted
+pub mod FileRead

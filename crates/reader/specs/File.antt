@@ -12,48 +12,52 @@ use Rattle.article.specs.Answer.{Answer, answer}
 use Rattle.pairing.specs.declared.Line.{Line}
 use Rattle.proposal.specs.Submission.{Submission}
 use Rattle.csv.specs.Reading.{recordsOf}
-use Rattle.layout.specs.Layout.{says}
-use Rattle.layout.specs.declared.Said.{Said}
-use Rattle.layout.specs.declared.Said.the-variants.{Holding, Line as Lined, Refused}
+use Rattle.layout.specs.Layout.{parse}
+use Rattle.layout.specs.declared.Parsed.{Parsed}
+use Rattle.layout.specs.declared.Parsed.the-variants.{Holding, Line as Lined, Refused}
 
 -- what the records of a text say, up to the first that is outside the grammar
-unfoldable pub saidIn : List ℕ → List Said
-saidIn text = map says (recordsOf text)
+unfoldable pub parsedIn : List ℕ → List Parsed
+parsedIn text = map parse (recordsOf text)
 
 -- the holdings' rows, their prices, and the lines, each in the order of the records
-unfoldable pub rowsSaid : List Said → List Row
-rowsSaid [] = []
-rowsSaid (Holding row price ∷ rest) = row ∷ rowsSaid rest
-rowsSaid (Lined line ∷ rest) = rowsSaid rest
-rowsSaid (Refused number ∷ rest) = rowsSaid rest
+unfoldable pub parsedRows : List Parsed → List Row
+parsedRows [] = []
+parsedRows (Holding row price ∷ rest) = row ∷ parsedRows rest
+parsedRows (Lined line ∷ rest) = parsedRows rest
+parsedRows (Refused number ∷ rest) = parsedRows rest
 
-unfoldable pub pricesSaid : List Said → List ℕ
-pricesSaid [] = []
-pricesSaid (Holding row price ∷ rest) = price ∷ pricesSaid rest
-pricesSaid (Lined line ∷ rest) = pricesSaid rest
-pricesSaid (Refused number ∷ rest) = pricesSaid rest
+unfoldable pub parsedPrices : List Parsed → List ℕ
+parsedPrices [] = []
+parsedPrices (Holding row price ∷ rest) = price ∷ parsedPrices rest
+parsedPrices (Lined line ∷ rest) = parsedPrices rest
+parsedPrices (Refused number ∷ rest) = parsedPrices rest
 
-unfoldable pub linesSaid : List Said → List Line
-linesSaid [] = []
-linesSaid (Holding row price ∷ rest) = linesSaid rest
-linesSaid (Lined line ∷ rest) = line ∷ linesSaid rest
-linesSaid (Refused number ∷ rest) = linesSaid rest
+unfoldable pub parsedLines : List Parsed → List Line
+parsedLines [] = []
+parsedLines (Holding row price ∷ rest) = parsedLines rest
+parsedLines (Lined line ∷ rest) = line ∷ parsedLines rest
+parsedLines (Refused number ∷ rest) = parsedLines rest
 
-unfoldable pub submissionOf : List Said → Submission
-submissionOf said = record { rows = rowsSaid said; prices = pricesSaid said; lines = linesSaid said }
+unfoldable pub submissionOf : List Parsed → Submission
+submissionOf parsed = record { rows = parsedRows parsed; prices = parsedPrices parsed; lines = parsedLines parsed }
+
+-- what a text submits by its records
+abbrev pub submissionIn : List ℕ → Submission
+submissionIn text = submissionOf (parsedIn text)
 
 -- of record n after so many holdings and lines: 19 to 21, 22 H after P, 3 more than 256 holdings, 9 more than 512 lines
-abbrev pub faultsOf : ℕ → ℕ → ℕ → Said → List (Bool × Answer)
+abbrev pub faultsOf : ℕ → ℕ → ℕ → Parsed → List (Bool × Answer)
 faultsOf n holdings lines (Refused number) = (true, answer number n 0) ∷ []
 faultsOf n holdings lines (Holding row price) = (ltb 0 lines, answer 22 n 0) ∷ (eqb holdings 256, answer 3 0 0) ∷ []
 faultsOf n holdings lines (Lined line) = (eqb lines 512, answer 9 0 0) ∷ []
 
-unfoldable pub atRecord : List Said → ℕ → List (Bool × Answer)
-atRecord said n = faultsOf n (length (rowsSaid (take n said))) (length (linesSaid (take n said))) (getD said n (Refused 0))
+unfoldable pub atRecord : List Parsed → ℕ → List (Bool × Answer)
+atRecord parsed n = faultsOf n (length (parsedRows (take n parsed))) (length (parsedLines (take n parsed))) (getD parsed n (Refused 0))
 
 -- 18 longer than 65,536 bytes; each record in turn
 unfoldable pub fileFaults : List ℕ → List (Bool × Answer)
-fileFaults text = (ltb 65536 (length text), answer 18 0 0) ∷ inTurn (length (saidIn text)) (atRecord (saidIn text))
+fileFaults text = (ltb 65536 (length text), answer 18 0 0) ∷ inTurn (length (parsedIn text)) (atRecord (parsedIn text))
 
 -- the first of them that holds, number 0 for none
 unfoldable pub fileFault : List ℕ → Answer
@@ -65,4 +69,4 @@ unfoldable pub readAnswer : Bool → List ℕ → Answer
 readAnswer two text =
     firstOf
     (fileFaults text ++ ((two, answer 2 0 0) ∷ []))
-    (answer 0 (length (rowsSaid (saidIn text))) (length (linesSaid (saidIn text))))
+    (answer 0 (length (parsedRows (parsedIn text))) (length (parsedLines (parsedIn text))))

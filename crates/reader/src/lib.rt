@@ -1,12 +1,12 @@
 // The file of a book and a proposal, read in one pass.
-use layout::Said;
+use layout::Parsed;
 use proposal::Book;
 use proposal::Proposal;
-ghost use Rattle.reader.specs.Drafts.{Drafts, refusedAt};
+ghost use Rattle.reader.specs.ReadsFile.{ReadsFile, refusedAt};
 ghost use mathlib.Core.Path.{_≡_};
 
 // A file that was read: the book and the proposal that it submits, or a refusal, 0 for none, with its place and both empty.
-pub struct Draft {
+pub struct Contents {
     pub number: u64,
     pub place: u64,
     pub book: Book,
@@ -14,10 +14,10 @@ pub struct Draft {
 }
 
 // A refusal, with nothing submitted.
-fn refused(number: u64, place: u64) -> Draft
+fn refused(number: u64, place: u64) -> Contents
     ensures { λ r. ⌜ r ≡ refusedAt number place ⌝ }
 {
-    Draft {
+    Contents {
         number,
         place,
         book: Book {
@@ -33,8 +33,8 @@ fn refused(number: u64, place: u64) -> Draft
 }
 
 // Reads a file: 18; each record in turn 19 to 22, then 3 or 9; else what it submits.
-pub fn read(text: &[u8]) -> Draft
-    ensures { λ r. ⌜ Drafts (now (text .entry)) r ⌝ }
+pub fn read(text: &[u8]) -> Contents
+    ensures { λ r. ⌜ ReadsFile (now (text .entry)) r ⌝ }
 {
     if text.len() > 65536 {
         return refused(18, 0);
@@ -48,9 +48,9 @@ pub fn read(text: &[u8]) -> Draft
     let mut at: usize = 0;
     while at < text.len() {
         let entry = layout::entry_at(text, at);
-        let said = entry.said;
-        match said {
-            Said::Holding { row, price } => {
+        let parsed = entry.parsed;
+        match parsed {
+            Parsed::Holding { row, price } => {
                 if pairs != 0 {
                     return refused(22, record as u64);
                 }
@@ -63,7 +63,7 @@ pub fn read(text: &[u8]) -> Draft
                 record = record + 1;
                 at = entry.next;
             }
-            Said::Line { line } => {
+            Parsed::Line { line } => {
                 if pairs == 512 {
                     return refused(9, 0);
                 }
@@ -72,12 +72,12 @@ pub fn read(text: &[u8]) -> Draft
                 record = record + 1;
                 at = entry.next;
             }
-            Said::Refused { number } => {
+            Parsed::Refused { number } => {
                 return refused(number, record as u64);
             }
         }
     }
-    Draft {
+    Contents {
         number: 0,
         place: 0,
         book: Book {

@@ -6,21 +6,21 @@ use Rattle.article.specs.Answer.{answer}
 use Rattle.numerals.specs.Numerals.{lead, digits}
 use Rattle.verdict.specs.declared.Judgement.{Judgement}
 use Rattle.verdict.specs.declared.Verdict.the-variants.{Accepted}
-use Rattle.report.specs.Report.{behindComma, lineOf, numbersOf, refusalLine, marginLine, remainderLine, linesOf, judgedLine, reportOf}
+use Rattle.report.specs.Report.{afterComma, lineOf, numbersOf, refusalLine, marginLine, remainderLine, printedLines, judgedLine, reportOf}
 
 -- what the check finds of document 01's file
 abbrev found : Judgement
 found = record { verdict = Accepted 3285000000 22500; remainders = 100000 ∷ 0 ∷ 0 ∷ []; ranking = 0 ∷ 1 ∷ 2 ∷ []; margins = 438000000 ∷ 0 ∷ 0 ∷ [] }
 
 pub the-file : reportOf found 3 ≡ ascii "M,3285000000,22500\r\nR,0,100000,438000000\r\nR,1,0,0\r\nR,2,0,0\r\n"
-unfolding reportOf linesOf marginLine judgedLine remainderLine lineOf behindComma digits lead flatMap
+unfolding reportOf printedLines marginLine judgedLine remainderLine lineOf afterComma digits lead flatMap
 the-file = refl
 
 pub a-refusal : refusalLine (answer 16 0 2) ≡ ascii "X,16,0,2\r\n"
-unfolding refusalLine numbersOf lineOf behindComma digits lead flatMap
+unfolding refusalLine numbersOf lineOf afterComma digits lead flatMap
 a-refusal = refl
 
 -- the empty book
 pub no-holdings : reportOf (record { verdict = Accepted 0 0; remainders = []; ranking = []; margins = [] }) 0 ≡ ascii "M,0,0\r\n"
-unfolding reportOf linesOf marginLine lineOf behindComma digits lead flatMap
+unfolding reportOf printedLines marginLine lineOf afterComma digits lead flatMap
 no-holdings = refl

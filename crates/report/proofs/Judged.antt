@@ -16,11 +16,11 @@ use Rattle.proposal.specs.Outcome.{outcome}
 use Rattle.verdict.specs.Judges.{written, Judges}
 use Rattle.verdict.specs.declared.Judgement.{Judgement}
 use Rattle.verdict.proofs.Judged.{nothing-past, margin-past, ranked-length}
-use Rattle.report.specs.Report.{marginLine, refusalLine, linesOf, bookLine, printedOf, judgedLine, reportOf}
+use Rattle.report.specs.Report.{marginLine, refusalLine, printedLines, bookLine, printedOf, judgedLine, reportOf}
 
 -- the R lines count where the answer is accepted
-same-lines : (a : Answer) (f g : ℕ → List ℕ) (xs ys : List ℕ) → (a .number ≡ 0 → (f ≡ g) × (xs ≡ ys)) → linesOf a f xs ≡ linesOf a g ys
-unfolding linesOf
+same-lines : (a : Answer) (f g : ℕ → List ℕ) (xs ys : List ℕ) → (a .number ≡ 0 → (f ≡ g) × (xs ≡ ys)) → printedLines a f xs ≡ printedLines a g ys
+unfolding printedLines
 same-lines a f g xs ys h = by (eqb (a .number) 0) refl
   where
     by : (t : Bool) → eqb (a .number) 0 ≡ t → cond t (marginLine a ++ flatMap f xs) (refusalLine a) ≡ cond t (marginLine a ++ flatMap g ys) (refusalLine a)
@@ -54,5 +54,5 @@ module _ (s : Submission) (j : Judgement) (judges : Judges s j) where
   pub report-judged : reportOf j (length (s .rows)) ≡ printedOf s (outcome false false s)
   unfolding reportOf printedOf
   report-judged =
-      ap (λ (a : Answer). linesOf a (judgedLine j) (take (length (s .rows)) (j .ranking))) (judges .answer)
+      ap (λ (a : Answer). printedLines a (judgedLine j) (take (length (s .rows)) (j .ranking))) (judges .answer)
       ∙ same-lines (outcome false false s) _ _ _ _ (λ e. ((λ i k. line e k i), order e))

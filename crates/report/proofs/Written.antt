@@ -8,8 +8,8 @@ use lib.ListN.{length, getD, take, set, length-append}
 use lib.Seq.{take-suc}
 use borrow.Author.Tests.{le-leb, lt-leb}
 use Rattle.lists.specs.Tables.{front}
-use Rattle.lists.proofs.Over.{over-front, over-none, over-one, over-over}
-use Rattle.report.specs.Written.{Written, room, fitted, Prints}
+use Rattle.lists.proofs.Overwrite.{overwrite-front, overwrite-none, overwrite-one, overwrite-overwrite}
+use Rattle.report.specs.Written.{Written, reportRoom, fitted, Prints}
 
 flat-append : (f : ℕ → List ℕ) (xs : List ℕ) (x : ℕ) → flatMap f (xs ++ (x ∷ [])) ≡ flatMap f xs ++ f x
 unfolding flatMap
@@ -17,17 +17,17 @@ flat-append f [] x = append-nil (f x)
 flat-append f (y ∷ xs) x = rw (flat-append f xs x) (sym (append-assoc (f y) (flatMap f xs) (f x)))
 
 pub written-none : (at : ℕ) (old : List ℕ) → Written [] at at old old
-written-none at old = record { behind = omega arith; bytes = sym (over-none at old) }
+written-none at old = record { ends = omega arith; bytes = sym (overwrite-none at old) }
 
 pub written-one : (at x : ℕ) (old : List ℕ) → at < length old → Written (x ∷ []) at (at + 1) old (set old at x)
-written-one at x old h = record { behind = refl; bytes = over-one at x old h }
+written-one at x old h = record { ends = refl; bytes = overwrite-one at x old h }
 
 -- one text behind another
 pub written-then : {xs ys : List ℕ} {at middle next : ℕ} {old mid now : List ℕ} → at ≤ length old → Written xs at middle old mid → Written ys middle next mid now
     → Written (xs ++ ys) at next old now
 written-then {xs} {ys} {at} {middle} {next} {old} {mid} {now} h p q = record {
-  behind = omega (arith, p .behind, q .behind, length-append xs ys);
-  bytes = q .bytes ∙ rw (p .bytes, p .behind) (over-over at xs ys old h);
+  ends = omega (arith, p .ends, q .ends, length-append xs ys);
+  bytes = q .bytes ∙ rw (p .bytes, p .ends) (overwrite-overwrite at xs ys old h);
 }
 
 -- the texts of the first i + 1 entries, when those of the first i are written
@@ -36,15 +36,15 @@ pub written-more : (f : ℕ → List ℕ) (xs : List ℕ) (i : ℕ) {at middle n
 written-more f xs i l h p q = rw (add-one, take-suc xs i 0 l, flat-append f (take i xs) (getD xs i 0)) (written-then h p q)
 
 -- with room, what is written from the start is printed
-pub printed : {text old now : List ℕ} {count : ℕ} → room ≤ length old → Written text 0 count old now → Prints text old now count
+pub printed : {text old now : List ℕ} {count : ℕ} → reportRoom ≤ length old → Written text 0 count old now → Prints text old now count
 unfolding fitted
 printed {text} {old} {now} {count} h w =
-    let t = le-leb room (length old) h in
-    record { bytes = rw t (w .bytes ∙ over-front text old); counted = rw t (omega (arith, w .behind)) }
+    let t = le-leb reportRoom (length old) h in
+    record { bytes = rw t (w .bytes ∙ overwrite-front text old); counted = rw t (omega (arith, w .ends)) }
 
 -- and without it nothing
-pub no-room : (text old : List ℕ) → length old < room → Prints text old old 0
+pub no-room : (text old : List ℕ) → length old < reportRoom → Prints text old old 0
 unfolding fitted front
 no-room text old h =
-    let t = lt-leb room (length old) h in
+    let t = lt-leb reportRoom (length old) h in
     record { bytes = rw t; counted = rw t }

@@ -10,16 +10,16 @@ use Rattle.article.specs.Answer.{Answer}
 use Rattle.pairing.specs.declared.Line.{Line}
 use Rattle.proposal.specs.Submission.{Submission, PricedBook, priced}
 use Rattle.proposal.specs.Figures.{remainder, margin, ranked}
-use Rattle.verdict.specs.Judges.{told}
+use Rattle.verdict.specs.Judges.{answerOf}
 use Rattle.verdict.specs.declared.Judgement.{Judgement}
 
 -- a number behind a comma
-unfoldable pub behindComma : ℕ → List ℕ
-behindComma x = ascii "," ++ digits x
+unfoldable pub afterComma : ℕ → List ℕ
+afterComma x = ascii "," ++ digits x
 
 -- a line: a letter, its numbers, CRLF
 unfoldable pub lineOf : List ℕ → List ℕ → List ℕ
-lineOf letter numbers = letter ++ flatMap behindComma numbers ++ ascii "\r\n"
+lineOf letter numbers = letter ++ flatMap afterComma numbers ++ ascii "\r\n"
 
 -- an answer's number and values
 unfoldable pub numbersOf : Answer → List ℕ
@@ -38,8 +38,8 @@ unfoldable pub remainderLine : ℕ → ℕ → ℕ → List ℕ
 remainderLine holding cents units = lineOf (ascii "R") (holding ∷ cents ∷ units ∷ [])
 
 -- accepted, the M line and behind it an R line for each holding in an order; a refusal prints one line
-unfoldable pub linesOf : Answer → (ℕ → List ℕ) → List ℕ → List ℕ
-linesOf a line order = cond (eqb (a .number) 0) (marginLine a ++ flatMap line order) (refusalLine a)
+unfoldable pub printedLines : Answer → (ℕ → List ℕ) → List ℕ → List ℕ
+printedLines a line order = cond (eqb (a .number) 0) (marginLine a ++ flatMap line order) (refusalLine a)
 
 -- the R line of a holding with so many lines on its book: its remainder, and the margin of it
 unfoldable pub bookLine : PricedBook → List Line → ℕ → List ℕ
@@ -47,7 +47,7 @@ bookLine b lines k = remainderLine k (remainder b lines k) (margin b lines k)
 
 -- what is printed of a submission and its answer: R in ranking order
 unfoldable pub printedOf : Submission → Answer → List ℕ
-printedOf s a = linesOf a (bookLine (priced s) (s .lines)) (ranked (priced s) (s .lines))
+printedOf s a = printedLines a (bookLine (priced s) (s .lines)) (ranked (priced s) (s .lines))
 
 -- the R line of a number in a judgement's lists, past which nothing remains
 unfoldable pub judgedLine : Judgement → ℕ → List ℕ
@@ -55,4 +55,4 @@ judgedLine j k = remainderLine k (getD (j .remainders) k 0) (getD (j .margins) k
 
 -- what is printed of a judgement of so many holdings
 unfoldable pub reportOf : Judgement → ℕ → List ℕ
-reportOf j count = linesOf (told (j .verdict)) (judgedLine j) (take count (j .ranking))
+reportOf j count = printedLines (answerOf (j .verdict)) (judgedLine j) (take count (j .ranking))

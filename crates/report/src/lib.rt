@@ -6,9 +6,9 @@ ghost use mathlib.Core.List.{[], _∷_, flatMap};
 ghost use Prim.Native.Nat.{_+_, _*_, _≤_, _<_};
 ghost use lib.ListN.{length, getD, take};
 ghost use Rattle.article.specs.Answer.{answer};
-ghost use Rattle.verdict.specs.Judges.{told};
+ghost use Rattle.verdict.specs.Judges.{answerOf};
 ghost use Rattle.report.specs.Written.{Written, Prints};
-ghost use Rattle.report.specs.Report.{behindComma, lineOf, numbersOf, refusalLine, judgedLine, reportOf};
+ghost use Rattle.report.specs.Report.{afterComma, lineOf, numbersOf, refusalLine, judgedLine, reportOf};
 
 // Room for 257 lines of at most 66 bytes.
 pub const ROOM: usize = 16962;
@@ -25,7 +25,7 @@ fn put_byte(byte: u8, at: usize, out: &mut [u8]) -> usize
 // Writes a comma and the numeral of x from `at` on, and returns the place behind them.
 fn put_number(x: u64, at: usize, out: &mut [u8]) -> usize
     requires { ⌜ at + 21 ≤ length (now out) ⌝ }
-    ensures { λ r. ⌜ Written (behindComma x) at r (now (out .entry)) (now (out .exit)) × (r ≤ at + 21) ⌝ }
+    ensures { λ r. ⌜ Written (afterComma x) at r (now (out .entry)) (now (out .exit)) × (r ≤ at + 21) ⌝ }
 {
     let next = put_byte(b',', at, out);
     numerals::put_digits(x, next, out)
@@ -48,7 +48,7 @@ fn put_line(letter: u8, numbers: [u64; 3], count: usize, at: usize, out: &mut [u
 
 // The paper's number and values of a verdict.
 fn numbers_of(verdict: Verdict) -> [u64; 3]
-    ensures { λ r. ⌜ r ≡ numbersOf (told verdict) ⌝ }
+    ensures { λ r. ⌜ r ≡ numbersOf (answerOf verdict) ⌝ }
 {
     match verdict {
         Verdict::Accepted { units, cents } => [0, units, cents],
@@ -103,11 +103,11 @@ pub fn report(judgement: Judgement, count: usize, out: &mut [u8]) -> usize
         return 0;
     }
     let verdict = judgement.verdict;
-    let told = numbers_of(verdict);
-    if told[0] != 0 {
-        return put_line(b'X', told, 3, 0, out);
+    let numbers = numbers_of(verdict);
+    if numbers[0] != 0 {
+        return put_line(b'X', numbers, 3, 0, out);
     }
-    let next = put_line(b'M', [told[1], told[2], 0], 2, 0, out);
+    let next = put_line(b'M', [numbers[1], numbers[2], 0], 2, 0, out);
     put_remainders(judgement, count, next, out)
 }
 

@@ -4,7 +4,7 @@ use mathlib.Core.Bool.{Bool, true, false, _&&_, _||_, and-eq-true-iff, false≢t
 use borrow.Author.Tests.{eqb-true}
 use Rattle.lists.specs.Choice.{firstOf}
 use Rattle.lists.proofs.Tests.{zero-out}
-use Rattle.article.specs.Pair.{isLong, isShort, isBond, isStrip, isCanada, isProvince, kindsPair, sameClass, mixedClass, classRule, ruleOf, allowed, pairRate, savingRate}
+use Rattle.article.specs.Pair.{isLong, isShort, isBond, isStrip, isCanada, isProvince, kindsPair, sameClass, mixedClass, classRule, ruleOf, allowed, pairRateOf, savingRateOf}
 use Rattle.savings.specs.Savings.{sameKind, savingOf, isAlike}
 use Rattle.article.specs.declared.pair.Leg.{Leg}
 
@@ -70,10 +70,10 @@ module _ (a b s : Leg) (same : isAlike a b ≡ true) where
 
   -- as the long
   pub saving-long : savingOf a s ≡ savingOf b s
-  unfolding savingOf savingRate pairRate allowed isLong
+  unfolding savingOf savingRateOf pairRateOf allowed isLong
   saving-long = rw (rule-long, alike .side, alike .period, alike .rate)
 
   -- as the short
   pub saving-short : savingOf s a ≡ savingOf s b
-  unfolding savingOf savingRate pairRate allowed isShort
+  unfolding savingOf savingRateOf pairRateOf allowed isShort
   saving-short = rw (rule-short, alike .side, alike .period, alike .rate)

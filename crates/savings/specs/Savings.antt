@@ -2,7 +2,7 @@
 use mathlib.Core.Bool.{Bool, cond, _&&_, _||_}
 use Prim.Native.Nat.{ℕ, _+_, _-_}
 use lib.Dec.{eqb}
-use Rattle.article.specs.Pair.{isBond, isStrip, sameClass, allowed, ruleRate, savingRate}
+use Rattle.article.specs.Pair.{isBond, isStrip, sameClass, allowed, ruleRate, savingRateOf}
 use Rattle.article.specs.declared.pair.Rule.{Rule}
 use Rattle.article.specs.declared.pair.Leg.{Leg}
 
@@ -12,7 +12,7 @@ ruleSaving r a b = a + b - ruleRate r a b
 
 -- what two legs save: the saving rate of an allowed pair, and else 0
 unfoldable pub savingOf : Leg → Leg → ℕ
-savingOf l s = cond (allowed l s) (savingRate l s) 0
+savingOf l s = cond (allowed l s) (savingRateOf l s) 0
 
 -- both bonds or both strips: a coupon and a residual count as one kind
 unfoldable pub sameKind : Leg → Leg → Bool

@@ -9,7 +9,7 @@ use lib.Dec.{ltb}
 use borrow.Author.Tests.{ltb-false, le-ltb}
 use Rattle.lists.specs.Each.{Each}
 use Rattle.lists.proofs.Tests.{neither}
-use Rattle.sizes.specs.Room.{Room, Holds, tooShort}
+use Rattle.sizes.specs.Room.{Room, Holds, columnsTooShort}
 
 -- tests of which one holds, the first or another
 abbrev oneOf : Bool → List Bool → Bool
@@ -24,8 +24,8 @@ none-holds a (b ∷ bs) e =
     (p, (q, rest))
 
 module _ (holdings lines : ℕ) (z : Room) where
-  pub holds-exactly : (tooShort holdings lines z ≡ false) ↔ Holds holdings lines z
-  unfolding tooShort
+  pub holds-exactly : (columnsTooShort holdings lines z ≡ false) ↔ Holds holdings lines z
+  unfolding columnsTooShort
   holds-exactly = (
     λ e.
         let (side, (kind, (issuer, (days, (value, (price, (long, (short, (amount, (answer, _)))))))))) =

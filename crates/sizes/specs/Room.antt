@@ -17,8 +17,8 @@ pub record Room : Type 0 where
   pub amount : ℕ
   pub answer : ℕ
 
-abbrev pub room : ℕ → ℕ → ℕ → ℕ → ℕ → ℕ → ℕ → ℕ → ℕ → ℕ → Room
-room side kind issuer days value price long short amount answer = record {
+abbrev pub makeRoom : ℕ → ℕ → ℕ → ℕ → ℕ → ℕ → ℕ → ℕ → ℕ → ℕ → Room
+makeRoom side kind issuer days value price long short amount answer = record {
   side = side;
   kind = kind;
   issuer = issuer;
@@ -45,8 +45,8 @@ pub record Holds (holdings lines : ℕ) (z : Room) : Type 0 where
   pub answer : 16 ≤ z .answer
 
 -- 2: one of them does not
-unfoldable pub tooShort : ℕ → ℕ → Room → Bool
-tooShort holdings lines z =
+unfoldable pub columnsTooShort : ℕ → ℕ → Room → Bool
+columnsTooShort holdings lines z =
     ltb (z .side / 8) holdings
     || ltb (z .kind / 8) holdings
     || ltb (z .issuer / 8) holdings

@@ -21,8 +21,8 @@ pub record Sizes : Type 0 where
   pub ranking : ℕ
   pub answer : ℕ
 
-abbrev pub sizes : ℕ → ℕ → ℕ → ℕ → ℕ → ℕ → ℕ → ℕ → ℕ → ℕ → ℕ → ℕ → Sizes
-sizes side kind issuer days value price long short amount remainder ranking answer = record {
+abbrev pub makeSizes : ℕ → ℕ → ℕ → ℕ → ℕ → ℕ → ℕ → ℕ → ℕ → ℕ → ℕ → ℕ → Sizes
+makeSizes side kind issuer days value price long short amount remainder ranking answer = record {
   side = side;
   kind = kind;
   issuer = issuer;

@@ -1,7 +1,7 @@
 // The byte lengths of what the host lends.
 ghost use mathlib.Core.Path.{_≡_};
-ghost use Rattle.sizes.specs.Room.{room, tooShort};
-ghost use Rattle.sizes.specs.Sizes.{sizes, lengthFault};
+ghost use Rattle.sizes.specs.Room.{makeRoom, columnsTooShort};
+ghost use Rattle.sizes.specs.Sizes.{makeSizes, lengthFault};
 
 // The refusal by the lengths of what is lent, in document 01's order 1, 3, 9, 2, or 0.
 pub fn lengths(
@@ -18,7 +18,7 @@ pub fn lengths(
     ranking: usize,
     answer: usize,
 ) -> u64
-    ensures { λ r. ⌜ r ≡ lengthFault (sizes side kind issuer days value price long short amount remainder ranking answer) ⌝ }
+    ensures { λ r. ⌜ r ≡ lengthFault (makeSizes side kind issuer days value price long short amount remainder ranking answer) ⌝ }
 {
     let n = side / 8;
     let m = long / 8;
@@ -63,7 +63,7 @@ pub fn too_short(
     amount: usize,
     answer: usize,
 ) -> bool
-    ensures { λ r. ⌜ r ≡ tooShort holdings lines (room side kind issuer days value price long short amount answer) ⌝ }
+    ensures { λ r. ⌜ r ≡ columnsTooShort holdings lines (makeRoom side kind issuer days value price long short amount answer) ⌝ }
 {
     (side / 8 < holdings)
         | (kind / 8 < holdings)

@@ -7,7 +7,7 @@ use lib.Dec.{ltb}
 use borrow.Author.Tests.{eq-eqb, ne-eqb, not-false, ltb-false}
 use Rattle.lists.proofs.Tests.{neither}
 use Rattle.lists.proofs.Firsts.{None, none-first}
-use Rattle.article.specs.Pair.{allowed, pairRate, savingRate}
+use Rattle.article.specs.Pair.{allowed, pairRateOf, savingRateOf}
 use Rattle.article.specs.declared.pair.Leg.{Leg}
 use Rattle.article.proofs.Legs.{allowed-high}
 use Rattle.article.proofs.PairRates.{saving-high}
@@ -35,7 +35,7 @@ passed l s amount a b none =
 -- a line taken off: the new tally, and bounds of what the line adds
 pub record Took (t : Tally) (l : Line) (long short : Leg) (r : Applied) : Type 0 where
   pub tally : r .tally ≡ taken t l long short
-  pub high : High l (pairRate long short) (savingRate long short)
+  pub high : High l (pairRateOf long short) (savingRateOf long short)
 
 module _ {t : Tally} {l : Line} {long short : Leg} {r : Applied} (applies : Applies t l long short r) where
   pub kept : (r .number ≡ 0 → ⊥) → r .tally ≡ t

@@ -21,7 +21,7 @@ use Rattle.proposal.specs.Outcome.{pairFaults}
 use Rattle.tally.specs.Tally.{taken, keptAt, Ready, Applies}
 use Rattle.tally.specs.declared.Tally.{Tally}
 use Rattle.tally.specs.declared.Applied.{Applied}
-use Rattle.article.proofs.Told.{Told}
+use Rattle.article.proofs.Answered.{Answered}
 
 -- the amount of a line off its long
 abbrev long-written : List ℕ → Line → List ℕ
@@ -94,13 +94,13 @@ module _ {t : Tally} {l : Line} {long short : Leg} where
             above-short h e = rw e (record { number = search (tests, may); tally = refl })
 
             pub accepted : Ready t l long short → length (t .left) ≡ 256 → l .amount ≤ getD (t .left) (l .short) 0 → {rate save : ℕ}
-                → Told long short rate save → Applies t l long short (record { number = 0; tally = written-off t l rate save })
+                → Answered long short rate save → Applies t l long short (record { number = 0; tally = written-off t l rate save })
             unfolding pairFaults firstOf isLong isShort taken
-            accepted ready n h told = record {
+            accepted ready n h answered = record {
               number = search (tests, may);
               tally = λ i. record {
                 left = two-writes (t .left) l (λ e. omega (arith, ap (λ (x : Leg). x .side) (ready .one-leg e))) n (ready .first) (ready .second) i;
-                units = t .units + told .pair-rate i * l .amount;
-                saving = t .saving + told .saving-rate i * l .amount;
+                units = t .units + answered .pair-rate i * l .amount;
+                saving = t .saving + answered .saving-rate i * l .amount;
               };
             }

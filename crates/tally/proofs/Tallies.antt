@@ -11,7 +11,7 @@ use Rattle.lists.specs.Tables.{listTo}
 use Rattle.lists.proofs.Tests.{by-end}
 use Rattle.lists.proofs.Sums.{sumOf-more}
 use Rattle.lists.proofs.Tables.{length-to, getD-to, getD-past, to-eq}
-use Rattle.article.specs.Pair.{pairRate}
+use Rattle.article.specs.Pair.{pairRateOf}
 use Rattle.pairing.specs.Pairing as pairing
 use Rattle.pairing.specs.declared.Line.{Line}
 use Rattle.pairing.proofs.Used.{used-append}
@@ -47,7 +47,7 @@ module _ (b : PricedBook) where
   unfolding tallyOf taken remainder termsOf pairing.pairUnits pairing.saving
   one-more lines l = λ i. record {
     left = to-eq 256 _ _ lefts i;
-    units = sumOf-more lines l (λ x. pairRate (b .leg (x .long)) (b .leg (x .short)) * x .amount) i;
+    units = sumOf-more lines l (λ x. pairRateOf (b .leg (x .long)) (b .leg (x .short)) * x .amount) i;
     saving = (ap (λ (r : ℕ). pairing.saving (termsOf b) lines + r * l .amount) (sym (saving-rate b (l .long) (l .short))) ∙ sumOf-more lines l (λ x. pairing.savingRate (termsOf b) (x .long) (x .short) * x .amount)) i;
   }
     where

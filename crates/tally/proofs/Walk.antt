@@ -17,7 +17,7 @@ use Rattle.article.specs.Pair.{RateInRange}
 use Rattle.pairing.specs.declared.Line.{Line}
 use Rattle.proposal.specs.Submission.{PricedBook, noLine}
 use Rattle.proposal.specs.Figures.{remainder}
-use Rattle.proposal.specs.Outcome.{answerOf, atPlace, lineFaults, atLine, linesFaults}
+use Rattle.proposal.specs.Outcome.{faultAnswer, atPlace, lineFaults, atLine, linesFaults}
 use Rattle.proposal.proofs.Places.{zero-at, first-at, line-listed}
 use Rattle.tally.specs.Tally.{tallyOf, taken, stoppedAt, Ready, Applies, takenLines, Walks}
 use Rattle.tally.specs.declared.Tally.{Tally}
@@ -65,7 +65,7 @@ at-line b line m k h = rw (take-to m k line (omega arith), getD-to m line k noLi
 -- after m lines without fault
 pub ends : {b : PricedBook} {line : ℕ → Line} {m : ℕ} {t : Tally} {i : ℕ} {r : Walked} → Within b → Walking b line m t i → m ≤ i → m ≤ 512
     → r ≡ stoppedAt 0 0 t → Walks b (listTo m line) r
-unfolding stoppedAt answerOf linesFaults takenLines
+unfolding stoppedAt faultAnswer linesFaults takenLines
 ends {b} {line} {m} {i} bounds walking h few e =
     let all : i ≡ m = omega (arith, walking .passed .few) in
     rw e (record {
@@ -89,7 +89,7 @@ pub record InBook (b : PricedBook) (l : Line) : Type 0 where
 module _ {b : PricedBook} {line : ℕ → Line} {m : ℕ} {t : Tally} {i : ℕ} (turn : Turn b line m t i) where
   -- at a line with a fault
   pub stops : {n : ℕ} {r : Walked} → n ≡ firstOf (lineFaults b (listTo i line) (line i)) 0 → (n ≡ 0 → ⊥) → r ≡ stoppedAt n i t → Walks b (listTo m line) r
-  unfolding stoppedAt answerOf linesFaults takenLines
+  unfolding stoppedAt faultAnswer linesFaults takenLines
   stops {n} first some e = rw e (record {
     fault = rw (length-to m line)
         (sym (passed-first (turn .walking .passed) (answer 0 0 0) (turn .more) (λ w. rw (at-line b line m i (turn .more)) (first-at i _ n first some w))));

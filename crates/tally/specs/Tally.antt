@@ -8,13 +8,13 @@ use lib.Dec.{eqb}
 use lib.ListN.{getD, take}
 use Rattle.lists.specs.Choice.{firstOf}
 use Rattle.lists.specs.Tables.{listTo}
-use Rattle.article.specs.Pair.{pairRate, savingRate, RateInRange}
+use Rattle.article.specs.Pair.{pairRateOf, savingRateOf, RateInRange}
 use Rattle.article.specs.declared.pair.Leg.{Leg}
 use Rattle.pairing.specs.Pairing.{used, pairUnits, saving}
 use Rattle.pairing.specs.declared.Line.{Line}
 use Rattle.proposal.specs.Submission.{PricedBook, termsOf}
 use Rattle.proposal.specs.Figures.{marginLimit, savingLimit, remainder}
-use Rattle.proposal.specs.Outcome.{answerOf, pairFaults, linesFaults, firstFault}
+use Rattle.proposal.specs.Outcome.{faultAnswer, pairFaults, linesFaults, firstFault}
 use Rattle.tally.specs.declared.Tally.{Tally}
 use Rattle.tally.specs.declared.Applied.{Applied}
 use Rattle.tally.specs.declared.Walked.{Walked}
@@ -31,8 +31,8 @@ tallyOf b lines = record {
 unfoldable pub taken : Tally → Line → Leg → Leg → Tally
 taken t l long short = record {
   left = listTo 256 (λ k. getD (t .left) k 0 - used (l ∷ []) k);
-  units = t .units + pairRate long short * l .amount;
-  saving = t .saving + savingRate long short * l .amount;
+  units = t .units + pairRateOf long short * l .amount;
+  saving = t .saving + savingRateOf long short * l .amount;
 }
 
 -- a refusal of a line, and the tally as it was
@@ -70,6 +70,6 @@ pub record Bounded (t : Tally) : Type 0 where
 
 -- what taking the lines in turn promises: the first fault, the tally of the lines that were taken off, and its bounds
 pub record Walks (b : PricedBook) (lines : List Line) (r : Walked) : Type 0 where
-  pub fault : answerOf (r .fault) ≡ firstFault (linesFaults b lines)
+  pub fault : faultAnswer (r .fault) ≡ firstFault (linesFaults b lines)
   pub tally : r .tally ≡ tallyOf b (takenLines r lines)
   pub bounds : Bounded (r .tally)

@@ -14,12 +14,12 @@ use Rattle.ranking.specs.Ranking.{rankingOf}
 use Rattle.pairing.specs.Pairing.{saving, pricedTotal}
 use Rattle.proposal.specs.Submission.{Submission, PricedBook, bookOf, termsOf, priced, submitted, rowsOf, pricesOf, linesOf}
 use Rattle.proposal.specs.Figures.{remainder, margin, unitsOf, ranked}
-use Rattle.proposal.specs.Outcome.{answerOf, bookFaults, linesFaults, gaps, totalsFaults, fromPairs, fromLines, fromBook, firstFault, accepted, outcome}
+use Rattle.proposal.specs.Outcome.{faultAnswer, bookFaults, linesFaults, uncoveredPairs, totalsFaults, fromPairs, fromLines, fromBook, firstFault, accepted, outcome}
 use Rattle.proposal.specs.declared.Book.{Book}
 use Rattle.proposal.specs.declared.Proposal.{Proposal}
 use Rattle.proposal.specs.declared.Fault.{Fault}
 use Rattle.proposal.proofs.PricedBooks.{rows-count, lines-count}
-use Rattle.proposal.proofs.Clear.{book-numbered, lines-numbered, gaps-numbered}
+use Rattle.proposal.proofs.Clear.{book-numbered, lines-numbered, uncovered-numbered}
 use Rattle.proposal.proofs.Stages.{refuses, passes, many-holdings, many-lines, from-holdings, totals-differ, totals-equal}
 use Rattle.positions.specs.Positions.{heldBook, Opens}
 use Rattle.positions.specs.declared.Positions.{Positions}
@@ -47,15 +47,15 @@ module _ (book : Book) (proposal : Proposal) where
   lines-are = lines-count proposal
 
   -- a fault that is the outcome
-  refused-by : (f : Fault) {r : Judgement} → (f .number ≡ 0 → ⊥) → outcome false false s ≡ answerOf f → r ≡ refusalOf f → Judges s r
+  refused-by : (f : Fault) {r : Judgement} → (f .number ≡ 0 → ⊥) → outcome false false s ≡ faultAnswer f → r ≡ refusalOf f → Judges s r
   refused-by f h e g = rw g (refusal-judged s f h e)
 
   pub holdings-refused : {r : Judgement} → 256 < book .count → r ≡ refusalOf (whole 3) → Judges s r
-  unfolding answerOf
+  unfolding faultAnswer
   holdings-refused h = refused-by (whole 3) (λ z. omega arith) (many-holdings false false s refl (omega (arith, rows-are)))
 
   pub lines-refused : {r : Judgement} → book .count ≤ 256 → 512 < proposal .count → r ≡ refusalOf (whole 9) → Judges s r
-  unfolding answerOf
+  unfolding faultAnswer
   lines-refused few h = refused-by (whole 9) (λ z. omega arith) (many-lines false false s refl (omega (arith, rows-are)) (omega (arith, lines-are)))
 
   -- what decides where nothing is refused
@@ -84,16 +84,16 @@ module _ (book : Book) (proposal : Proposal) where
     first : outcome false false s ≡ firstOf (fromBook s) figures
     first = from-holdings false false s refl refl (omega (arith, rows-are)) (omega (arith, lines-are))
 
-    found : answerOf (o .fault) ≡ firstFault (bookFaults (s .rows) (s .prices))
+    found : faultAnswer (o .fault) ≡ firstFault (bookFaults (s .rows) (s .prices))
     unfolding submitted
     found = opens .fault
 
     pub book-refused : {r : Judgement} → (o .fault .number ≡ 0 → ⊥) → r ≡ refusalOf (o .fault) → Judges s r
-    unfolding answerOf
+    unfolding faultAnswer
     book-refused h = refused-by (o .fault) h (refuses _ (bookFaults (s .rows) (s .prices)) (fromLines s) figures first _ found h)
 
     pub book-held : o .fault .number ≡ 0 → Held (o .positions)
-    unfolding answerOf priced bookOf submitted
+    unfolding faultAnswer priced bookOf submitted
     book-held e = record {
       few = omega (arith, rows-are);
       same = rw (eq-eqb _ _ e) at (opens .positions);
@@ -107,11 +107,11 @@ module _ (book : Book) (proposal : Proposal) where
     of-book = subst (λ (b : PricedBook). Walks b (linesOf proposal) w) (held .same) walks
 
     pub line-refused : {r : Judgement} → (w .fault .number ≡ 0 → ⊥) → r ≡ refusalOf (w .fault) → Judges s r
-    unfolding answerOf
+    unfolding faultAnswer
     line-refused h = refused-by (w .fault) h (refuses _ (linesFaults (priced s) (s .lines)) (fromPairs s) figures (held .next) _ (of-book .fault) h)
 
     pub lines-tallied : w .fault .number ≡ 0 → Tallied p (w .tally)
-    unfolding answerOf takenLines
+    unfolding faultAnswer takenLines
     lines-tallied e = record {
       held = held;
       same = rw (eq-eqb _ _ e) at (of-book .tally);
@@ -119,19 +119,19 @@ module _ (book : Book) (proposal : Proposal) where
     }
 
   -- the pairs
-  module _ {p : Positions} {t : Tally} (tallied : Tallied p t) (g : Fault) (looks : answerOf g ≡ firstFault (gaps (heldBook p))) where
-    gap-found : answerOf g ≡ firstFault (gaps (priced s))
-    gap-found = rw (tallied .held .same) at looks
+  module _ {p : Positions} {t : Tally} (tallied : Tallied p t) (g : Fault) (looks : faultAnswer g ≡ firstFault (uncoveredPairs (heldBook p))) where
+    uncovered-found : faultAnswer g ≡ firstFault (uncoveredPairs (priced s))
+    uncovered-found = rw (tallied .held .same) at looks
 
-    pub gap-refused : {r : Judgement} → (g .number ≡ 0 → ⊥) → r ≡ refusalOf g → Judges s r
-    unfolding answerOf
-    gap-refused h = refused-by g h (refuses _ (gaps (priced s)) (totalsFaults (priced s) (s .lines)) figures (tallied .next) _ gap-found h)
+    pub uncovered-refused : {r : Judgement} → (g .number ≡ 0 → ⊥) → r ≡ refusalOf g → Judges s r
+    unfolding faultAnswer
+    uncovered-refused h = refused-by g h (refuses _ (uncoveredPairs (priced s)) (totalsFaults (priced s) (s .lines)) figures (tallied .next) _ uncovered-found h)
 
     pub pairs-covered : g .number ≡ 0 → Covered p t
-    unfolding answerOf
+    unfolding faultAnswer
     pairs-covered e = record {
       tallied = tallied;
-      next = passes _ (gaps (priced s)) (totalsFaults (priced s) (s .lines)) figures (tallied .next) _ gap-found (gaps-numbered false false s) e;
+      next = passes _ (uncoveredPairs (priced s)) (totalsFaults (priced s) (s .lines)) figures (tallied .next) _ uncovered-found (uncovered-numbered false false s) e;
     }
 
   -- the totals, and the figures
@@ -150,7 +150,7 @@ module _ (book : Book) (proposal : Proposal) where
     saving-found = ap (λ (x : Tally). x .saving) same-tally
 
     pub totals-refused : {r : Judgement} → (total ≡ t .saving → ⊥) → r ≡ refusalOf (whole 17) → Judges s r
-    unfolding answerOf
+    unfolding faultAnswer
     totals-refused h =
         refused-by (whole 17) (λ e. omega arith)
         (totals-differ (priced s) (s .lines) _ figures (covered .next) (λ e. h (total-found ∙ e ∙ sym saving-found)))

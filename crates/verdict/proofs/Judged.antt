@@ -15,7 +15,7 @@ use Rattle.ranking.specs.Ranking.{Ranks, ranksBefore, rankingOf}
 use Rattle.ranking.proofs.Ranking.{ranking}
 use Rattle.proposal.specs.Submission.{Submission, bookOf, priced, noRow}
 use Rattle.proposal.specs.Figures.{remainder, margin, unitsOf, remaindersOf, marginsOf, ranked, centsOf, RoundedUp}
-use Rattle.proposal.specs.Outcome.{answerOf, accepted, outcome}
+use Rattle.proposal.specs.Outcome.{faultAnswer, accepted, outcome}
 use Rattle.proposal.specs.declared.Fault.{Fault}
 use Rattle.proposal.proofs.Demands.{demands}
 use Rattle.proposal.proofs.Figures.{rounded, rounded-once}
@@ -40,10 +40,10 @@ module _ (s : Submission) where
   -- the ranking has every holding once, in order
   pub all-ranked : Ranks (margin (priced s) (s .lines)) (priced s .count) (ranked (priced s) (s .lines))
   unfolding ranked
-  all-ranked = ranking (margin (priced s) (s .lines)) (priced s .count) .ranks
+  all-ranked = ranking (margin (priced s) (s .lines)) (priced s .count) .order
 
-  pub refusal-judged : (f : Fault) → (f .number ≡ 0 → ⊥) → outcome false false s ≡ answerOf f → Judges s (refusalOf f)
-  unfolding refusalOf answerOf verdictOf
+  pub refusal-judged : (f : Fault) → (f .number ≡ 0 → ⊥) → outcome false false s ≡ faultAnswer f → Judges s (refusalOf f)
+  unfolding refusalOf faultAnswer verdictOf
   refusal-judged f h e =
       let refused : outcome false false s .number ≡ 0 → ⊥ = λ z. h (sym (ap (λ (a : Answer). a .number) e) ∙ z) in
       record {
@@ -52,8 +52,8 @@ module _ (s : Submission) where
         remainders = nothing-written _ refused;
         margins = nothing-written _ refused;
         ranking = nothing-written _ refused;
-        ranks = all-ranked;
-        demands = rw (← e) (demands false false s);
+        order = all-ranked;
+        keeps = rw (← e) (demands false false s);
       }
 
   -- past the book nothing remains
@@ -80,13 +80,13 @@ module _ (s : Submission) where
       → Judges s (record { verdict = Accepted units cents; remainders = left; ranking = ranking; margins = margins })
   unfolding accepted written verdictOf remaindersOf marginsOf
   figures-judged units cents left ranking margins few e u c l r m =
-      let told : answer 0 units cents ≡ outcome false false s = rw (rounded-once units cents (centsOf units) c (rounded units), u) (sym e) in
+      let answered : answer 0 units cents ≡ outcome false false s = rw (rounded-once units cents (centsOf units) c (rounded units), u) (sym e) in
       record {
-        answer = told;
-        verdict = rw (← told);
+        answer = answered;
+        verdict = rw (← answered);
         remainders = rw e (l ∙ of-the-book _ nothing-past few);
         margins = rw e (m ∙ of-the-book _ margin-past few);
         ranking = rw e r;
-        ranks = all-ranked;
-        demands = rw told (demands false false s);
+        order = all-ranked;
+        keeps = rw answered (demands false false s);
       }

@@ -18,9 +18,9 @@ use Rattle.verdict.specs.declared.Verdict.the-variants.{Accepted, Refuse
 use Rattle.verdict.specs.declared.Judgement.{Judgement}
 
 -- the paper's number and values of each answer: 0 with total units and cents, or the refusal's number with its two places
-abbrev pub told : Verdict → Answer
-told (Accepted units cents) = answer 0 units cents
-told (Refused number place second) = answer number place second
+abbrev pub answerOf : Verdict → Answer
+answerOf (Accepted units cents) = answer 0 units cents
+answerOf (Refused number place second) = answer number place second
 
 -- the case that an answer is told by: accepted for the number 0 and for no other
 unfoldable pub verdictOf : Answer → Verdict
@@ -41,7 +41,7 @@ refusalOf f = record { verdict = Refused (f .number) (f .place) (f .second); rem
 -- what the check promises
 pub record Judges (s : Submission) (r : Judgement) : Type 0 where
   -- the first refusal in the check's order, or the figures
-  pub answer : told (r .verdict) ≡ outcome false false s
+  pub answer : answerOf (r .verdict) ≡ outcome false false s
   -- accepted is a case of its own
   pub verdict : r .verdict ≡ verdictOf (outcome false false s)
   -- each holding's remainder, at the front of zeros
@@ -51,6 +51,6 @@ pub record Judges (s : Submission) (r : Judgement) : Type 0 where
   -- the ranking, at the front of zeros
   pub ranking : r .ranking ≡ front (written (outcome false false s) (ranked (priced s) (s .lines))) (zeros 256)
   -- it has every holding once, by margin of the remainder, largest first, ties by lower number
-  pub ranks : Ranks (margin (priced s) (s .lines)) (priced s .count) (ranked (priced s) (s .lines))
+  pub order : Ranks (margin (priced s) (s .lines)) (priced s .count) (ranked (priced s) (s .lines))
   -- accepted exactly when, the least, and the rounding
-  pub demands : Demands s false false (told (r .verdict))
+  pub keeps : Demands s false false (answerOf (r .verdict))

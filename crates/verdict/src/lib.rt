@@ -77,9 +77,9 @@ pub fn check(book: Book, proposal: Proposal) -> Judgement
     if fault.number != 0 {
         return refused(fault);
     }
-    let gap = cover::first_gap(positions);
-    if gap.number != 0 {
-        return refused(gap);
+    let pair = cover::first_uncovered(positions);
+    if pair.number != 0 {
+        return refused(pair);
     }
     let tally = walked.tally;
     if cover::priced_total(positions) != tally.saving {

@@ -7,7 +7,7 @@ use native.Mathlib.Omega.{arith}
 use lib.ListN.{length, getD, set, take, drop, List·getD-eq-default, drop-of-length-le}
 use lib.Seq.{sets, sets-eq, drop-cons, take-nil}
 use Rattle.lists.proofs.Tests.{by-end}
-use Rattle.words.specs.Words.{number, digits, wordAt, withWord}
+use Rattle.words.specs.Words.{number, littleEndian, wordAt, withWord}
 
 -- the number of k digits from place o on, digit by digit
 unfoldable pub digitsAt : ℕ → ℕ → List ℕ → ℕ
@@ -53,18 +53,18 @@ over-sets bytes o [] = refl
 over-sets bytes o (v ∷ vs) = rw add-one (over-sets (set bytes o v) (suc o) vs)
 
 -- no digit written
-pub over-none : (bytes : List ℕ) (o v : ℕ) → bytes ≡ over bytes o (digits 0 v)
-unfolding over digits
+pub over-none : (bytes : List ℕ) (o v : ℕ) → bytes ≡ over bytes o (littleEndian 0 v)
+unfolding over littleEndian
 over-none bytes o v = refl
 
 -- the lowest digit of a number written, and then those of the number above it
 pub over-more : (bytes next after : List ℕ) (k o v high : ℕ) → (high ≡ v / 256) × (next ≡ set bytes o (v % 256))
-    → after ≡ over next (o + 1) (digits k high) → after ≡ over bytes o (digits (suc k) v)
-unfolding over digits
+    → after ≡ over next (o + 1) (littleEndian k high) → after ≡ over bytes o (littleEndian (suc k) v)
+unfolding over littleEndian
 over-more bytes next after k o v high (e, w) l = l ∙ rw (e, w) refl
 
 -- the i-th number written digit by digit
 pub put-at : (bytes after : List ℕ) (i v : ℕ) → 8 * i + 8 ≤ length bytes
-    → after ≡ over bytes (8 * i) (digits 8 v) → after ≡ withWord bytes i v
-unfolding withWord digits
-put-at bytes after i v h e = e ∙ over-sets bytes (8 * i) (digits 8 v) ∙ sets-eq (digits 8 v) bytes (8 * i) h
+    → after ≡ over bytes (8 * i) (littleEndian 8 v) → after ≡ withWord bytes i v
+unfolding withWord littleEndian
+put-at bytes after i v h e = e ∙ over-sets bytes (8 * i) (littleEndian 8 v) ∙ sets-eq (littleEndian 8 v) bytes (8 * i) h

@@ -1,3 +1,3 @@
 pub mod Digits
-pub mod Laid
+pub mod Encoded
 pub mod ReadBack

@@ -9,28 +9,28 @@ use Rattle.lists.specs.Each.{Each}
 use Rattle.lists.specs.Tables.{listTo, front}
 use Rattle.lists.proofs.Entries.{each-at}
 use Rattle.lists.proofs.Tables.{length-to, getD-to}
-use Rattle.words.specs.Words.{number, digits, wordAt, withWord, entries, decode, encode}
-use Rattle.words.proofs.Laid.{length-digits, length-encode}
+use Rattle.words.specs.Words.{number, littleEndian, wordAt, withWord, entries, decode, encode}
+use Rattle.words.proofs.Encoded.{length-little-endian, length-encode}
 
 -- a number is that of its digits, where they are enough
-number-digits : (k v : ℕ) → v < 256 ^ k → number (digits k v) ≡ v
-unfolding number digits
-number-digits zero v h = omega arith
-number-digits (suc k) v h = omega (arith, number-digits k (v / 256) (omega arith))
+number-little-endian : (k v : ℕ) → v < 256 ^ k → number (littleEndian k v) ≡ v
+unfolding number littleEndian
+number-little-endian zero v h = omega arith
+number-little-endian (suc k) v h = omega (arith, number-little-endian k (v / 256) (omega arith))
 
 -- the i-th eight bytes are the digits of the i-th number
-eight-at : (xs rest : List ℕ) (i : ℕ) → i < length xs → take 8 (drop (8 * i) (encode xs ++ rest)) ≡ digits 8 (getD xs i 0)
+eight-at : (xs rest : List ℕ) (i : ℕ) → i < length xs → take 8 (drop (8 * i) (encode xs ++ rest)) ≡ littleEndian 8 (getD xs i 0)
 unfolding encode
 eight-at [] rest i h = absurd (omega arith)
-eight-at (x ∷ xs) rest zero h = rw append-assoc (take-at (digits 8 x) (encode xs ++ rest) 8 (length-digits 8 x))
+eight-at (x ∷ xs) rest zero h = rw append-assoc (take-at (littleEndian 8 x) (encode xs ++ rest) 8 (length-little-endian 8 x))
 eight-at (x ∷ xs) rest (suc i) h =
-    let next : 8 * suc i ≡ length (digits 8 x) + 8 * i = omega (arith, length-digits 8 x) in
-    rw (append-assoc, next, drop-append-add (digits 8 x) (encode xs ++ rest) (8 * i)) (eight-at xs rest i (omega arith))
+    let next : 8 * suc i ≡ length (littleEndian 8 x) + 8 * i = omega (arith, length-little-endian 8 x) in
+    rw (append-assoc, next, drop-append-add (littleEndian 8 x) (encode xs ++ rest) (8 * i)) (eight-at xs rest i (omega arith))
 
 -- a list laid at the front is read back number by number
 pub read-back : (xs old : List ℕ) → Each (λ x. x < 2 ^ 64) xs → (i : ℕ) → i < length xs → wordAt (front (encode xs) old) i ≡ getD xs i 0
 unfolding wordAt front
-read-back xs old e i h = rw (eight-at xs (drop (length (encode xs)) old) i h) (number-digits 8 (getD xs i 0) (each-at _ 0 xs e i h))
+read-back xs old e i h = rw (eight-at xs (drop (length (encode xs)) old) i h) (number-little-endian 8 (getD xs i 0) (each-at _ 0 xs e i h))
 
 -- and as a column
 pub decode-encode : (xs : List ℕ) → Each (λ x. x < 2 ^ 64) xs → decode (encode xs) ≡ xs
@@ -51,7 +51,7 @@ pub word-back : (bytes : List ℕ) (i v : ℕ) → 8 * i + 8 ≤ length bytes �
 unfolding wordAt withWord
 word-back bytes i v h l =
     let at : length (take (8 * i) bytes) ≡ 8 * i = length-take-le (8 * i) bytes (omega arith) in
-    rw (append-assoc, drop-at (take (8 * i) bytes) _ (8 * i) at, take-at (digits 8 v) _ 8 (length-digits 8 v)) (number-digits 8 v l)
+    rw (append-assoc, drop-at (take (8 * i) bytes) _ (8 * i) at, take-at (littleEndian 8 v) _ 8 (length-little-endian 8 v)) (number-little-endian 8 v l)
 
 -- a computed case: the first byte is the lowest digit
 pub first-lowest : wordAt (1 ∷ 2 ∷ 0 ∷ 0 ∷ 0 ∷ 0 ∷ 0 ∷ 0 ∷ []) 0 ≡ 513

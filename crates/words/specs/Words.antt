@@ -10,9 +10,9 @@ number [] = 0
 number (d ∷ ds) = d + 256 * number ds
 
 -- the k lowest digits of a number, lowest first
-unfoldable pub digits : ℕ → ℕ → List ℕ
-digits zero v = []
-digits (suc k) v = (v % 256) ∷ digits k (v / 256)
+unfoldable pub littleEndian : ℕ → ℕ → List ℕ
+littleEndian zero v = []
+littleEndian (suc k) v = (v % 256) ∷ littleEndian k (v / 256)
 
 -- the number in the i-th eight bytes
 unfoldable pub wordAt : List ℕ → ℕ → ℕ
@@ -20,7 +20,7 @@ wordAt bytes i = number (take 8 (drop (8 * i) bytes))
 
 -- the bytes with v in the i-th eight, all others kept
 unfoldable pub withWord : List ℕ → ℕ → ℕ → List ℕ
-withWord bytes i v = take (8 * i) bytes ++ digits 8 v ++ drop (8 * i + 8) bytes
+withWord bytes i v = take (8 * i) bytes ++ littleEndian 8 v ++ drop (8 * i + 8) bytes
 
 -- as many entries as there are whole eight bytes
 unfoldable pub entries : List ℕ → ℕ
@@ -33,4 +33,4 @@ decode bytes = listTo (entries bytes) (wordAt bytes)
 -- the bytes of a list of numbers
 unfoldable pub encode : List ℕ → List ℕ
 encode [] = []
-encode (x ∷ xs) = digits 8 x ++ encode xs
+encode (x ∷ xs) = littleEndian 8 x ++ encode xs

@@ -1,7 +1,7 @@
 -- `line_number` is the number of the column; the last is every other's. Assumes nothing.
 use native.Mathlib.Omega.{arith}
 use borrow.Author.Needs.{needs}
-use Rattle.columns.proofs.Laid.{line-last}
+use Rattle.columns.proofs.Encoded.{line-last}
 use Rattle.columns.proofs.line_number.Statement.{statement}
 use Rattle.columns.proofs.line_number.Tie as tie
 

@@ -1,7 +1,7 @@
 -- `row_number` is the number of the column; the last is every other's. Assumes nothing.
 use native.Mathlib.Omega.{arith}
 use borrow.Author.Needs.{needs}
-use Rattle.columns.proofs.Laid.{row-last}
+use Rattle.columns.proofs.Encoded.{row-last}
 use Rattle.columns.proofs.row_number.Statement.{statement}
 use Rattle.columns.proofs.row_number.Tie as tie
 

@@ -9,9 +9,9 @@ use Rattle.host.proofs.margin_check.Tie as tie
 returns : tie.Need-returns
 unfolding sizesOf
 returns c =
-    let told = c .before .before in
-    let tested = told .before .before in
-    refused-checks _ _ _ _ _ (tested .before .lengths .ensures) (tested .if1 .taken) (told .tell .ensures)
+    let answered = c .before .before in
+    let tested = answered .before .before in
+    refused-checks _ _ _ _ _ (tested .before .lengths .ensures) (tested .if1 .taken) (answered .put-answer .ensures)
 
 book-of-requires : tie.Need-book-of-requires
 book-of-requires c κs =

@@ -11,30 +11,30 @@ use Rattle.host.proofs.margin_read.Tie as tie
 abbrev tested : tie.After-too-short → tie.Else1
 tested c = c .before .before .before
 
-abbrev drafted : tie.After-too-short → tie.After-read
-drafted c = tested c .before
+abbrev read-file : tie.After-too-short → tie.After-read
+read-file c = tested c .before
 
 returns : tie.Need-returns
 returns c =
-    let told = c .before .before in
-    let refused = told .before .before in
-    record-refused _ _ _ _ (refused .before .read .ensures) _ _ (refused .if1 .taken) (told .tell .ensures)
+    let answered = c .before .before in
+    let refused = answered .before .before in
+    record-refused _ _ _ _ (refused .before .read .ensures) _ _ (refused .if1 .taken) (answered .put-answer .ensures)
 
 returns-2 : tie.Need-returns-2
 unfolding roomOf
 returns-2 c =
-    let told = c .before .before in
-    let short = told .before .before in
+    let answered = c .before .before in
+    let short = answered .before .before in
     let asked = short .before in
-    list-refused _ _ _ _ (drafted asked .read .ensures) (tested asked .if1 .left) (asked .too-short .ensures) _ _ (short .if2 .taken) (told .tell2 .ensures)
+    list-refused _ _ _ _ (read-file asked .read .ensures) (tested asked .if1 .left) (asked .too-short .ensures) _ _ (short .if2 .taken) (answered .put-answer2 .ensures)
 
-lay-book-requires : tie.Need-lay-book-requires
-lay-book-requires c κs =
+write-book-requires : tie.Need-write-book-requires
+write-book-requires c κs =
     let fits = c .before .before .before .before .before .before in
     let asked = fits .before in
     let room = holds-exactly _ _ _ .0 (sym (asked .too-short .ensures) ∙ fits .if2 .left) in
     record {
-      few = drafted asked .read .ensures .few-holdings;
+      few = read-file asked .read .ensures .few-holdings;
       room-side = entries (room .side);
       room-kind = entries (room .kind);
       room-issuer = entries (room .issuer);
@@ -43,14 +43,14 @@ lay-book-requires c κs =
       room-price = entries (room .price);
     }
 
-lay-proposal-requires : tie.Need-lay-proposal-requires
-lay-proposal-requires c κs =
+write-proposal-requires : tie.Need-write-proposal-requires
+write-proposal-requires c κs =
     let fits =
     c .before .before .before .before .before .before .before .before .before .before .before .before .before .before .before .before .before .before .before .before .before .before in
     let asked = fits .before in
     let room = holds-exactly _ _ _ .0 (sym (asked .too-short .ensures) ∙ fits .if2 .left) in
     record {
-      few = drafted asked .read .ensures .few-lines;
+      few = read-file asked .read .ensures .few-lines;
       room-long = entries (room .long);
       room-short = entries (room .short);
       room-amount = entries (room .amount);
@@ -59,13 +59,13 @@ lay-proposal-requires c κs =
 returns-3 : tie.Need-returns-3
 unfolding roomOf
 returns-3 c =
-    let told = c .before .before in
-    let lined = told .before .before .before .before .before .before .before .before in
+    let answered = c .before .before in
+    let lined = answered .before .before .before .before .before .before .before .before in
     let booked = lined .before .before .before .before .before .before .before .before .before .before .before .before .before .before .before .before in
     let fits = booked .before .before .before .before .before .before .before in
     let asked = fits .before in
-    all-read _ _ _ _ (drafted asked .read .ensures) (tested asked .if1 .left) (asked .too-short .ensures) _ _ _ _ (fits .if2 .left) (booked .lay-book .ensures) (lined .lay-proposal .ensures)
-    (told .tell3 .ensures)
+    all-read _ _ _ _ (read-file asked .read .ensures) (tested asked .if1 .left) (asked .too-short .ensures) _ _ _ _ (fits .if2 .left) (booked .write-book .ensures) (lined .write-proposal .ensures)
+    (answered .put-answer3 .ensures)
 
 pub margin-read-spec : {M : Type 1} → statement M
 margin-read-spec =
@@ -79,8 +79,8 @@ margin-read-spec =
     (λ c κs. search needs)
     (λ c. search needs)
     returns-2
-    lay-book-requires
-    lay-proposal-requires
+    write-book-requires
+    write-proposal-requires
     (λ c κs. search needs)
     (λ c. search needs)
     (λ c. search needs)

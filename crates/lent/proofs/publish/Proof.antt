@@ -6,33 +6,33 @@ use Rattle.lent.proofs.Published.{published}
 use Rattle.lent.proofs.publish.Statement.{statement}
 use Rattle.lent.proofs.publish.Tie as tie
 
-lay-requires : tie.Need-lay-requires
-lay-requires c κs =
+write-words-requires : tie.Need-write-words-requires
+write-words-requires c κs =
     let start = c .before .before .before .before .before .before .before in
     let long : length (start .args .judgement .remainders) ≡ 256 = search needs in
     (search needs, search needs)
 
-lay-requires-2 : tie.Need-lay-requires-2
-lay-requires-2 c κs =
+write-words-requires-2 : tie.Need-write-words-requires-2
+write-words-requires-2 c κs =
     let start = c .before .before .before .before .before .before .before .before .before .before .before .before .before in
     let long : length (start .args .judgement .ranking) ≡ 256 = search needs in
     (search needs, search needs)
 
 returns : tie.Need-returns
 returns c =
-    let told = c .before .before in
-    let verdict = told .before .before .before in
+    let answered = c .before .before in
+    let verdict = answered .before .before .before in
     let ranked = verdict .before .before .before .before in
     let left = ranked .before .before .before .before .before .before in
-    published _ _ _ _ _ _ _ _ _ _ _ (verdict .verdict .given .1) (left .before .before .before .before .count-written .ensures .0) (left .lay .ensures) (ranked .lay2 .ensures) (told .tell .ensures)
+    published _ _ _ _ _ _ _ _ _ _ _ (verdict .verdict .given .1) (left .before .before .before .before .count-written .ensures .0) (left .write-words .ensures) (ranked .write-words2 .ensures) (answered .put-answer .ensures)
 
 returns-2 : tie.Need-returns-2
 returns-2 c =
-    let told = c .before .before in
-    let verdict = told .before .before .before in
+    let answered = c .before .before in
+    let verdict = answered .before .before .before in
     let ranked = verdict .before .before .before .before in
     let left = ranked .before .before .before .before .before .before in
-    published _ _ _ _ _ _ _ _ _ _ _ (verdict .verdict2 .given .1) (left .before .before .before .before .count-written .ensures .0) (left .lay .ensures) (ranked .lay2 .ensures) (told .tell2 .ensures)
+    published _ _ _ _ _ _ _ _ _ _ _ (verdict .verdict2 .given .1) (left .before .before .before .before .count-written .ensures .0) (left .write-words .ensures) (ranked .write-words2 .ensures) (answered .put-answer2 .ensures)
 
 pub publish-spec : {M : Type 1} → statement M
 publish-spec =
@@ -40,9 +40,9 @@ publish-spec =
     (tie.spec
     (λ c κs. search needs)
     (λ c. search needs)
-    lay-requires
+    write-words-requires
     (λ c. search needs)
-    lay-requires-2
+    write-words-requires-2
     (λ c. search needs)
     (λ c κs. search needs)
     (λ c. search needs)

@@ -4,7 +4,7 @@ use native.Mathlib.Omega.{arith}
 use borrow.Author.Needs.{needs}
 use borrow.Fn.Kinds.{In}
 use borrow.Fn.PlainCycle.{Measures, is, falls, and}
-use Rattle.numerals.proofs.Written.{room-last, room-fewer, room-behind, put-more}
+use Rattle.numerals.proofs.Written.{room-last, room-fewer, room-after, put-more}
 use Rattle.numerals.proofs.put_digits.Reads as contract
 use Rattle.numerals.proofs.put_digits.Kinds as kinds
 use Rattle.numerals.proofs.put_digit.Reads as digit
@@ -31,6 +31,6 @@ pub +put-digits-spec : {M : Type 1} → statement M
     (λ c. search needs)
     (λ c. search needs)
     (λ c κs. (omega arith, room-fewer (c .before .before .before .args .x) _ _ _ (omega arith) (c .before .before .before .pre .1)))
-    (λ c κs. let s = c .before .before .before .before .before .before .before in (search needs, omega (arith, room-behind (s .args .x) (s .args .at) _ (search needs) (s .pre .1), c .before .before .before .put-digits .ensures .behind)))
+    (λ c κs. let s = c .before .before .before .before .before .before .before in (search needs, omega (arith, room-after (s .args .x) (s .args .at) _ (search needs) (s .pre .1), c .before .before .before .put-digits .ensures .ends)))
     (λ c. search needs)
     (λ c. put-more _ _ _ _ _ _ _ (search needs) (search needs) (c .before .before .before .before .before .before .put-digits .ensures) (c .before .before .put-digit2 .ensures)))

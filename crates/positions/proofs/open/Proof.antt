@@ -70,7 +70,7 @@ returns-2 c =
     opens-refused (turn .before .loop .inv) (turn .loop-test .taken) (λ z. omega arith) (price-first _ _ none (omega arith)) (c .refused2 .ensures)
 
 leg-of-requires : tie.Need-leg-of-requires Inv-loop μ-loop
-leg-of-requires c κs = made-row (c .before .before .before .before .holding-of .ensures) (c .before .before .built2 .given .1) .0
+leg-of-requires c κs = search needs
 
 mul-legs : tie.Need-mul-legs Inv-loop μ-loop
 mul-legs c = search needs

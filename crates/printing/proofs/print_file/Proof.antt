@@ -6,16 +6,16 @@ use Rattle.printing.proofs.print_file.Tie as tie
 
 returns : tie.Need-returns
 returns c =
-    let told = c .before .before in
-    let refused = told .before .before in
-    refused-printed _ (refused .before .read .ensures) (refused .if1 .taken) (told .refusal .ensures)
+    let answered = c .before .before in
+    let refused = answered .before .before in
+    refused-printed _ (refused .before .read .ensures) (refused .if1 .taken) (answered .refusal .ensures)
 
 returns-2 : tie.Need-returns-2
 returns-2 c =
-    let told = c .before .before in
-    let judged = told .before .before in
+    let answered = c .before .before in
+    let judged = answered .before .before in
     let none = judged .before .before .before in
-    judged-printed _ (none .before .read .ensures) _ (none .if1 .left) (judged .check .ensures) (told .report .ensures)
+    judged-printed _ (none .before .read .ensures) _ (none .if1 .left) (judged .check .ensures) (answered .report .ensures)
 
 pub print-file-spec : {M : Type 1} → statement M
 print-file-spec =

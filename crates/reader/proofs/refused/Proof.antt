@@ -1,6 +1,6 @@
 -- `refused` is the refusal with an empty book and an empty proposal. Assumes nothing.
 use borrow.Author.Needs.{needs}
-use Rattle.reader.specs.Drafts.{refusedAt}
+use Rattle.reader.specs.ReadsFile.{refusedAt}
 use Rattle.reader.proofs.refused.Statement.{statement}
 use Rattle.reader.proofs.refused.Tie as tie
 

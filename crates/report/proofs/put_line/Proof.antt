@@ -5,7 +5,7 @@ use Prim.Native.Nat.{_+_, _-_, _*_, _≤_}
 use lib.ListN.{length, take}
 use borrow.Author.Needs.{needs}
 use Rattle.report.specs.Written.{Written}
-use Rattle.report.specs.Report.{behindComma}
+use Rattle.report.specs.Report.{afterComma}
 use Rattle.report.proofs.Written.{written-none, written-more}
 use Rattle.report.proofs.Lines.{line-written}
 use Rattle.report.proofs.put_line.Statement.{statement}
@@ -13,7 +13,7 @@ use Rattle.report.proofs.put_line.Tie as tie
 
 abbrev Inv-loop : tie.InvT-loop
 Inv-loop letter count at out₀ numbers next₀ i₀ out next i =
-    (i ≤ count) × (length out ≡ length out₀) × (next ≤ next₀ + 21 * i) × Written (flatMap behindComma (take i numbers)) next₀ next out₀ out
+    (i ≤ count) × (length out ≡ length out₀) × (next ≤ next₀ + 21 * i) × Written (flatMap afterComma (take i numbers)) next₀ next out₀ out
 
 abbrev μ-loop : tie.MeasureT-loop
 μ-loop letter count at out₀ numbers next₀ i₀ out next i = count - i
@@ -36,7 +36,7 @@ loop-again c =
       search needs,
       search needs,
       search needs,
-      written-more behindComma (start at .args .t2) (at .loop .i) (search needs) (search needs) (at .loop .inv .3) (put .put-number .ensures .0),
+      written-more afterComma (start at .args .t2) (at .loop .i) (search needs) (search needs) (at .loop .inv .3) (put .put-number .ensures .0),
     )
 
 returns : tie.Need-returns Inv-loop μ-loop

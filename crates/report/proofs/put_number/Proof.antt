@@ -9,7 +9,7 @@ use Rattle.report.proofs.put_number.Tie as tie
 put-digits-requires : tie.Need-put-digits-requires
 put-digits-requires c κs =
     let comma = c .before .before .before in
-    omega (arith, comma .put-byte .ensures .behind, digits-word (comma .before .before .before .args .x) (search needs))
+    omega (arith, comma .put-byte .ensures .ends, digits-word (comma .before .before .before .args .x) (search needs))
 
 returns : tie.Need-returns
 returns c =

@@ -6,8 +6,8 @@ use Rattle.report.proofs.report.Statement.{statement}
 use Rattle.report.proofs.report.Tie as tie
 
 -- from where the M line was written back to where the verdict was told
-abbrev told : tie.After-put-line2 → tie.After-numbers-of
-told c = c .before .before .before
+abbrev numbered : tie.After-put-line2 → tie.After-numbers-of
+numbered c = c .before .before .before
 
 returns : tie.Need-returns
 returns c = no-room _ _ (search needs)
@@ -16,15 +16,15 @@ returns-2 : tie.Need-returns-2
 returns-2 c =
     let put = c .before .before in
     let refused = put .before .before in
-    let told = refused .before in
-    printed (told .before .if1 .left) (refused-written _ _ (told .numbers-of .ensures) (refused .if2 .taken) (put .put-line .ensures .0))
+    let numbered = refused .before in
+    printed (numbered .before .if1 .left) (refused-written _ _ (numbered .numbers-of .ensures) (refused .if2 .taken) (put .put-line .ensures .0))
 
 returns-3 : tie.Need-returns-3
 returns-3 c =
     let put = c .before .before in
     let margin = put .before .before .before .before in
-    printed (told margin .before .if1 .left)
-    (accepted-written _ _ (told margin .numbers-of .ensures) (margin .before .before .if2 .left) (margin .put-line2 .ensures .0) (put .put-remainders .ensures))
+    printed (numbered margin .before .if1 .left)
+    (accepted-written _ _ (numbered margin .numbers-of .ensures) (margin .before .before .if2 .left) (margin .put-line2 .ensures .0) (put .put-remainders .ensures))
 
 pub report-spec : {M : Type 1} → statement M
 report-spec =

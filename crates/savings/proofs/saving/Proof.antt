@@ -7,7 +7,7 @@ use native.Mathlib.Omega.{arith}
 use lib.Dec.{eqb}
 use borrow.Author.Tests.{eq-eqb, ne-eqb}
 use Rattle.savings.proofs.RuleSavings.{saving-permitted}
-use Rattle.article.specs.Pair.{allowed, isLong, isShort, ruleOf, pairRate, savingRate}
+use Rattle.article.specs.Pair.{allowed, isLong, isShort, ruleOf, pairRateOf, savingRateOf}
 use Rattle.savings.specs.Savings.{ruleSaving, savingOf}
 use Rattle.article.specs.declared.pair.Rule.{Rule}
 use Rattle.article.specs.declared.pair.Leg.{Leg}
@@ -37,7 +37,7 @@ module _ (l s : Leg) where
       -- of one period, and what their rule was found to be and to save
       a-saving : eqb (l .period) (s .period) ≡ true → (rule : Rule) → rule ≡ ruleOf l s → (saving : ℕ) → saving ≡ ruleSaving rule (l .rate) (s .rate)
           → saving ≡ savingOf l s
-      unfolding savingOf savingRate pairRate ruleSaving allowed isLong isShort
+      unfolding savingOf savingRateOf pairRateOf ruleSaving allowed isLong isShort
       a-saving period rule found saving e = rw (e, found, eq-eqb _ _ long, short, period) (saving-permitted (ruleOf l s) (l .rate) (s .rate))
 
 rule-of-requires : tie.Need-rule-of-requires

@@ -1,6 +1,6 @@
 -- `check` judges a book and a proposal: each phase's promise, handed to the laws of the phases. Assumes nothing.
 use borrow.Author.Needs.{needs}
-use Rattle.verdict.proofs.Checked.{Held, Tallied, Covered, holdings-refused, lines-refused, book-refused, book-held, line-refused, lines-tallied, gap-refused, pairs-covered, totals-refused, all-judged}
+use Rattle.verdict.proofs.Checked.{Held, Tallied, Covered, holdings-refused, lines-refused, book-refused, book-held, line-refused, lines-tallied, uncovered-refused, pairs-covered, totals-refused, all-judged}
 use Rattle.verdict.proofs.check.Statement.{statement}
 use Rattle.verdict.proofs.check.Tie as tie
 
@@ -14,10 +14,10 @@ start c = sizes c .before .before .before .before
 abbrev opened : tie.After-take-lines → tie.After-open
 opened c = c .before .before .before .before .before
 
-abbrev walked : tie.After-first-gap → tie.After-take-lines
+abbrev walked : tie.After-first-uncovered → tie.After-take-lines
 walked c = c .before .before .before .before
 
-abbrev looked : tie.After-priced-total → tie.After-first-gap
+abbrev looked : tie.After-priced-total → tie.After-first-uncovered
 looked c = c .before .before .before .before
 
 -- the positions that the lines are walked with, the tally that the pairs are looked at with, and the cover that the totals are compared with
@@ -26,14 +26,14 @@ held c =
     let o = opened c in
     book-held _ _ (sizes o .before .before .if1 .left) (sizes o .if2 .left) (o .«open» .ensures) (c .before .before .if3 .left)
 
-tallied : (c : tie.After-first-gap)
+tallied : (c : tie.After-first-uncovered)
     → Tallied (start (opened (walked c)) .args .book) (start (opened (walked c)) .args .proposal) (opened (walked c) .«open» .result .positions) (walked c .take-lines .result .tally)
 tallied c = lines-tallied _ _ (held (walked c)) (walked c .take-lines .ensures) (c .before .if4 .left)
 
 covered : (c : tie.After-priced-total)
     → Covered (start (opened (walked (looked c))) .args .book) (start (opened (walked (looked c))) .args .proposal) (opened (walked (looked c)) .«open» .result .positions)
     (walked (looked c) .take-lines .result .tally)
-covered c = pairs-covered _ _ (tallied (looked c)) _ (looked c .first-gap .ensures) (c .before .before .if5 .left)
+covered c = pairs-covered _ _ (tallied (looked c)) _ (looked c .first-uncovered .ensures) (c .before .before .if5 .left)
 
 refused-whole-requires : tie.Need-refused-whole-requires
 refused-whole-requires c κs = search needs
@@ -69,8 +69,8 @@ returns-4 c =
     let walked = c .before .before .before .before in
     line-refused _ _ (held walked) (walked .take-lines .ensures) (c .before .if4 .taken) (c .refused2 .ensures)
 
-first-gap-requires : tie.Need-first-gap-requires
-first-gap-requires c κs = search needs
+first-uncovered-requires : tie.Need-first-uncovered-requires
+first-uncovered-requires c κs = search needs
 
 refused-requires-3 : tie.Need-refused-requires-3
 refused-requires-3 c κs = search needs
@@ -78,7 +78,7 @@ refused-requires-3 c κs = search needs
 returns-5 : tie.Need-returns-5
 returns-5 c =
     let looked = c .before .before .before in
-    gap-refused _ _ (tallied looked) _ (looked .first-gap .ensures) (c .before .if5 .taken) (c .refused3 .ensures)
+    uncovered-refused _ _ (tallied looked) _ (looked .first-uncovered .ensures) (c .before .if5 .taken) (c .refused3 .ensures)
 
 priced-total-requires : tie.Need-priced-total-requires
 priced-total-requires c κs = search needs
@@ -113,7 +113,7 @@ check-spec =
     take-lines-requires
     refused-requires-2
     returns-4
-    first-gap-requires
+    first-uncovered-requires
     refused-requires-3
     returns-5
     priced-total-requires

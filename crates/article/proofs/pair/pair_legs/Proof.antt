@@ -6,7 +6,7 @@ use native.Mathlib.Omega.{arith}
 use borrow.Author.Tests.{not-true, not-false, eq-eqb}
 use Rattle.lists.proofs.Tests.{arms}
 use Rattle.article.proofs.PairRates.{permitted-high, saving-high}
-use Rattle.article.specs.Pair.{allowed, isLong, isShort, ruleOf, permits, ruleRate, pairRate, savingRate, told, pairOf, RateInRange, Pairs}
+use Rattle.article.specs.Pair.{allowed, isLong, isShort, ruleOf, permits, ruleRate, pairRateOf, savingRateOf, pairAnswer, pairOf, RateInRange, Pairs}
 use Rattle.article.specs.declared.pair.Rule.{Rule}
 use Rattle.article.specs.declared.pair.Leg.{Leg}
 use Rattle.article.specs.declared.pair.Pair.the-variants.{Allowed, NotAllowed}
@@ -16,7 +16,7 @@ use Rattle.article.proofs.pair.pair_legs.Tie as tie
 
 module _ (l s : Leg) where
   no-pair : allowed l s ≡ false → Pairs l s NotAllowed
-  unfolding told pairOf
+  unfolding pairAnswer pairOf
   no-pair e = record { answered = rw e; rate-high = omega arith; saving-high = omega arith }
 
   -- a long and a short of one period, and what their rule was found to be and to permit
@@ -26,7 +26,7 @@ module _ (l s : Leg) where
     decided = rw (eq-eqb _ _ long, eq-eqb _ _ short, eq-eqb _ _ period, asked, found)
 
     a-pair : (rate : ℕ) → ok ≡ true → RateInRange l → RateInRange s → rate ≡ ruleRate rule (l .rate) (s .rate) → Pairs l s (Allowed rate (l .rate + s .rate - rate))
-    unfolding told pairOf pairRate savingRate
+    unfolding pairAnswer pairOf pairRateOf savingRateOf
     a-pair rate e f g r = rw (r, found) (record {
       answered = rw (decided ∙ e);
       rate-high = permitted-high (ruleOf l s) (l .rate) (s .rate) (ap permits (sym found) ∙ sym asked ∙ e) f g;

@@ -4,7 +4,7 @@ use mathlib.Core.Path.{_≡_}
 use native.Mathlib.Nat.{le-trans}
 use native.Mathlib.Omega.{arith}
 use lib.ListN.{length}
-use Rattle.article.proofs.Told.{Told, told-refused, told-allowed}
+use Rattle.article.proofs.Answered.{Answered, answered-refused, answered-allowed}
 use Rattle.tally.proofs.AfterLine.{High, high}
 use Rattle.tally.proofs.OneLine.{not-long, not-short, not-allowed, no-amount, above-long, above-short, accepted}
 use borrow.Author.Needs.{needs}
@@ -24,8 +24,8 @@ a-long c = c .before .before .if1 .left
 abbrev sides : tie.After-pair → tie.Else2
 sides c = c .before .before .before
 
-rates : (c : tie.After-pair) → Told (entry (sides c) .args .long) (entry (sides c) .args .short) (c .pair .given .0 .0) (c .pair .given .0 .1 .0)
-rates c = told-allowed (c .before .before .pair-legs .ensures) (c .pair .given .1)
+rates : (c : tie.After-pair) → Answered (entry (sides c) .args .long) (entry (sides c) .args .short) (c .pair .given .0 .0) (c .pair .given .0 .1 .0)
+rates c = answered-allowed (c .before .before .pair-legs .ensures) (c .pair .given .1)
 
 -- where the unpaired values of both legs are read
 abbrev allowed : tie.After-short-left → tie.After-pair
@@ -37,8 +37,8 @@ paired c = allowed (c .before .before .before)
 
 adds : (c : tie.Else5) → High (entry (sides (paired c)) .args .line) (paired c .pair .given .0 .0) (paired c .pair .given .0 .1 .0)
 adds c =
-    let told = rates (paired c) in
-    high (le-trans (c .before .if4 .left) (entry (sides (paired c)) .pre .left _)) (told .rate-high) (told .saving-high)
+    let answered = rates (paired c) in
+    high (le-trans (c .before .if4 .left) (entry (sides (paired c)) .pre .left _)) (answered .rate-high) (answered .saving-high)
 
 kept-requires : tie.Need-kept-requires
 kept-requires c κs = search needs
@@ -64,7 +64,7 @@ kept-requires-3 c κs = search needs
 returns-3 : tie.Need-returns-3
 returns-3 c =
     let asked = c .before .before .before in
-    not-allowed (a-long (asked .before)) (asked .before .if2 .left) (told-refused (asked .pair-legs .ensures) (c .before .enum-told .given .1))
+    not-allowed (a-long (asked .before)) (asked .before .if2 .left) (answered-refused (asked .pair-legs .ensures) (c .before .enum-told .given .1))
     (c .kept3 .ensures)
 
 enum-known-pair : tie.Need-enum-known-pair

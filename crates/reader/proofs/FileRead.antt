@@ -21,52 +21,52 @@ use Rattle.codes.specs.declared.Place.{Place}
 use Rattle.codes.specs.declared.Place.the-variants.{At, Nowhere}
 use Rattle.csv.specs.Reading.{Read, formed, broken, recordsOf}
 use Rattle.csv.proofs.Places.{records-end}
-use Rattle.layout.specs.Layout.{letters, sortsBy, Values, values, wrong, valuesOf, saidIf, behind, saidOf, says}
-use Rattle.layout.specs.declared.Said.{Said}
-use Rattle.layout.specs.declared.Said.the-variants.{Holding, Line as Lined, Refused}
-use Rattle.reader.specs.File.{saidIn, rowsSaid, pricesSaid, linesSaid, submissionOf, atRecord, fileFaults, fileFault}
-use Rattle.reader.specs.Drafts.{refusedAt, Drafts}
-use Rattle.reader.specs.declared.Draft.{Draft}
+use Rattle.layout.specs.Layout.{letters, sortsBy, Values, values, wrong, valuesOf, parsedIf, afterLetter, parsedOf, parse}
+use Rattle.layout.specs.declared.Parsed.{Parsed}
+use Rattle.layout.specs.declared.Parsed.the-variants.{Holding, Line as Lined, Refused}
+use Rattle.reader.specs.File.{parsedIn, parsedRows, parsedPrices, parsedLines, submissionOf, atRecord, fileFaults, fileFault}
+use Rattle.reader.specs.ReadsFile.{refusedAt, ReadsFile}
+use Rattle.reader.specs.declared.Contents.{Contents}
 use Rattle.reader.proofs.Turns.{Reading}
 
 -- a refusal of a record is 19, 20 or 21
-numberOf : Said → ℕ
+numberOf : Parsed → ℕ
 numberOf (Holding row price) = 19
 numberOf (Lined line) = 19
 numberOf (Refused number) = number
 
-values-number : (k : ℕ) (vs : Values) → 19 ≤ numberOf (saidIf k vs)
+values-number : (k : ℕ) (vs : Values) → 19 ≤ numberOf (parsedIf k vs)
 unfolding numberOf
 values-number zero (values vs) = omega arith
 values-number (suc k) (values vs) = omega arith
 values-number k wrong = omega arith
 
-behind-number : (p : Place) (texts : List (List ℕ)) → 19 ≤ numberOf (behind p texts)
+after-number : (p : Place) (texts : List (List ℕ)) → 19 ≤ numberOf (afterLetter p texts)
 unfolding numberOf
-behind-number (At k) texts = values-number k (valuesOf (sortsBy k) texts)
-behind-number Nowhere texts = omega arith
+after-number (At k) texts = values-number k (valuesOf (sortsBy k) texts)
+after-number Nowhere texts = omega arith
 
-said-number : (texts : List (List ℕ)) → 19 ≤ numberOf (saidOf texts)
-unfolding saidOf numberOf
-said-number [] = omega arith
-said-number (letter ∷ texts) = behind-number (placeOf letter letters) texts
+parsed-number : (texts : List (List ℕ)) → 19 ≤ numberOf (parsedOf texts)
+unfolding parsedOf numberOf
+parsed-number [] = omega arith
+parsed-number (letter ∷ texts) = after-number (placeOf letter letters) texts
 
-says-number : (r : Read) → 19 ≤ numberOf (says r)
-unfolding says numberOf
-says-number broken = omega arith
-says-number (formed texts) = by (eqb (length texts) 7)
+parse-number : (r : Read) → 19 ≤ numberOf (parse r)
+unfolding parse numberOf
+parse-number broken = omega arith
+parse-number (formed texts) = by (eqb (length texts) 7)
   where
-    by : (seven : Bool) → 19 ≤ numberOf (cond seven (saidOf texts) (Refused 20))
-    by true = said-number texts
+    by : (seven : Bool) → 19 ≤ numberOf (cond seven (parsedOf texts) (Refused 20))
+    by true = parsed-number texts
     by false = omega arith
 
-pub refused-number : (r : Read) (number : ℕ) {said : Said} → said ≡ says r → said ≡ Refused number → number ≡ 0 → ⊥
+pub refused-number : (r : Read) (number : ℕ) {parsed : Parsed} → parsed ≡ parse r → parsed ≡ Refused number → number ≡ 0 → ⊥
 unfolding numberOf
-refused-number r number e s z = omega (arith, says-number r, ap numberOf (sym e ∙ s))
+refused-number r number e s z = omega (arith, parse-number r, ap numberOf (sym e ∙ s))
 
 -- before the first record
 pub reading-none : (text : List ℕ) → Reading text (replicate 256 noRow) (zeros 256) (replicate 512 noLine) 0 0 0 0
-unfolding saidIn recordsOf rowsSaid pricesSaid linesSaid listTo zeros
+unfolding parsedIn recordsOf parsedRows parsedPrices parsedLines listTo zeros
 reading-none text = record {
   few = omega arith;
   rest = refl;
@@ -82,9 +82,9 @@ reading-none text = record {
 }
 
 -- a refusal
-pub draft-refused : (text : List ℕ) {number place : ℕ} {d : Draft} → fileFault text ≡ answer number place 0 → (number ≡ 0 → ⊥) → d ≡ refusedAt number place → Drafts text d
+pub contents-refused : (text : List ℕ) {number place : ℕ} {d : Contents} → fileFault text ≡ answer number place 0 → (number ≡ 0 → ⊥) → d ≡ refusedAt number place → ReadsFile text d
 unfolding refusedAt submitted rowsOf pricesOf linesOf listTo
-draft-refused text {number} f other e = rw e (record {
+contents-refused text {number} f other e = rw e (record {
   fault = sym f;
   submits = rw (ne-eqb number 0 other);
   few-holdings = omega arith;
@@ -98,23 +98,23 @@ too-long text h = rw (lt-ltb 65536 (length text) h)
 -- all records are read
 module _ {text : List ℕ} {rows : List Row} {prices : List ℕ} {lines : List Line} {holdings pairs n i : ℕ} (r : Reading text rows prices lines holdings pairs n i)
     (end : length text ≤ i) where
-  none-left : length (saidIn text) ≤ n
+  none-left : length (parsedIn text) ≤ n
   none-left =
-      let none : drop n (saidIn text) ≡ [] = sym (r .rest) ∙ rw (records-end text i end) in
-      by (saidIn text) n none
+      let none : drop n (parsedIn text) ≡ [] = sym (r .rest) ∙ rw (records-end text i end) in
+      by (parsedIn text) n none
     where
-      by : (said : List Said) (m : ℕ) → drop m said ≡ [] → length said ≤ m
+      by : (parsed : List Parsed) (m : ℕ) → drop m parsed ≡ [] → length parsed ≤ m
       by [] m e = omega arith
-      by (x ∷ said) zero e = absurd (omega (arith, ap (λ (l : List Said). length l) e))
-      by (x ∷ said) (suc m) e = omega (arith, by said m e)
+      by (x ∷ parsed) zero e = absurd (omega (arith, ap (λ (l : List Parsed). length l) e))
+      by (x ∷ parsed) (suc m) e = omega (arith, by parsed m e)
 
-  pub draft-read : length text ≤ 65536
-      → Drafts text (record { number = 0; place = 0; book = record { rows = rows; count = holdings }; proposal = record { prices = prices; lines = lines; count = pairs } })
+  pub contents-read : length text ≤ 65536
+      → ReadsFile text (record { number = 0; place = 0; book = record { rows = rows; count = holdings }; proposal = record { prices = prices; lines = lines; count = pairs } })
   unfolding fileFault fileFaults firstOf submitted rowsOf pricesOf linesOf submissionOf
-  draft-read short =
-      let all : take n (saidIn text) ≡ saidIn text = take-all n (saidIn text) none-left in
+  contents-read short =
+      let all : take n (parsedIn text) ≡ parsedIn text = take-all n (parsedIn text) none-left in
       record {
-        fault = rw (le-ltb 65536 (length text) short) (sym (first-of-none (inTurn (length (saidIn text)) (atRecord (saidIn text))) (answer 0 0 0) (passed-all (r .passed) none-left)));
+        fault = rw (le-ltb 65536 (length text) short) (sym (first-of-none (inTurn (length (parsedIn text)) (atRecord (parsedIn text))) (answer 0 0 0) (passed-all (r .passed) none-left)));
         submits = rw (r .same-rows, r .same-prices, r .same-lines, all);
         few-holdings = r .few-holdings;
         few-lines = r .few-pairs;

@@ -4,14 +4,14 @@ use mathlib.Core.Logic.{⊎-elim}
 use Prim.Native.Nat.{_-_}
 use native.Mathlib.Omega.{arith}
 use borrow.Author.Tests.{eqb-false}
-use Rattle.proposal.specs.Outcome.{answerOf, atPair, atLong}
+use Rattle.proposal.specs.Outcome.{faultAnswer, atPair, atLong}
 use Rattle.positions.specs.Positions.{heldBook}
 use Rattle.lists.proofs.Passed.{Passed, passed-none, passed-more}
-use Rattle.cover.proofs.Gaps.{covered-none, gap-holds, first-gap, long-passed, not-long, no-gap}
+use Rattle.cover.proofs.Uncovered.{covered-none, uncovered-holds, first-uncovered, long-passed, not-long, all-covered}
 use Rattle.cover.proofs.RepeatsCovered.{short-repeated, long-repeated}
 use borrow.Author.Needs.{needs}
-use Rattle.cover.proofs.first_gap.Statement.{statement}
-use Rattle.cover.proofs.first_gap.Tie as tie
+use Rattle.cover.proofs.first_uncovered.Statement.{statement}
+use Rattle.cover.proofs.first_uncovered.Tie as tie
 
 -- of long i the shorts before j are passed
 abbrev Inv-loop2 : tie.InvT-loop2
@@ -86,12 +86,12 @@ saving-requires c κs =
     (bounds .rate _, bounds .rate _)
 
 returns : tie.Need-returns Inv-loop2 μ-loop2 Inv-loop μ-loop
-unfolding answerOf
+unfolding faultAnswer
 returns c =
     let short = c .before .before .before .before .before in
     let long = short .before .before .before .before .before .before .before in
-    first-gap _ (long .before .loop .inv) (long .loop-test .taken) (short .before .loop2 .inv) (short .loop2-test .taken)
-    (gap-holds _ _ _ (c .before .saving .ensures .0) (c .if4 .taken))
+    first-uncovered _ (long .before .loop .inv) (long .loop-test .taken) (short .before .loop2 .inv) (short .loop2-test .taken)
+    (uncovered-holds _ _ _ (c .before .saving .ensures .0) (c .if4 .taken))
 
 add-j : tie.Need-add-j Inv-loop2 μ-loop2 Inv-loop μ-loop
 add-j c = search needs
@@ -130,11 +130,11 @@ loop-again c =
     (c .if1 .came))
 
 returns-2 : tie.Need-returns-2 Inv-loop2 μ-loop2 Inv-loop μ-loop
-unfolding answerOf
-returns-2 c = no-gap _ (c .before .loop .inv) (c .loop-test .left)
+unfolding faultAnswer
+returns-2 c = all-covered _ (c .before .loop .inv) (c .loop-test .left)
 
-pub first-gap-spec : {M : Type 1} → statement M
-first-gap-spec =
+pub first-uncovered-spec : {M : Type 1} → statement M
+first-uncovered-spec =
     tie.close
     (tie.spec
     Inv-loop2

@@ -8,11 +8,11 @@ use lib.ListN.{replicate}
 use Rattle.lists.specs.Tables.{zeros}
 use Rattle.article.specs.Answer.{answer}
 use Rattle.proposal.specs.Submission.{Submission, noRow, noLine, submitted}
-use Rattle.reader.specs.File.{saidIn, submissionOf, fileFault}
-use Rattle.reader.specs.declared.Draft.{Draft}
+use Rattle.reader.specs.File.{parsedIn, submissionOf, fileFault}
+use Rattle.reader.specs.declared.Contents.{Contents}
 
 -- a refusal: its number and place, an empty book and an empty proposal
-unfoldable pub refusedAt : ℕ → ℕ → Draft
+unfoldable pub refusedAt : ℕ → ℕ → Contents
 refusedAt number place = record {
   number = number;
   place = place;
@@ -25,10 +25,10 @@ abbrev pub nothing : Submission
 nothing = record { rows = []; prices = []; lines = [] }
 
 -- what the file submits, or on a refusal nothing
-pub record Drafts (text : List ℕ) (r : Draft) : Type 0 where
+pub record ReadsFile (text : List ℕ) (r : Contents) : Type 0 where
   -- the first refusal in the reader's order, number 0 for none
   pub fault : answer (r .number) (r .place) 0 ≡ fileFault text
   -- the rows, the prices and the lines that the records say; what the arrays hold past the counts is nobody's, and free
-  pub submits : submitted (r .book) (r .proposal) ≡ cond (eqb (r .number) 0) (submissionOf (saidIn text)) nothing
+  pub submits : submitted (r .book) (r .proposal) ≡ cond (eqb (r .number) 0) (submissionOf (parsedIn text)) nothing
   pub few-holdings : r .book .count ≤ 256
   pub few-lines : r .proposal .count ≤ 512

@@ -1,18 +1,18 @@
 -- `lay_proposal` lays each column at the front of its list. Assumes nothing.
 use borrow.Author.Needs.{needs}
-use Rattle.columns.proofs.Laid.{lines-laid}
-use Rattle.columns.proofs.lay_proposal.Statement.{statement}
-use Rattle.columns.proofs.lay_proposal.Tie as tie
+use Rattle.columns.proofs.Encoded.{lines-written}
+use Rattle.columns.proofs.write_proposal.Statement.{statement}
+use Rattle.columns.proofs.write_proposal.Tie as tie
 
 returns : tie.Need-returns
 returns c =
     let amount = c .before .before in
     let short = amount .before .before .before .before in
     let long = short .before .before .before .before in
-    lines-laid _ _ (long .lay-lines .ensures) (short .lay-lines2 .ensures) (amount .lay-lines3 .ensures)
+    lines-written _ _ (long .write-lines .ensures) (short .write-lines2 .ensures) (amount .write-lines3 .ensures)
 
-pub lay-proposal-spec : {M : Type 1} → statement M
-lay-proposal-spec =
+pub write-proposal-spec : {M : Type 1} → statement M
+write-proposal-spec =
     tie.close
     (tie.spec
     (λ c κs. search needs)

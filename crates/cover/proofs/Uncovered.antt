@@ -9,12 +9,12 @@ use borrow.Author.Tests.{lt-ltb, le-ltb, ltb-false, ne-eqb}
 use Rattle.lists.specs.Choice.{firstOf}
 use Rattle.lists.proofs.Firsts.{None, first-of-none, none-in-turn}
 use Rattle.article.specs.Answer.{answer}
-use Rattle.article.specs.Pair.{isLong, allowed, savingRate}
+use Rattle.article.specs.Pair.{isLong, allowed, savingRateOf}
 use Rattle.savings.specs.Savings.{savingOf}
 use Rattle.article.specs.declared.pair.Leg.{Leg}
 use Rattle.proposal.proofs.PricedBooks.{saving-rate}
 use Rattle.proposal.specs.Submission.{PricedBook, noLeg}
-use Rattle.proposal.specs.Outcome.{uncovered, atPair, atLong, gaps}
+use Rattle.proposal.specs.Outcome.{uncovered, atPair, atLong, uncoveredPairs}
 use Rattle.positions.specs.Positions.{heldBook}
 use Rattle.positions.specs.declared.Positions.{Positions}
 use Rattle.lists.proofs.Passed.{Passed, passed-first, passed-all}
@@ -23,7 +23,7 @@ use Rattle.lists.proofs.Passed.{Passed, passed-first, passed-all}
 uncovered-saving : (b : PricedBook) (i j : ℕ) → uncovered b i j ≡ ltb (b .price i + b .price j) (savingOf (b .leg i) (b .leg j))
 unfolding uncovered savingOf
 uncovered-saving b i j =
-    rw (saving-rate b i j) (by (allowed (b .leg i) (b .leg j)) (b .price i + b .price j) (savingRate (b .leg i) (b .leg j)))
+    rw (saving-rate b i j) (by (allowed (b .leg i) (b .leg j)) (b .price i + b .price j) (savingRateOf (b .leg i) (b .leg j)))
   where
     by : (t : Bool) (x y : ℕ) → (t && ltb x y) ≡ ltb x (cond t y 0)
     by true x y = refl
@@ -46,15 +46,15 @@ module _ (p : Positions) where
     unfolding atPair heldBook
     none-covered n = rw found (ltb-false _ _ (sym (uncovered-saving (heldBook p) i j) ∙ n .0))
 
-    pub gap-holds : price i + price j < saving → uncovered (heldBook p) i j ≡ true
+    pub uncovered-holds : price i + price j < saving → uncovered (heldBook p) i j ≡ true
     unfolding heldBook
-    gap-holds h = uncovered-saving (heldBook p) i j ∙ lt-ltb _ _ (rw found at h)
+    uncovered-holds h = uncovered-saving (heldBook p) i j ∙ lt-ltb _ _ (rw found at h)
 
   -- the lower longs are passed, and at i the lower shorts
-  pub first-gap : {i j : ℕ} → Passed (p .count) (atLong (heldBook p)) i → i < p .count → Passed (p .count) (atPair (heldBook p) i) j → j < p .count
-      → uncovered (heldBook p) i j ≡ true → answer 16 i j ≡ firstOf (gaps (heldBook p)) (answer 0 0 0)
-  unfolding gaps atLong atPair heldBook firstOf
-  first-gap longs h shorts g e = sym (passed-first longs (answer 0 0 0) h (λ w. passed-first shorts w g (λ v. rw e)))
+  pub first-uncovered : {i j : ℕ} → Passed (p .count) (atLong (heldBook p)) i → i < p .count → Passed (p .count) (atPair (heldBook p) i) j → j < p .count
+      → uncovered (heldBook p) i j ≡ true → answer 16 i j ≡ firstOf (uncoveredPairs (heldBook p)) (answer 0 0 0)
+  unfolding uncoveredPairs atLong atPair heldBook firstOf
+  first-uncovered longs h shorts g e = sym (passed-first longs (answer 0 0 0) h (λ w. passed-first shorts w g (λ v. rw e)))
 
   -- a long is passed with its last short
   pub long-passed : (i : ℕ) {j : ℕ} → Passed (p .count) (atPair (heldBook p) i) j → p .count ≤ j → None (atLong (heldBook p) i)
@@ -71,6 +71,6 @@ module _ (p : Positions) where
   not-long i h = none-in-turn _ _ (λ j l. covered-none i j (saves-nothing i j h) (omega arith))
 
   -- every long is passed
-  pub no-gap : {i : ℕ} → Passed (p .count) (atLong (heldBook p)) i → p .count ≤ i → answer 0 0 0 ≡ firstOf (gaps (heldBook p)) (answer 0 0 0)
-  unfolding gaps heldBook
-  no-gap longs h = sym (first-of-none (gaps (heldBook p)) (answer 0 0 0) (passed-all longs h))
+  pub all-covered : {i : ℕ} → Passed (p .count) (atLong (heldBook p)) i → p .count ≤ i → answer 0 0 0 ≡ firstOf (uncoveredPairs (heldBook p)) (answer 0 0 0)
+  unfolding uncoveredPairs heldBook
+  all-covered longs h = sym (first-of-none (uncoveredPairs (heldBook p)) (answer 0 0 0) (passed-all longs h))

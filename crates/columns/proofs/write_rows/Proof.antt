@@ -1,4 +1,4 @@
--- `lay_lines` lays a column: the first i numbers are there, and then what the bytes held. Assumes nothing.
+-- `lay_rows` lays a column: the first i numbers are there, and then what the bytes held. Assumes nothing.
 use mathlib.Core.Path.{_≡_}
 use Prim.Native.Nat.{_-_, _≤_}
 use native.Mathlib.Omega.{arith}
@@ -6,31 +6,31 @@ use lib.ListN.{length}
 use borrow.Author.Needs.{needs}
 use Rattle.lists.specs.Tables.{listTo, front}
 use Rattle.words.specs.Words.{encode}
-use Rattle.columns.specs.Columns.{lineColumn}
-use Rattle.columns.proofs.Laid.{numbers-none, numbers-more}
-use Rattle.columns.proofs.lay_lines.Statement.{statement}
-use Rattle.columns.proofs.lay_lines.Tie as tie
+use Rattle.columns.specs.Columns.{rowColumn}
+use Rattle.columns.proofs.Encoded.{numbers-none, numbers-more}
+use Rattle.columns.proofs.write_rows.Statement.{statement}
+use Rattle.columns.proofs.write_rows.Tie as tie
 
 abbrev Inv-loop : tie.InvT-loop
-Inv-loop n j bytes₀ lines i₀ bytes i = (i ≤ n) × (length bytes ≡ length bytes₀) × (bytes ≡ front (encode (listTo i (lineColumn j lines))) bytes₀)
+Inv-loop n j bytes₀ rows i₀ bytes i = (i ≤ n) × (length bytes ≡ length bytes₀) × (bytes ≡ front (encode (listTo i (rowColumn j rows))) bytes₀)
 
 abbrev μ-loop : tie.MeasureT-loop
-μ-loop n j bytes₀ lines i₀ bytes i = n - i
+μ-loop n j bytes₀ rows i₀ bytes i = n - i
 
 loop-again : tie.Need-loop-again Inv-loop μ-loop
 loop-again c =
     let put = c .before .before in
     let turn = put .before .before .before .before .before in
     let start = turn .before .before .args in
-    (omega arith, omega arith, numbers-more (lineColumn (start .j) (start .t1)) _ (turn .loop .inv .2) (put .before .line-number .ensures) (put .put-word .ensures))
+    (omega arith, omega arith, numbers-more (rowColumn (start .j) (start .t1)) _ (turn .loop .inv .2) (put .before .row-number .ensures) (put .put-word .ensures))
 
 returns : tie.Need-returns Inv-loop μ-loop
 returns c =
     let all : c .before .loop .i ≡ c .before .before .before .args .n = search needs in
     rw (← all) (c .before .loop .inv .2)
 
-pub lay-lines-spec : {M : Type 1} → statement M
-lay-lines-spec =
+pub write-rows-spec : {M : Type 1} → statement M
+write-rows-spec =
     tie.close
     (tie.spec
     Inv-loop

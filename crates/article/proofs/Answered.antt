@@ -4,7 +4,7 @@ use mathlib.Core.Bool.{Bool, true, false, cond}
 use Prim.Native.Nat.{ℕ, _≤_}
 use native.Mathlib.Omega.{arith}
 use Rattle.article.specs.Answer.{Answer, answer}
-use Rattle.article.specs.Pair.{allowed, pairRate, savingRate, told, pairOf, Pairs}
+use Rattle.article.specs.Pair.{allowed, pairRateOf, savingRateOf, pairAnswer, pairOf, Pairs}
 use Rattle.article.specs.declared.pair.Leg.{Leg}
 use Rattle.article.specs.declared.pair.Pair.{Pair}
 use Rattle.article.specs.declared.pair.Pair.the-variants.{Allowed, NotAllowed}
@@ -21,20 +21,20 @@ given-by true rate saving rate′ saving′ e = (refl, ap (λ (a : Answer). a .f
 given-by false rate saving rate′ saving′ e = absurd (omega (arith, ap (λ (a : Answer). a .number) e))
 
 -- an allowed pair, its rates, and their bounds
-pub record Told (l s : Leg) (rate saving : ℕ) : Type 0 where
+pub record Answered (l s : Leg) (rate saving : ℕ) : Type 0 where
   pub may : allowed l s ≡ true
-  pub pair-rate : rate ≡ pairRate l s
-  pub saving-rate : saving ≡ savingRate l s
+  pub pair-rate : rate ≡ pairRateOf l s
+  pub saving-rate : saving ≡ savingRateOf l s
   pub rate-high : rate ≤ 21900
   pub saving-high : saving ≤ 43800
 
 module _ {l s : Leg} {p : Pair} (found : Pairs l s p) where
-  pub told-refused : p ≡ NotAllowed → allowed l s ≡ false
-  unfolding told pairOf
-  told-refused e = refused-by (allowed l s) _ _ (rw e at (found .answered))
+  pub answered-refused : p ≡ NotAllowed → allowed l s ≡ false
+  unfolding pairAnswer pairOf
+  answered-refused e = refused-by (allowed l s) _ _ (rw e at (found .answered))
 
-  pub told-allowed : {rate saving : ℕ} → p ≡ Allowed rate saving → Told l s rate saving
-  unfolding told pairOf
-  told-allowed {rate} {saving} e =
+  pub answered-allowed : {rate saving : ℕ} → p ≡ Allowed rate saving → Answered l s rate saving
+  unfolding pairAnswer pairOf
+  answered-allowed {rate} {saving} e =
       let (may, r, k) = given-by (allowed l s) _ _ rate saving (rw e at (found .answered)) in
       record { may = may; pair-rate = r; saving-rate = k; rate-high = rw e at (found .rate-high); saving-high = rw e at (found .saving-high) }

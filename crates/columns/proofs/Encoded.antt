@@ -14,8 +14,8 @@ use Rattle.proposal.specs.Submission.{noRow, noLine, rowsOf, pricesOf, linesOf}
 use Rattle.proposal.specs.declared.Book.{Book}
 use Rattle.proposal.specs.declared.Proposal.{Proposal}
 use Rattle.words.specs.Words.{withWord, encode}
-use Rattle.words.proofs.Laid.{word-more}
-use Rattle.columns.specs.Columns.{BookColumns, LineColumns, bookColumns, lineColumns, column, filledBook, filledLines, rowNumber, lineNumber, rowColumn, lineColumn}
+use Rattle.words.proofs.Encoded.{word-more}
+use Rattle.columns.specs.Columns.{BookColumns, LineColumns, makeBookColumns, makeLineColumns, column, filledBook, filledLines, rowNumber, lineNumber, rowColumn, lineColumn}
 
 -- the last column of each
 pub row-last : (j : ℕ) (row : Row) → 4 ≤ j → row .value ≡ rowNumber j row
@@ -35,7 +35,7 @@ pub numbers-none : (f : ℕ → ℕ) (old : List ℕ) → old ≡ front (encode 
 unfolding listTo front encode
 numbers-none f old = refl
 
-pub numbers-more : (f : ℕ → ℕ) (old : List ℕ) {laid after : List ℕ} {i v : ℕ} → laid ≡ front (encode (listTo i f)) old → v ≡ f i → after ≡ withWord laid i v
+pub numbers-more : (f : ℕ → ℕ) (old : List ℕ) {so-far after : List ℕ} {i v : ℕ} → so-far ≡ front (encode (listTo i f)) old → v ≡ f i → after ≡ withWord so-far i v
     → after ≡ front (encode (listTo (i + 1) f)) old
 unfolding listTo
 numbers-more f old {i = i} e n w =
@@ -50,28 +50,28 @@ firsts-take n xs h =
 
 -- every column of a book is laid, and every column of a proposal
 module _ (book : Book) (proposal : Proposal) (old : BookColumns) where
-  pub book-laid : {side kind issuer days value price : List ℕ} → length (proposal .prices) ≡ 256 → book .count ≤ 256
+  pub book-written : {side kind issuer days value price : List ℕ} → length (proposal .prices) ≡ 256 → book .count ≤ 256
       → side ≡ front (encode (listTo (book .count) (rowColumn 0 (book .rows)))) (old .side)
       → kind ≡ front (encode (listTo (book .count) (rowColumn 1 (book .rows)))) (old .kind)
       → issuer ≡ front (encode (listTo (book .count) (rowColumn 2 (book .rows)))) (old .issuer)
       → days ≡ front (encode (listTo (book .count) (rowColumn 3 (book .rows)))) (old .days)
       → value ≡ front (encode (listTo (book .count) (rowColumn 4 (book .rows)))) (old .value)
       → price ≡ front (encode (take (book .count) (proposal .prices))) (old .price)
-      → bookColumns side kind issuer days value price ≡ filledBook (rowsOf book) (pricesOf book (proposal .prices)) old
+      → makeBookColumns side kind issuer days value price ≡ filledBook (rowsOf book) (pricesOf book (proposal .prices)) old
   unfolding filledBook column rowsOf pricesOf
-  book-laid {price = price} long few s k i d v p =
+  book-written {price = price} long few s k i d v p =
       let by : (j : ℕ) → listTo (book .count) (rowColumn j (book .rows)) ≡ map (rowNumber j) (listTo (book .count) (λ m. getD (book .rows) m noRow)) =
       λ j. sym (map-to (rowNumber j) (book .count) (λ m. getD (book .rows) m noRow)) in
       let q : price ≡ front (encode (listTo (book .count) (λ m. getD (proposal .prices) m 0))) (old .price) = p ∙ rw (firsts-take (book .count) (proposal .prices) (omega arith)) in
       rw (s, k, i, d, v, q, by 0, by 1, by 2, by 3, by 4)
 
-pub lines-laid : (proposal : Proposal) (old : LineColumns) {long short amount : List ℕ}
+pub lines-written : (proposal : Proposal) (old : LineColumns) {long short amount : List ℕ}
     → long ≡ front (encode (listTo (proposal .count) (lineColumn 0 (proposal .lines)))) (old .long)
     → short ≡ front (encode (listTo (proposal .count) (lineColumn 1 (proposal .lines)))) (old .short)
     → amount ≡ front (encode (listTo (proposal .count) (lineColumn 2 (proposal .lines)))) (old .amount)
-    → lineColumns long short amount ≡ filledLines (linesOf proposal) old
+    → makeLineColumns long short amount ≡ filledLines (linesOf proposal) old
 unfolding filledLines column linesOf
-lines-laid proposal old l s a =
+lines-written proposal old l s a =
     let by : (j : ℕ) → listTo (proposal .count) (lineColumn j (proposal .lines)) ≡ map (lineNumber j) (listTo (proposal .count) (λ m. getD (proposal .lines) m noLine)) =
     λ j. sym (map-to (lineNumber j) (proposal .count) (λ m. getD (proposal .lines) m noLine)) in
     rw (l, s, a, by 0, by 1, by 2)

@@ -7,39 +7,39 @@ use native.Mathlib.Omega.{arith}
 use lib.ListN.{length, getD, take, drop, length-append}
 use lib.Seq.{take-at, drop-append-add, drop-drop, length-take-le, take-suc}
 use Rattle.lists.specs.Tables.{front}
-use Rattle.words.specs.Words.{digits, withWord, encode}
+use Rattle.words.specs.Words.{littleEndian, withWord, encode}
 
-pub length-digits : (k v : ℕ) → length (digits k v) ≡ k
-unfolding digits
-length-digits zero v = refl
-length-digits (suc k) v = omega (arith, length-digits k (v / 256))
+pub length-little-endian : (k v : ℕ) → length (littleEndian k v) ≡ k
+unfolding littleEndian
+length-little-endian zero v = refl
+length-little-endian (suc k) v = omega (arith, length-little-endian k (v / 256))
 
 pub length-encode : (xs : List ℕ) → length (encode xs) ≡ 8 * length xs
 unfolding encode
 length-encode [] = refl
-length-encode (x ∷ xs) = omega (arith, length-append (digits 8 x) (encode xs), length-digits 8 x, length-encode xs)
+length-encode (x ∷ xs) = omega (arith, length-append (littleEndian 8 x) (encode xs), length-little-endian 8 x, length-encode xs)
 
-encode-snoc : (xs : List ℕ) (v : ℕ) → encode (xs ++ v ∷ []) ≡ encode xs ++ digits 8 v
+encode-snoc : (xs : List ℕ) (v : ℕ) → encode (xs ++ v ∷ []) ≡ encode xs ++ littleEndian 8 v
 unfolding encode
-encode-snoc [] v = append-nil (digits 8 v)
-encode-snoc (x ∷ xs) v = rw (encode-snoc xs v) (sym (append-assoc (digits 8 x) (encode xs) (digits 8 v)))
+encode-snoc [] v = append-nil (littleEndian 8 v)
+encode-snoc (x ∷ xs) v = rw (encode-snoc xs v) (sym (append-assoc (littleEndian 8 x) (encode xs) (littleEndian 8 v)))
 
 -- one more number after those laid down
 pub word-more : (xs old : List ℕ) (v : ℕ) → withWord (front (encode xs) old) (length xs) v ≡ front (encode (xs ++ v ∷ [])) old
 unfolding withWord front
 word-more xs old v =
     let n = length (encode xs) in
-    let long : length (encode xs ++ digits 8 v) ≡ n + 8 = omega (arith, length-append (encode xs) (digits 8 v), length-digits 8 v) in
+    let long : length (encode xs ++ littleEndian 8 v) ≡ n + 8 = omega (arith, length-append (encode xs) (littleEndian 8 v), length-little-endian 8 v) in
     rw (← length-encode xs, encode-snoc xs v, long, take-at (encode xs) (drop n old) n refl, drop-append-add (encode xs) (drop n old) 8, drop-drop 8 n old)
 
 -- the first i + 1 numbers, when the first i are laid down
-pub laid-more : (numbers old laid after : List ℕ) (i : ℕ) → i < length numbers → laid ≡ front (encode (take i numbers)) old
-    → after ≡ withWord laid i (getD numbers i 0) → after ≡ front (encode (take (i + 1) numbers)) old
-laid-more numbers old laid after i h e w =
+pub encoded-more : (numbers old so-far after : List ℕ) (i : ℕ) → i < length numbers → so-far ≡ front (encode (take i numbers)) old
+    → after ≡ withWord so-far i (getD numbers i 0) → after ≡ front (encode (take (i + 1) numbers)) old
+encoded-more numbers old so-far after i h e w =
     let more : take (i + 1) numbers ≡ take i numbers ++ getD numbers i 0 ∷ [] = rw add-one (take-suc numbers i 0 h) in
     let at : length (take i numbers) ≡ i = length-take-le i numbers (omega arith) in
     w ∙ rw (e, more) (rw at at (word-more (take i numbers) old (getD numbers i 0)))
 
-pub laid-none : (numbers old : List ℕ) → old ≡ front (encode (take 0 numbers)) old
+pub encoded-none : (numbers old : List ℕ) → old ≡ front (encode (take 0 numbers)) old
 unfolding front encode
-laid-none numbers old = refl
+encoded-none numbers old = refl

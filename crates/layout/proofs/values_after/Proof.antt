@@ -11,9 +11,9 @@ use Rattle.layout.specs.Sorts.{valueOf}
 use Rattle.layout.specs.Layout.{sortsBy, valuesOf, cellsOf}
 use Rattle.layout.specs.declared.Sort.the-variants.{Empty}
 use Rattle.layout.proofs.Letters.{six-sorts}
-use Rattle.layout.proofs.Found.{ahead, ahead-none, found-more, found-wrong, found-all, value-behind}
-use Rattle.layout.proofs.values_behind.Statement.{statement}
-use Rattle.layout.proofs.values_behind.Tie as tie
+use Rattle.layout.proofs.Found.{ahead, ahead-none, found-more, found-wrong, found-all, value-after}
+use Rattle.layout.proofs.values_after.Statement.{statement}
+use Rattle.layout.proofs.values_after.Tie as tie
 
 abbrev Inv-loop : tie.InvT-loop
 Inv-loop text letter spans values₀ j₀ values j =
@@ -32,8 +32,8 @@ module _ (c : tie.After-value-in Inv-loop μ-loop) where
   abbrev start : tie.Start Inv-loop μ-loop
   start = at .before .before
 
-  abbrev behind : List (List ℕ)
-  behind = drop 1 (map (part (start .args .text .now)) (start .args .t2))
+  abbrev afterLetter : List (List ℕ)
+  afterLetter = drop 1 (map (part (start .args .text .now)) (start .args .t2))
 
   long : length (start .args .t2) ≡ 7
   long = search needs
@@ -41,11 +41,11 @@ module _ (c : tie.After-value-in Inv-loop μ-loop) where
   sorted : at .loop .j < length (sortsBy (start .args .letter))
   sorted = omega (arith, six-sorts (start .args .letter))
 
-  there : at .loop .j < length behind
+  there : at .loop .j < length afterLetter
   there = omega (arith, length-drop 1 (map (part (start .args .text .now)) (start .args .t2)), length-map (start .args .t2) (part (start .args .text .now)), long)
 
-  value : c .value-in .result ≡ valueOf (getD (sortsBy (start .args .letter)) (at .loop .j) Empty) (getD behind (at .loop .j) [])
-  value = value-behind (start .args .text .now) (start .args .t2) (start .args .letter) (at .loop .j) (c .value-in .ensures) (c .before .before .sort-at .ensures) (c .before .field .ensures)
+  value : c .value-in .result ≡ valueOf (getD (sortsBy (start .args .letter)) (at .loop .j) Empty) (getD afterLetter (at .loop .j) [])
+  value = value-after (start .args .text .now) (start .args .t2) (start .args .letter) (at .loop .j) (c .value-in .ensures) (c .before .before .sort-at .ensures) (c .before .field .ensures)
 
 loop-holds : tie.Need-loop-holds Inv-loop μ-loop
 loop-holds c = (search needs, refl, ahead-none (valuesOf _ _))
@@ -53,14 +53,14 @@ loop-holds c = (search needs, refl, ahead-none (valuesOf _ _))
 returns : tie.Need-returns Inv-loop μ-loop
 returns c =
     let found = c .before .before in
-    ap cellsOf (sym (found-wrong (sortsBy (start found .args .letter)) (behind found) (at found .loop .values) (at found .loop .j) (sorted found) (there found) (sym (c .enum-told .given .1) ∙ value found)) ∙ at found .loop .inv .2)
+    ap cellsOf (sym (found-wrong (sortsBy (start found .args .letter)) (afterLetter found) (at found .loop .values) (at found .loop .j) (sorted found) (there found) (sym (c .enum-told .given .1) ∙ value found)) ∙ at found .loop .inv .2)
 
 loop-again : tie.Need-loop-again Inv-loop μ-loop
 loop-again c =
     let found = c .before .before .before in (
       search needs,
       length-set (at found .loop .values) (at found .loop .j) _ ∙ at found .loop .inv .1,
-      sym (found-more (sortsBy (start found .args .letter)) (behind found) (at found .loop .values) (at found .loop .j) (sorted found) (there found) _ (sym (c .before .value .given .1) ∙ value found) (omega (arith, at found .loop .inv .1)))
+      sym (found-more (sortsBy (start found .args .letter)) (afterLetter found) (at found .loop .values) (at found .loop .j) (sorted found) (there found) _ (sym (c .before .value .given .1) ∙ value found) (omega (arith, at found .loop .inv .1)))
           ∙ at found .loop .inv .2,
     )
 
@@ -70,11 +70,11 @@ returns-2 c =
     let start = at .before .before in
     let long : length (start .args .t2) ≡ 7 = search needs in
     let all : take (at .loop .j) (at .loop .values) ≡ at .loop .values = take-all (at .loop .j) (at .loop .values) (omega (arith, at .loop .inv .1)) in
-    let behind = drop 1 (map (part (start .args .text .now)) (start .args .t2)) in
-    ap cellsOf (sym (found-all (sortsBy (start .args .letter)) behind (at .loop .values) (at .loop .j) (omega (arith, six-sorts (start .args .letter))) (omega (arith, length-drop 1 (map (part (start .args .text .now)) (start .args .t2)), length-map (start .args .t2) (part (start .args .text .now))))) ∙ rw all at (at .loop .inv .2))
+    let afterLetter = drop 1 (map (part (start .args .text .now)) (start .args .t2)) in
+    ap cellsOf (sym (found-all (sortsBy (start .args .letter)) afterLetter (at .loop .values) (at .loop .j) (omega (arith, six-sorts (start .args .letter))) (omega (arith, length-drop 1 (map (part (start .args .text .now)) (start .args .t2)), length-map (start .args .t2) (part (start .args .text .now))))) ∙ rw all at (at .loop .inv .2))
 
-pub values-behind-spec : {M : Type 1} → statement M
-values-behind-spec =
+pub values-after-spec : {M : Type 1} → statement M
+values-after-spec =
     tie.close
     (tie.spec
     Inv-loop

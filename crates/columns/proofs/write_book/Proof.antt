@@ -2,19 +2,19 @@
 use mathlib.Core.Path.{_≡_}
 use lib.ListN.{length}
 use borrow.Author.Needs.{needs}
-use Rattle.columns.proofs.Laid.{book-laid}
-use Rattle.columns.proofs.lay_book.Statement.{statement}
-use Rattle.columns.proofs.lay_book.Tie as tie
+use Rattle.columns.proofs.Encoded.{book-written}
+use Rattle.columns.proofs.write_book.Statement.{statement}
+use Rattle.columns.proofs.write_book.Tie as tie
 
 -- every holding of the array has a price
-abbrev start : tie.After-lay-arg → tie.Start
+abbrev start : tie.After-write-words-arg → tie.Start
 start c = c .before .before .before .before .before .before .before .before .before
 
-long : (c : tie.After-lay-arg) → length (start c .args .proposal .prices) ≡ 256
+long : (c : tie.After-write-words-arg) → length (start c .args .proposal .prices) ≡ 256
 long c = search needs
 
-lay-requires : tie.Need-lay-requires
-lay-requires c κs =
+write-words-requires : tie.Need-write-words-requires
+write-words-requires c κs =
     let prices = long c in
     (search needs, search needs)
 
@@ -26,15 +26,15 @@ returns c =
     let kind = issuer .before .before .before .before in
     let side = kind .before .before .before .before in
     let price = side .before .before .before .before .before in
-    book-laid _ (start (price .before) .args .proposal) _ (long (price .before)) (start (price .before) .pre .few) (side .lay-rows .ensures) (kind .lay-rows2 .ensures) (issuer .lay-rows3 .ensures) (days .lay-rows4 .ensures) (value .lay-rows5 .ensures)
-    (price .lay .ensures)
+    book-written _ (start (price .before) .args .proposal) _ (long (price .before)) (start (price .before) .pre .few) (side .write-rows .ensures) (kind .write-rows2 .ensures) (issuer .write-rows3 .ensures) (days .write-rows4 .ensures) (value .write-rows5 .ensures)
+    (price .write-words .ensures)
 
-pub lay-book-spec : {M : Type 1} → statement M
-lay-book-spec =
+pub write-book-spec : {M : Type 1} → statement M
+write-book-spec =
     tie.close
     (tie.spec
     (λ c. search needs)
-    lay-requires
+    write-words-requires
     (λ c κs. search needs)
     (λ c κs. search needs)
     (λ c κs. search needs)
