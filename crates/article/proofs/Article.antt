@@ -12,7 +12,8 @@ use Rattle.article.proofs.RateTable.{rate-table}
 use Rattle.article.proofs.Rates.{rate-high, half-exact}
 use Rattle.article.proofs.PairRates.{difference-excess, rate-and-saving, saving-high}
 use Rattle.article.proofs.Legs.{allowed-meets, meets-allowed, bonds-no-rule, kinds-pair, class-rule, no-class-long, no-class-short, no-rule}
-use Rattle.article.specs.Article.{MayPair, Pairing, UnknownIssuer, Article}
+use Rattle.article.proofs.Periods.{period-1, period-2, period-3, period-4, period-5}
+use Rattle.article.specs.Article.{Numbers, Periods, MayPair, OneClass, both-canada, both-provincial, TwoClasses, canada-long, canada-short, Pairing, UnknownIssuer, Article}
 use Rattle.holding.specs.Holding.{InRange, sideNumber, kindNumber, noIssuer, issuerNumber, rowOf}
 use Rattle.article.specs.Rate.{classOf, rateOf}
 use Rattle.article.specs.Pair.{legOf, isCanada, isProvince, ruleOf, ruleRate, permits, allowed, pairRateOf}
@@ -32,14 +33,22 @@ is-short : (s : Side) → sideNumber s ≡ 1 → s ≡ Short
 is-short Long e = absurd (omega arith)
 is-short Short e = refl
 
+one-class : {i j : Issuer} → OneClass i j → classOf i ≡ classOf j
+one-class both-canada = refl
+one-class (both-provincial p q) = refl
+
+two-classes : {i j : Issuer} → TwoClasses i j → classOf i ≡ classOf j → ⊥
+two-classes (canada-long p) e = omega arith
+two-classes (canada-short p) e = omega arith
+
 module _ (l s : Holding) (f : InRange l) (g : InRange s) where
   allowed-may : allowed (legOf l) (legOf s) ≡ true → MayPair l s
   unfolding legOf rowOf
   allowed-may e =
       let m = allowed-meets _ _ e in
       record {
-        long = is-long (l .side) (m .long);
-        short = is-short (s .side) (m .short);
+        first-long = is-long (l .side) (m .long);
+        second-short = is-short (s .side) (m .short);
         period = m .period;
         not-bonds = λ a b. false≢true (ap permits (sym (bonds-no-rule (legOf l) (legOf s) (ap kindNumber a) (ap kindNumber b))) ∙ m .rule);
       }
@@ -54,8 +63,8 @@ module _ (l s : Holding) (f : InRange l) (g : InRange s) where
   may-allowed : MayPair l s → allowed (legOf l) (legOf s) ≡ true
   unfolding legOf rowOf
   may-allowed m = meets-allowed _ _ (record {
-    long = ap sideNumber (m .long);
-    short = ap sideNumber (m .short);
+    long = ap sideNumber (m .first-long);
+    short = ap sideNumber (m .second-short);
     period = m .period;
     rule = ap permits (rule-is m) ∙ by-test (λ (r : Rule). permits r ≡ true) (eqb (classOf (l .issuer)) (classOf (s .issuer))) (λ _. refl) (λ _. refl);
   })
@@ -68,8 +77,8 @@ module _ (l s : Holding) (f : InRange l) (g : InRange s) where
   pairing : Pairing l s
   pairing = record {
     permitted = (allowed-may, may-allowed);
-    difference = λ m e. rw (rate-by Difference (rule-is m ∙ rw (eq-eqb _ _ e))) (difference-excess (rateOf l) (rateOf s));
-    half-sum = λ m e. rw (rate-by HalfSum (rule-is m ∙ rw (ne-eqb _ _ e))) (half-exact l s);
+    difference = λ m e. rw (rate-by Difference (rule-is m ∙ rw (eq-eqb _ _ (one-class e)))) (difference-excess (rateOf l) (rateOf s));
+    half-sum = λ m e. rw (rate-by HalfSum (rule-is m ∙ rw (ne-eqb _ _ (two-classes e)))) (half-exact l s);
     saving = unfold legOf in rate-and-saving (legOf l) (legOf s);
     saving-range = saving-high (legOf l) (legOf s) (unfold legOf in rate-high l) (unfold legOf in rate-high s);
   }
@@ -89,11 +98,31 @@ module _ (p : ℕ) (stray : within 1 10 p ≡ false) where
     as-short = λ l s e. let (c, n) = stray-leg s e in no-rule _ _ (no-class-short _ _ c n);
   }
 
+numbers : (h : Holding) → Numbers h
+unfolding rowOf
+numbers h = record {
+  of-long = ap sideNumber;
+  of-short = ap sideNumber;
+  of-bond = ap kindNumber;
+  of-coupon = ap kindNumber;
+  of-residual = ap kindNumber;
+  of-canada = ap issuerNumber;
+  of-province = λ p w e. ap issuerNumber e ∙ rw w;
+  days = refl;
+  value = refl;
+}
+
+periods : (days : ℕ) → Periods days
+periods d = record { first = period-1 d; second = period-2 d; third = period-3 d; fourth = period-4 d; fifth = period-5 d }
+
 pub article : Article
 article = record {
-  rows = λ r. record { no-fault = (fault-none r, none-fault r); kept = row-kept r };
+  each-row = λ r. record { no-fault = (fault-none r, none-fault r); kept = row-kept r };
   records = holding-kept;
+  numbered = numbers;
   unknown-issuers = unknown-issuer;
+  ends = periods;
+  twenty-years = period-5 7299 (omega arith) ∙ sym (period-5 7300 (omega arith));
   rates = rate-table;
   pairs = pairing;
 }

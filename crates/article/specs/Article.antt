@@ -3,37 +3,68 @@
 use mathlib.Core.Path.{_≡_}
 use mathlib.Core.Bool.{true, false}
 use mathlib.Core.Logic.{_↔_}
-use Prim.Native.Nat.{ℕ, _+_, _*_, _≤_, min, max}
+use Prim.Native.Nat.{ℕ, _+_, _*_, _≤_, _<_, min, max}
 use Rattle.lists.specs.Choice.{within}
 use Rattle.holding.specs.Holding.{Ranges, InRange, faultOf, rowOf, holdingOf}
-use Rattle.article.specs.Rate.{periodOf, classOf, rateOf}
+use Rattle.article.specs.Rate.{periodOf, rateOf}
 use Rattle.article.specs.RateTable.{RateTable}
 use Rattle.article.specs.Pair.{legOf, allowed, pairRateOf, savingRateOf}
 use Rattle.holding.specs.declared.Side.the-variants.{Long, Short}
-use Rattle.holding.specs.declared.Kind.the-variants.{Bond}
-use Rattle.holding.specs.declared.Issuer.the-variants.{Province}
+use Rattle.holding.specs.declared.Kind.the-variants.{Bond, Coupon, Residual}
+use Rattle.holding.specs.declared.Issuer.{Issuer}
+use Rattle.holding.specs.declared.Issuer.the-variants.{Canada, Province}
 use Rattle.holding.specs.declared.Holding.{Holding}
 use Rattle.holding.specs.declared.Row.{Row}
 
 -- a row is refused exactly when a number is outside its range; any other makes a record that keeps its numbers
-pub record Rows (r : Row) : Type 0 where
+pub record RowKept (r : Row) : Type 0 where
   pub no-fault : (faultOf r ≡ 0) ↔ Ranges r
   pub kept : Ranges r → rowOf (holdingOf r) ≡ r
 
+-- the numbers of a record. Side: 0 long, 1 short. Kind: 0 bond or debenture, 1 stripped coupon, 2 residual. Issuer: 0 Canada, 1 to 10 a province
+pub record Numbers (h : Holding) : Type 0 where
+  pub of-long : h .side ≡ Long → rowOf h .side ≡ 0
+  pub of-short : h .side ≡ Short → rowOf h .side ≡ 1
+  pub of-bond : h .kind ≡ Bond → rowOf h .kind ≡ 0
+  pub of-coupon : h .kind ≡ Coupon → rowOf h .kind ≡ 1
+  pub of-residual : h .kind ≡ Residual → rowOf h .kind ≡ 2
+  pub of-canada : h .issuer ≡ Canada → rowOf h .issuer ≡ 0
+  pub of-province : (p : ℕ) → within 1 10 p ≡ true → h .issuer ≡ Province p → rowOf h .issuer ≡ p
+  pub days : rowOf h .days ≡ h .days
+  pub value : rowOf h .value ≡ h .value
+
+-- periods end at 365, 1,095, 2,555 and 4,015 days, each end inside the earlier period; the fifth is everything longer
+pub record Periods (days : ℕ) : Type 0 where
+  pub first : days ≤ 365 → periodOf days ≡ 1
+  pub second : 365 < days → days ≤ 1095 → periodOf days ≡ 2
+  pub third : 1095 < days → days ≤ 2555 → periodOf days ≡ 3
+  pub fourth : 2555 < days → days ≤ 4015 → periodOf days ≡ 4
+  pub fifth : 4015 < days → periodOf days ≡ 5
+
 -- one long and one short may be paired if both lie in the same period and they are not both bonds
 pub record MayPair (l s : Holding) : Type 0 where
-  pub long : l .side ≡ Long
-  pub short : s .side ≡ Short
+  pub first-long : l .side ≡ Long
+  pub second-short : s .side ≡ Short
   pub period : periodOf (l .days) ≡ periodOf (s .days)
   pub not-bonds : l .kind ≡ Bond → s .kind ≡ Bond → ⊥
+
+-- both Canada or both provincial: any two provinces count as one class
+pub data OneClass : Issuer → Issuer → Type 0 where
+  both-canada : OneClass Canada Canada
+  both-provincial : (p q : ℕ) → OneClass (Province p) (Province q)
+
+-- one Canada, one provincial
+pub data TwoClasses : Issuer → Issuer → Type 0 where
+  canada-long : (p : ℕ) → TwoClasses Canada (Province p)
+  canada-short : (p : ℕ) → TwoClasses (Province p) Canada
 
 -- what two holdings within the ranges have as a pair
 pub record Pairing (l s : Holding) : Type 0 where
   pub permitted : (allowed (legOf l) (legOf s) ≡ true) ↔ MayPair l s
   -- both Canada or both provincial: the greater rate is the lesser and the pair's, so that this is never negative
-  pub difference : MayPair l s → classOf (l .issuer) ≡ classOf (s .issuer) → min (rateOf l) (rateOf s) + pairRateOf (legOf l) (legOf s) ≡ max (rateOf l) (rateOf s)
+  pub difference : MayPair l s → OneClass (l .issuer) (s .issuer) → min (rateOf l) (rateOf s) + pairRateOf (legOf l) (legOf s) ≡ max (rateOf l) (rateOf s)
   -- one Canada, one provincial: half the sum of the rates, with nothing lost by halving
-  pub half-sum : MayPair l s → (classOf (l .issuer) ≡ classOf (s .issuer) → ⊥) → 2 * pairRateOf (legOf l) (legOf s) ≡ rateOf l + rateOf s
+  pub half-sum : MayPair l s → TwoClasses (l .issuer) (s .issuer) → 2 * pairRateOf (legOf l) (legOf s) ≡ rateOf l + rateOf s
   -- the saving rate is the sum of the two rates less the pair's rate, between 0 and 43,800
   pub saving : pairRateOf (legOf l) (legOf s) + savingRateOf (legOf l) (legOf s) ≡ rateOf l + rateOf s
   pub saving-range : savingRateOf (legOf l) (legOf s) ≤ 43800
@@ -46,9 +77,13 @@ pub record UnknownIssuer (p : ℕ) : Type 0 where
 
 -- the page
 pub record Article : Type 0 where
-  pub rows : (r : Row) → Rows r
+  pub each-row : (r : Row) → RowKept r
   -- a record within the ranges is the record of its numbers
   pub records : (h : Holding) → InRange h → holdingOf (rowOf h) ≡ h
+  pub numbered : (h : Holding) → Numbers h
   pub unknown-issuers : (p : ℕ) → within 1 10 p ≡ false → UnknownIssuer p
-  pub rates : (days : ℕ) → RateTable days
+  pub ends : (days : ℕ) → Periods days
+  -- twenty years, 7,300 days, changes the rate and is no period end
+  pub twenty-years : periodOf 7299 ≡ periodOf 7300
+  pub rates : (h : Holding) → RateTable h
   pub pairs : (l s : Holding) → InRange l → InRange s → Pairing l s

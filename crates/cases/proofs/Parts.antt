@@ -5,7 +5,7 @@ use Prim.Native.Nat.{ℕ, _≤_}
 use native.Mathlib.Omega.{arith}
 use lib.ListN.{length, length-append}
 use lib.Seq.{length-take-le}
-use Rattle.printing.specs.Printed.{Within}
+use Rattle.printing.specs.Within.{Within}
 
 pub within-whole : (n : ℕ) (part rest : List ℕ) → n ≤ length part → Within n (part ++ rest)
 within-whole n part rest h =

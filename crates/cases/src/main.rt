@@ -2,7 +2,7 @@
 // A case is two eight-byte little-endian numbers, the bytes of the title and of the text, then the title, then the text.
 ghost use mathlib.Core.Path.{_≡_};
 ghost use lib.ListN.{length};
-ghost use Rattle.printing.specs.Printed.{Within};
+ghost use Rattle.printing.specs.Within.{Within};
 
 // Room for a text, and for a title.
 fn text_buffer() -> [u8; 65537]

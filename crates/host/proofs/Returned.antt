@@ -18,7 +18,10 @@ same-demands s one two a r x y e f d = record {
   exactly = rw e (d .exactly);
   cheapest = λ z. let n : a .number ≡ 0 = sym e ∙ z in rw (f n .0) (d .cheapest n);
   rounding = λ z. let n : a .number ≡ 0 = sym e ∙ z in rw (f n .0, f n .1) (d .rounding n);
+  count = d .count;
   terms = d .terms;
+  remainders = d .remainders;
+  remains = d .remains;
 }
 
 -- where a slice below 16 bytes is refused, what is accepted is read

@@ -1,19 +1,21 @@
 -- A file that is refused, and one that is read and judged, are printed as the page says. Assumes nothing.
-use mathlib.Core.Path.{_≡_, refl, sym, ap, _∙_}
+use mathlib.Core.Path.{_≡_, refl, sym, ap, subst, _∙_}
 use mathlib.Core.Bool.{Bool, true, false, cond}
 use mathlib.Core.Logic.{_↔_, _≢_}
-use mathlib.Core.List.{List}
+use mathlib.Core.List.{List, _++_, flatMap}
 use Prim.Native.Nat.{ℕ, _≤_}
 use native.Mathlib.Omega.{arith}
 use lib.Dec.{eqb}
-use lib.ListN.{length, drop, length-append}
+use lib.ListN.{length, getD, take, drop, length-append}
 use lib.Seq.{length-take-le}
 use borrow.Author.Tests.{eq-eqb, ne-eqb}
 use Rattle.lists.specs.Tables.{front}
-use Rattle.lists.proofs.Tables.{length-to}
+use Rattle.lists.specs.Texts.{ascii}
+use Rattle.lists.proofs.Tables.{length-to, getD-every}
 use Rattle.lists.proofs.Tests.{same-or-not}
-use Rattle.article.specs.Answer.{answer}
-use Rattle.proposal.specs.Submission.{Submission, rowsOf, submitted}
+use Rattle.article.specs.Answer.{Answer, answer}
+use Rattle.proposal.specs.Submission.{Submission, priced, rowsOf, submitted}
+use Rattle.proposal.specs.Figures.{remainder, remaindersOf, ranked}
 use Rattle.proposal.specs.Outcome.{outcome}
 use Rattle.proposal.specs.Demands.{Acceptable, Demands}
 use Rattle.proposal.proofs.Clear.{number}
@@ -25,10 +27,12 @@ use Rattle.readable.specs.Readable.{Submits}
 use Rattle.readable.proofs.Exactly.{read-exactly}
 use Rattle.verdict.specs.Judges.{Judges}
 use Rattle.verdict.specs.declared.Judgement.{Judgement}
-use Rattle.report.specs.Report.{refusalLine, printedLines, printedOf, reportOf}
+use Rattle.verdict.proofs.Judged.{all-ranked, nothing-past}
+use Rattle.report.specs.Report.{lineOf, refusalLine, marginLine, remainderLine, printedLines, bookLine, printedOf, reportOf}
 use Rattle.report.specs.Written.{fitted, Prints}
 use Rattle.report.proofs.Judged.{report-judged}
-use Rattle.printing.specs.Printed.{fileAnswer, printed, Within, PrintsFile}
+use Rattle.printing.specs.Printed.{fileAnswer, printed, holdingLine, PrintsFigures, PrintsFile}
+use Rattle.printing.specs.Within.{Within}
 
 -- what is printed is within the list that it is printed into
 prints-within : {text old now : List ℕ} {count : ℕ} → Prints text old now count → Within count now
@@ -37,6 +41,32 @@ prints-within {text} {old} {now} {count} p =
     let written = fitted (length old) text in
     let few : count ≤ length now = omega (arith, p .counted, ap (λ (l : List ℕ). length l) (p .bytes), length-append written (drop (length written) old)) in
     (few, sym (length-take-le count now few))
+
+-- M is printed for the number 0, and X for any other
+module _ (a : Answer) (line : ℕ → List ℕ) (order : List ℕ) where
+  accepted-lines : a .number ≡ 0 → printedLines a line order ≡ marginLine a ++ flatMap line order
+  unfolding printedLines
+  accepted-lines e = rw (eq-eqb _ _ e)
+
+  refused-lines : a .number ≢ 0 → printedLines a line order ≡ refusalLine a
+  unfolding printedLines
+  refused-lines h = rw (ne-eqb _ _ h)
+
+  begins-when : (take 1 (printedLines a line order) ≡ ascii "M") ↔ (a .number ≡ 0)
+  unfolding marginLine refusalLine lineOf
+  begins-when = (
+    λ b.
+        same-or-not (a .number) 0 (λ z. z) (λ z.
+        let other : take 1 (refusalLine a) ≡ ascii "M" = rw (refused-lines z) at b in
+        let first : 0x58 ≡ 0x4D = ap (λ (l : List ℕ). getD l 0 0) other in
+        absurd (omega arith)),
+    λ z. rw (accepted-lines z),
+  )
+
+-- what remains of a holding is printed as the list of remainders has it
+same-line : (s : Submission) (k : ℕ) → bookLine (priced s) (s .lines) k ≡ holdingLine s k
+unfolding bookLine remainderLine holdingLine remaindersOf
+same-line s k = rw (getD-every (priced s .count) (remainder (priced s) (s .lines)) 0 (nothing-past s) k)
 
 module _ (text : List ℕ) where
   -- the answer by the reader's refusals
@@ -65,18 +95,45 @@ module _ (text : List ℕ) where
       (λ z. rw (answer-checked z) (demands false false (submissionIn text)))
       (λ z. absurd (z (sym (ap number (answer-refused z)) ∙ e)))
 
-  promised : {before after : List ℕ} {r : ℕ} → Prints (printed text) before after r → PrintsFile text before after r
-  promised p = record { prints = p; within = prints-within p; exactly = accepted-when; demands = accepted-least; only = read-exactly text .only }
+  abbrev s : Submission
+  s = submissionIn text
+
+  begins-exactly : (take 1 (printed text) ≡ ascii "M") ↔ (fileAnswer text .number ≡ 0)
+  unfolding printed printedOf
+  begins-exactly = begins-when (fileAnswer text) (bookLine (priced s) (s .lines)) (ranked (priced s) (s .lines))
+
+  figures-printed : fileAnswer text .number ≡ 0 → PrintsFigures s (printed text)
+  unfolding printed printedOf
+  figures-printed e = record {
+    units = fileAnswer text .first;
+    cents = fileAnswer text .second;
+    keeps = subst (λ (n : ℕ). Demands s false false (answer n (fileAnswer text .first) (fileAnswer text .second))) e (accepted-least e);
+    lines = accepted-lines (fileAnswer text) (bookLine (priced s) (s .lines)) (ranked (priced s) (s .lines)) e
+        ∙ ap (λ (f : ℕ → List ℕ). marginLine (fileAnswer text) ++ flatMap f (ranked (priced s) (s .lines))) (λ i k. same-line s k i)
+        ∙ (unfold marginLine in refl);
+  }
+
+  promised : {before after : List ℕ} {r : ℕ} → Prints (printed text) before after r → PrintsFile text before after r × Within r after
+  promised p = (
+    record {
+      prints = p;
+      exactly = (λ b. accepted-when .0 (begins-exactly .0 b), λ h. begins-exactly .1 (accepted-when .1 h));
+      figures = λ b. figures-printed (begins-exactly .0 b);
+      order = all-ranked s;
+      only = read-exactly text .only;
+    },
+    prints-within p,
+  )
 
   module _ {d : Contents} (from-file : ReadsFile text d) where
-    pub refused-printed : {before after : List ℕ} {r : ℕ} → d .number ≢ 0 → Prints (refusalLine (answer (d .number) (d .place) 0)) before after r → PrintsFile text before after r
+    pub refused-printed : {before after : List ℕ} {r : ℕ} → d .number ≢ 0 → Prints (refusalLine (answer (d .number) (d .place) 0)) before after r → PrintsFile text before after r × Within r after
     unfolding printed printedOf printedLines
     refused-printed h p =
         let fault : fileFault text .number ≢ 0 = λ z. h (ap number (from-file .fault) ∙ z) in
         promised (rw (answer-refused fault, ← from-file .fault, ne-eqb (d .number) 0 h) p)
 
     pub judged-printed : {before after : List ℕ} {r : ℕ} (j : Judgement) → d .number ≡ 0 → Judges (submitted (d .book) (d .proposal)) j
-        → Prints (reportOf j (d .book .count)) before after r → PrintsFile text before after r
+        → Prints (reportOf j (d .book .count)) before after r → PrintsFile text before after r × Within r after
     unfolding printed submitted rowsOf
     judged-printed j z judges p =
         let read : submitted (d .book) (d .proposal) ≡ submissionIn text = from-file .submits ∙ rw z in

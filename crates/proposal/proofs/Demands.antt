@@ -1,5 +1,5 @@
 -- The outcome keeps what document 01 demands of the check's answer. Assumes nothing.
-use mathlib.Core.Path.{_≡_, refl, ap}
+use mathlib.Core.Path.{_≡_, refl, ap, _∙_}
 use mathlib.Core.Bool.{Bool, true, false, not, _&&_}
 use Prim.Native.Nat.{ℕ, _+_, _<_}
 use native.Mathlib.Omega.{arith}
@@ -8,16 +8,19 @@ use lib.ListN.{length}
 use borrow.Author.Tests.{ltb-false, le-ltb, eqb-true, eq-eqb, not-false}
 use Rattle.lists.proofs.Entries.{at-each}
 use Rattle.lists.proofs.Firsts.{none-first, first-of-none}
+use Rattle.lists.proofs.Tables.{length-to, getD-to}
+use Rattle.holding.proofs.Ranges.{row-kept}
 use Rattle.article.specs.Answer.{Answer}
+use Rattle.article.proofs.Article.{article}
 use Rattle.article.specs.Pair.{legOf, allowed}
 use Rattle.article.specs.declared.pair.Leg.{Leg}
 use Rattle.pairing.specs.Pairing.{savingRate, AllowedPair, IsPairing, Covers, Least}
 use Rattle.pairing.proofs.Least.{least}
-use Rattle.proposal.specs.Submission.{Submission, PricedBook, termsOf, priced, noLine}
-use Rattle.proposal.specs.Figures.{unitsOf}
+use Rattle.proposal.specs.Submission.{Submission, PricedBook, bookOf, termsOf, priced, noLine, holdingAt}
+use Rattle.proposal.specs.Figures.{remainder, margin, unitsOf, remaindersOf}
 use Rattle.proposal.specs.Outcome.{uncovered, totalsDiffer, faults, accepted, outcome}
-use Rattle.proposal.specs.Demands.{Limits, Acceptable, TermsOf, Demands}
-use Rattle.proposal.proofs.PricedBooks.{leg-at, value-at, fair}
+use Rattle.proposal.specs.Demands.{Limits, Acceptable, TermsOf, Remains, Demands}
+use Rattle.proposal.proofs.PricedBooks.{leg-at, value-at, book-in, holding-in-range, fair}
 use Rattle.proposal.proofs.Clear.{Clear, none-clear, clear-none, numbered}
 use Rattle.proposal.proofs.Limits.{limits, ranges-none}
 use Rattle.proposal.proofs.KeepsArticle.{none-fits, fits-none, all-within, pair-may, may-pair, fitting-keeps, keeps-fitting}
@@ -58,11 +61,23 @@ module _ (s : Submission) where
   terms : Limits s → (i j : ℕ) → i < length (s .rows) → j < length (s .rows) → TermsOf s i j
   unfolding termsOf legOf
   terms l i j p q = record {
+    numbers = unfold holdingAt in row-kept _ (l .ranges i p);
     value = value-at s i;
+    price = unfold priced bookOf in refl;
     rate = ap (λ (x : Leg). x .rate) (leg-at s i p);
     allowed = (pair-may s l i j p q, may-pair s l i j p q);
     pair-rate = rw (leg-at s i p, leg-at s j q);
+    pair = article .pairs (holdingAt s i) (holdingAt s j) (holding-in-range s l i p) (holding-in-range s l j q);
   }
+
+  remains : (k : ℕ) → k < length (s .rows) → Remains s k
+  unfolding remaindersOf margin legOf
+  remains k h =
+      let left = getD-to (priced s .count) (remainder (priced s) (s .lines)) k 0 (book-in s k h) in
+      record {
+        left = left ∙ (unfold remainder in rw (value-at s k));
+        units = rw (left, leg-at s k h);
+      }
 
 module _ (one two : Bool) (s : Submission) where
   clear-acceptable : Clear one two s → Acceptable s
@@ -109,6 +124,9 @@ module _ (one two : Bool) (s : Submission) where
       (λ a. unfold accepted in ap (λ (x : Answer). x .number) (clear-accepted (acceptable-clear (a .0 .0) (a .0 .1) (a .1)))),
     );
     cheapest = λ e. rw (as-accepted e) (units-least s (clear-acceptable (zero-clear e)));
+    count = unfold termsOf priced bookOf in refl;
     terms = terms s;
+    remainders = unfold remaindersOf priced bookOf in length-to (priced s .count) _;
+    remains = remains s;
     rounding = λ e. rw (as-accepted e) (unfold accepted in rounded (unitsOf (priced s) (s .lines)));
   }

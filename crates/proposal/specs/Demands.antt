@@ -3,18 +3,18 @@
 use mathlib.Core.Path.{_≡_}
 use mathlib.Core.Bool.{Bool, true, false}
 use mathlib.Core.Logic.{_↔_}
-use Prim.Native.Nat.{ℕ, _≤_, _<_}
+use Prim.Native.Nat.{ℕ, _-_, _*_, _≤_, _<_}
 use lib.ListN.{length, getD}
 use Rattle.lists.specs.Each.{Each}
-use Rattle.holding.specs.Holding.{Ranges}
+use Rattle.holding.specs.Holding.{Ranges, rowOf}
 use Rattle.article.specs.Answer.{Answer}
 use Rattle.article.specs.Rate.{rateOf}
 use Rattle.article.specs.Pair.{legOf, pairRateOf}
-use Rattle.article.specs.Article.{MayPair}
+use Rattle.article.specs.Article.{MayPair, Pairing}
 use Rattle.pairing.specs.Pairing.{used, saving, Covers, pricedTotal, Least}
 use Rattle.pairing.specs.declared.Line.{Line}
 use Rattle.proposal.specs.Submission.{Submission, termsOf, priced, noRow, holdingAt}
-use Rattle.proposal.specs.Figures.{RoundedUp}
+use Rattle.proposal.specs.Figures.{margin, remaindersOf, RoundedUp}
 
 module _ (s : Submission) where
   -- the limits: none of 3 to 10 holds
@@ -43,12 +43,22 @@ module _ (s : Submission) where
     pub covered : Covers (termsOf (priced s)) (priced s .price)
     pub totals : pricedTotal (termsOf (priced s)) (priced s .price) ≡ saving (termsOf (priced s)) (s .lines)
 
-  -- the terms of two holdings: each one's value and rate, whether they may be paired, and the pair's rate
+  -- the terms of two holdings of the book, and what the article says of them as a pair
   pub record TermsOf (i j : ℕ) : Type 0 where
+    -- the holding of a number has the numbers of its row, and its price stands at that number
+    pub numbers : rowOf (holdingAt s i) ≡ getD (s .rows) i noRow
     pub value : termsOf (priced s) .value i ≡ getD (s .rows) i noRow .value
+    pub price : priced s .price i ≡ getD (s .prices) i 0
     pub rate : termsOf (priced s) .rate i ≡ rateOf (holdingAt s i)
     pub allowed : (termsOf (priced s) .allowed i j ≡ true) ↔ MayPair (holdingAt s i) (holdingAt s j)
     pub pair-rate : termsOf (priced s) .pairRate i j ≡ pairRateOf (legOf (holdingAt s i)) (legOf (holdingAt s j))
+    -- the difference, the half sum and the saving of the two
+    pub pair : Pairing (holdingAt s i) (holdingAt s j)
+
+  -- a holding's remainder is its value less its amounts over all lines, and its margin the rate times that
+  pub record Remains (k : ℕ) : Type 0 where
+    pub left : getD (remaindersOf (priced s) (s .lines)) k 0 ≡ getD (s .rows) k noRow .value - used (s .lines) k
+    pub units : margin (priced s) (s .lines) k ≡ rateOf (holdingAt s k) * getD (remaindersOf (priced s) (s .lines)) k 0
 
   -- what an answer keeps; `one` and `two` say whether refusals 1 and 2 hold of what is lent
   pub record Demands (one two : Bool) (a : Answer) : Type 0 where
@@ -58,5 +68,9 @@ module _ (s : Submission) where
     pub cheapest : a .number ≡ 0 → Least (termsOf (priced s)) (s .lines) (a .first)
     -- accepted cents are the units rounded up once
     pub rounding : a .number ≡ 0 → RoundedUp (a .first) (a .second)
-    -- the terms that all this speaks of are the article's
+    -- the terms that all this speaks of are the book's own, by the article
+    pub count : termsOf (priced s) .count ≡ length (s .rows)
     pub terms : Limits → (i j : ℕ) → i < length (s .rows) → j < length (s .rows) → TermsOf i j
+    -- there is a remainder for each holding
+    pub remainders : length (remaindersOf (priced s) (s .lines)) ≡ length (s .rows)
+    pub remains : (k : ℕ) → k < length (s .rows) → Remains k
