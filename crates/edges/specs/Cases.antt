@@ -1,0 +1,176 @@
+-- A worked case, and the kinds of them: from raw numbers, from lines, from the bytes of a file to the bytes that are printed. Assumes nothing.
+use mathlib.Core.Path.{_≡_}
+use mathlib.Core.Bool.{Bool, true, false, cond, not}
+use mathlib.Core.List.{List, [], _∷_, _++_}
+use Prim.Native.Nat.{ℕ}
+use Prim.Native.String.{String}
+use lib.Dec.{eqb}
+use Rattle.lists.specs.Choice.{same, firstOf}
+use Rattle.lists.specs.Texts.{ascii}
+use Rattle.words.specs.Words.{decode, encode}
+use Rattle.holding.specs.Holding.{faultOf, holdingOf}
+use Rattle.holding.specs.declared.Row.{Row}
+use Rattle.article.specs.Answer.{Answer, answer}
+use Rattle.article.specs.Rate.{rateOf}
+use Rattle.article.specs.Pair.{legOf, pairOf}
+use Rattle.pairing.specs.declared.Line.{Line}
+use Rattle.proposal.specs.Submission.{Submission, bookOf, priced}
+use Rattle.proposal.specs.Figures.{remainder, margin, unitsOf, remaindersOf, ranked, centsOf}
+use Rattle.proposal.specs.Outcome.{outcome}
+use Rattle.codes.specs.Codes.{placeOf}
+use Rattle.csv.specs.Bytes.{isText, isQuotable}
+use Rattle.layout.specs.Sorts.{byPlace, valueOf}
+use Rattle.layout.specs.Layout.{letters}
+use Rattle.layout.specs.declared.Sort.{Sort}
+use Rattle.layout.specs.declared.Value.{Value}
+use Rattle.layout.specs.declared.Value.the-variants.{Of, Wrong}
+use Rattle.layout.specs.declared.Parsed.{Parsed}
+use Rattle.reader.specs.File.{atRecord}
+use Rattle.printing.specs.Printed.{printed}
+
+-- a case: its name, what is computed, and what is stated of it
+pub record Case : Type 0 where
+  pub name : String
+  pub computed : List ℕ
+  pub stated : List ℕ
+
+abbrev pub Holds : Case → Type 0
+Holds c = c .computed ≡ c .stated
+
+-- the names of the cases that do not hold
+unfoldable pub failing : List Case → List String
+failing [] = []
+failing (c ∷ cs) = cond (same (c .computed) (c .stated)) (failing cs) (c .name ∷ failing cs)
+
+-- a row by itself: its first fault, or 0 and its rate
+unfoldable pub alone : Row → List ℕ
+alone r = cond (eqb (faultOf r) 0) (0 ∷ rateOf (holdingOf r) ∷ []) (faultOf r ∷ [])
+
+-- a row as the long and a row as the short: the first fault of either, or 13, or 0 with the pair's rate and the saving rate
+unfoldable pub together : Row → Row → List ℕ
+together l s =
+    let found = pairOf (legOf (holdingOf l)) (legOf (holdingOf s)) in
+    firstOf
+    ((not (eqb (faultOf l) 0), faultOf l ∷ [])
+    ∷ (not (eqb (faultOf s) 0), faultOf s ∷ [])
+    ∷ (not (eqb (found .number) 0), found .number ∷ [])
+    ∷ [])
+    (0 ∷ found .first ∷ found .second ∷ [])
+
+-- an answer's number and values
+abbrev numbersOf : Answer → List ℕ
+numbersOf a = a .number ∷ a .first ∷ a .second ∷ []
+
+-- a book with its prices and lines, and whether 1 and 2 hold of what is lent: the answer, and after an accepted one the remainders and the
+-- ranking
+unfoldable pub judged : Bool → Bool → List Row → List ℕ → List Line → List ℕ
+judged one two rows prices lines =
+    let s : Submission = record { rows = rows; prices = prices; lines = lines } in
+    let a = outcome one two s in
+    numbersOf a ++ cond (eqb (a .number) 0) (remaindersOf (priced s) lines ++ ranked (priced s) lines) []
+
+-- what lines make of a book, accepted or not: units and cents, and of holding 0 the remainder and its units
+unfoldable pub worked : List Row → List Line → List ℕ
+worked rows lines =
+    let b = bookOf rows [] in
+    unitsOf b lines ∷ centsOf (unitsOf b lines) ∷ remainder b lines 0 ∷ margin b lines 0 ∷ []
+
+-- a value, or none
+abbrev valued : Value → List ℕ
+valued (Of n) = n ∷ []
+valued Wrong = []
+
+-- 1 for yes, 0 for no
+abbrev flag : Bool → ℕ
+flag b = cond b 1 0
+
+abbrev pub rate : String → Row → ℕ → Case
+rate name r n = record { name = name; computed = alone r; stated = 0 ∷ n ∷ [] }
+
+abbrev pub fault : String → Row → ℕ → Case
+fault name r n = record { name = name; computed = alone r; stated = n ∷ [] }
+
+abbrev pub pair : String → Row → Row → ℕ → ℕ → Case
+pair name l s n saving = record { name = name; computed = together l s; stated = 0 ∷ n ∷ saving ∷ [] }
+
+abbrev pub no-pair : String → Row → Row → ℕ → Case
+no-pair name l s n = record { name = name; computed = together l s; stated = n ∷ [] }
+
+abbrev pub proposal : String → List Row → List ℕ → List Line → List ℕ → Case
+proposal name rows prices lines expected = record { name = name; computed = judged false false rows prices lines; stated = expected }
+
+abbrev pub lent : String → Bool → Bool → List Row → List Line → List ℕ → Case
+lent name one two rows lines expected = record { name = name; computed = judged one two rows [] lines; stated = expected }
+
+abbrev pub figures : String → List Row → List Line → List ℕ → Case
+figures name rows lines expected = record { name = name; computed = worked rows lines; stated = expected }
+
+abbrev pub prints : String → String → String → Case
+prints name text expected = record { name = name; computed = printed (ascii text); stated = ascii expected }
+
+-- the same of a text that is given as its bytes
+abbrev pub prints-bytes : String → List ℕ → String → Case
+prints-bytes name text expected = record { name = name; computed = printed text; stated = ascii expected }
+
+-- the refusal of a record among those that are parsed, with its place
+abbrev pub record-at : String → List Parsed → ℕ → List ℕ → Case
+record-at name parsed n expected = record { name = name; computed = numbersOf (firstOf (atRecord parsed n) (answer 0 0 0)); stated = expected }
+
+-- the number of a text of a sort, or none
+abbrev pub code : String → Sort → String → List ℕ → Case
+code name sort text expected = record { name = name; computed = valued (valueOf sort (ascii text)); stated = expected }
+
+-- the number of a record's letter, or none
+abbrev pub letter : String → String → List ℕ → Case
+letter name text expected = record { name = name; computed = valued (byPlace (placeOf (ascii text) letters)); stated = expected }
+
+-- a byte: whether it is TEXTDATA, and whether it may stand in quotes as it is
+abbrev pub byte : String → ℕ → ℕ → ℕ → Case
+byte name b text quotable = record { name = name; computed = flag (isText b) ∷ flag (isQuotable b) ∷ []; stated = text ∷ quotable ∷ [] }
+
+-- the numbers in bytes, and the bytes of numbers
+abbrev pub decodes : String → List ℕ → List ℕ → Case
+decodes name bytes numbers = record { name = name; computed = decode bytes; stated = numbers }
+
+abbrev pub encodes : String → List ℕ → List ℕ → Case
+encodes name numbers bytes = record { name = name; computed = encode numbers; stated = bytes }
+
+-- long, short, amount
+abbrev pub line : ℕ → ℕ → ℕ → Line
+line long short amount = record { long = long; short = short; amount = amount }
+
+-- side, kind, issuer, days, value
+abbrev pub row : ℕ → ℕ → ℕ → ℕ → ℕ → Row
+row side kind issuer days value = record { side = side; kind = kind; issuer = issuer; days = days; value = value }
+
+-- the letters and codes of the file's fields
+abbrev pub L : ℕ
+L = 0
+
+abbrev pub S : ℕ
+S = 1
+
+abbrev pub B : ℕ
+B = 0
+
+abbrev pub C : ℕ
+C = 1
+
+abbrev pub R : ℕ
+R = 2
+
+abbrev pub CA : ℕ
+CA = 0
+
+abbrev pub ON : ℕ
+ON = 7
+
+abbrev pub QC : ℕ
+QC = 9
+
+-- the file's book, and its lines by the first amount
+abbrev pub file : List Row
+file = row L C CA 2000 1000000 ∷ row S B CA 2000 600000 ∷ row S R ON 2000 300000 ∷ []
+
+abbrev pub file-lines : ℕ → List Line
+file-lines amount = line 0 1 amount ∷ line 0 2 300000 ∷ []

@@ -1,0 +1,242 @@
+-- Document 01, "Edges" without a star, "Shortcuts that cost margin or hide it", each refusal with its place, and each letter, code and byte of
+-- the file. Assumes nothing.
+use mathlib.Core.Bool.{true, false}
+use mathlib.Core.List.{List, [], _∷_, _++_}
+use Prim.Native.Nat.{ℕ}
+use lib.ListN.{replicate}
+use Rattle.holding.specs.declared.Row.{Row}
+use Rattle.layout.specs.declared.Sort.the-variants.{Side, Kind, Issuer}
+use Rattle.layout.specs.declared.Parsed.{Parsed}
+use Rattle.layout.specs.declared.Parsed.the-variants.{Holding, Line as Lined}
+use Rattle.edges.specs.Cases.{Case, rate, fault, pair, no-pair, proposal, lent, figures, prints, prints-bytes, record-at, code, letter, byte, decodes, encodes, line, row, L, S, B, C, R, CA, ON, QC, file, file-lines}
+
+-- the book of "Largest saving first", and prices that cover it
+abbrev four : List Row
+four = row L C ON 2000 1000 ∷ row L B ON 2000 1000 ∷ row S C ON 2000 1000 ∷ row S B ON 2000 1000 ∷ []
+
+abbrev four-prices : List ℕ
+four-prices = 8760 ∷ 2920 ∷ 8760 ∷ 2920 ∷ []
+
+-- a coupon and a bond of 1 day, by their values
+abbrev two : ℕ → ℕ → List Row
+two a b = row L C CA 1 a ∷ row S B CA 1 b ∷ []
+
+-- two bonds, which do not pair
+abbrev bonds : List Row
+bonds = row L B CA 1 2 ∷ row S B CA 1 2 ∷ []
+
+-- an H and a P as parsed
+abbrev holding : Parsed
+holding = Holding (row L B CA 1 1) 0
+
+abbrev pairing : Parsed
+pairing = Lined (line 0 0 1)
+
+-- one holding, one pair
+unfoldable pub single : List Case
+single =
+    -- 0 or 36,501 days: 7. Value 100,000,000,001: 8
+    fault "0 days" (row L R ON 0 100) 7
+    ∷ fault "36,501 days" (row L R ON 36501 100) 7
+    ∷ fault "value 100,000,000,001" (row L B CA 1 100000000001) 8
+    ∷ rate "value 100,000,000,000" (row L B CA 1 100000000000) 4
+    -- each range by itself, at its ends, and the first of several
+    ∷ fault "side 2" (row 2 B CA 1 1) 4
+    ∷ fault "kind 3" (row L 3 CA 1 1) 5
+    ∷ fault "issuer 11" (row L B 11 1 1) 6
+    ∷ fault "value 0" (row L B CA 1 0) 8
+    ∷ rate "side 1, kind 2, issuer 10" (row 1 2 10 1 1) 12
+    ∷ fault "side before kind, issuer, days and value" (row 2 3 11 0 0) 4
+    ∷ fault "kind before issuer, days and value" (row L 3 11 0 0) 5
+    ∷ fault "issuer before days and value" (row L B 11 0 0) 6
+    ∷ fault "days before value" (row L B CA 0 0) 7
+    -- the rates on both sides of 4,015 days agree, and do not pair
+    ∷ rate "Canada coupon 4,015 days" (row L C CA 4015 100) 8760
+    ∷ rate "Canada coupon 4,016 days" (row S C CA 4016 100) 8760
+    ∷ rate "Canada bond 1 day" (row L B CA 1 1) 4
+    -- "Largest saving first": coupon with coupon pairs at 0, a coupon with the other side's bond at 2,920
+    ∷ pair "largest saving first: coupon with coupon" (row L C ON 2000 1000) (row S C ON 2000 1000) 0 17520
+    ∷ pair "largest saving first: long coupon with short bond" (row L C ON 2000 1000) (row S B ON 2000 1000) 2920 11680
+    ∷ pair "largest saving first: long bond with short coupon" (row L B ON 2000 1000) (row S C ON 2000 1000) 2920 11680
+    -- the saving rates of the file's two pairs, its prices, and the highest there is
+    ∷ pair "the file's first pair" (row L C CA 2000 1000000) (row S B CA 2000 600000) 1460 5840
+    ∷ pair "the file's second pair" (row L C CA 2000 1000000) (row S R ON 2000 300000) 6570 6570
+    ∷ pair "the highest saving rate" (row L R ON 36500 100) (row S R QC 7300 100) 0 43800
+    -- the legs the wrong way round; a row with a fault is in no pair
+    ∷ no-pair "the legs the wrong way round" (row S C ON 2000 1000) (row L C ON 2000 1000) 13
+    ∷ no-pair "a pair with a row at fault" (row L C ON 2000 1000) (row S C 11 2000 1000) 6
+    ∷ []
+
+-- the file with its third price 6,569: 16 at 0, 2; from its numbers and from its bytes
+unfoldable pub thirdPrice : List Case
+thirdPrice =
+    proposal "third price 6,569, from the numbers" file (0 ∷ 5840 ∷ 6569 ∷ []) (file-lines 600000) (16 ∷ 0 ∷ 2 ∷ [])
+    ∷ prints
+    "third price 6,569"
+    "H,L,C,CA,2000,1000000,0\r\nH,S,B,CA,2000,600000,5840\r\nH,S,R,ON,2000,300000,6569\r\nP,0,1,600000,,,\r\nP,0,2,300000,,,\r\n"
+    "X,16,0,2\r\n"
+    ∷ []
+
+-- with its first price 1: 17
+unfoldable pub firstPrice : List Case
+firstPrice =
+    proposal "first price 1, from the numbers" file (1 ∷ 5840 ∷ 6570 ∷ []) (file-lines 600000) (17 ∷ 0 ∷ 0 ∷ [])
+    ∷ prints
+    "first price 1"
+    "H,L,C,CA,2000,1000000,1\r\nH,S,B,CA,2000,600000,5840\r\nH,S,R,ON,2000,300000,6570\r\nP,0,1,600000,,,\r\nP,0,2,300000,,,\r\n"
+    "X,17,0,0\r\n"
+    ∷ []
+
+-- with its first amount 600,001: 15
+unfoldable pub firstAmount : List Case
+firstAmount =
+    proposal "first amount 600,001, from the numbers" file (0 ∷ 5840 ∷ 6570 ∷ []) (file-lines 600001) (15 ∷ 0 ∷ 0 ∷ [])
+    ∷ prints
+    "first amount 600,001"
+    "H,L,C,CA,2000,1000000,0\r\nH,S,B,CA,2000,600000,5840\r\nH,S,R,ON,2000,300000,6570\r\nP,0,1,600001,,,\r\nP,0,2,300000,,,\r\n"
+    "X,15,0,0\r\n"
+    ∷ []
+
+-- 18 longer than 65,536 bytes, whatever it holds
+unfoldable pub tooLong : List Case
+tooLong =
+    prints-bytes "65,537 commas" (replicate 65537 0x2C) "X,18,0,0\r\n"
+    ∷ []
+
+-- from the bytes of a file to the bytes that are printed
+unfoldable pub files : List Case
+files =
+    -- the last CRLF is optional, and a quoted field is its text
+    prints
+    "quotes, and no CRLF at the end"
+    "H,\"L\",C,CA,1,1,0\r\nH,S,\"B\",CA,1,1,8\r\nP,0,1,1,\"\",,"
+    "M,2,1\r\nR,0,0,0\r\nR,1,0,0\r\n"
+    -- 0 or 36,501 days: 7. Value 100,000,000,001: 8
+    ∷ prints "a file with 0 days" "H,L,R,ON,0,100,0\r\n" "X,7,0,0\r\n"
+    ∷ prints "a file with 36,501 days" "H,L,R,ON,36501,100,0\r\n" "X,7,0,0\r\n"
+    ∷ prints "a file with value 100,000,000,001" "H,L,B,CA,1,100000000001,0\r\n" "X,8,0,0\r\n"
+    -- an empty file is the empty book, for which M,0,0 is printed alone; a lone CRLF is a record of one field
+    ∷ prints "the empty file" "" "M,0,0\r\n"
+    ∷ prints "a lone CRLF" "\r\n" "X,20,0,0\r\n"
+    -- 19 a bare line feed; 21 a leading zero; 22 H after P, each at its record
+    ∷ prints "a bare line feed" "H,L,B,CA,1,1,0\r\nH,L,B,CA,1,1,0\n" "X,19,1,0\r\n"
+    ∷ prints "a leading zero" "H,L,B,CA,1,1,0\r\nH,L,B,CA,01,1,0\r\n" "X,21,1,0\r\n"
+    ∷ prints "H after P" "H,L,B,CA,1,1,0\r\nP,0,0,1,,,\r\nH,L,B,CA,1,1,0\r\n" "X,22,2,0\r\n"
+    ∷ []
+
+-- one record too many: the reader's 3 and 9 name no place, and 22 comes before 3
+unfoldable pub tooMany : List Case
+tooMany =
+    record-at "a 257th holding in a file" (replicate 257 holding) 256 (3 ∷ 0 ∷ 0 ∷ [])
+    ∷ record-at "a 513th line in a file" (holding ∷ replicate 513 pairing) 513 (9 ∷ 0 ∷ 0 ∷ [])
+    ∷ record-at "a 257th holding after a line" (replicate 256 holding ++ (pairing ∷ holding ∷ [])) 257 (22 ∷ 257 ∷ 0 ∷ [])
+    ∷ record-at "the 256th holding" (replicate 256 holding) 255 (0 ∷ 0 ∷ 0 ∷ [])
+    ∷ record-at "the 512th line" (replicate 512 pairing) 511 (0 ∷ 0 ∷ 0 ∷ [])
+    ∷ []
+
+-- the letters and codes of the file, each with its number, and texts that are none; TEXTDATA at its ends; numbers as bytes
+unfoldable pub texts : List Case
+texts =
+    letter "letter H" "H" (0 ∷ [])
+    ∷ letter "letter P" "P" (1 ∷ [])
+    ∷ letter "letter h is none" "h" []
+    ∷ letter "letter D is none" "D" []
+    ∷ code "side L" Side "L" (0 ∷ [])
+    ∷ code "side S" Side "S" (1 ∷ [])
+    ∷ code "side s is none" Side "s" []
+    ∷ code "kind B" Kind "B" (0 ∷ [])
+    ∷ code "kind C" Kind "C" (1 ∷ [])
+    ∷ code "kind R" Kind "R" (2 ∷ [])
+    ∷ code "kind c is none" Kind "c" []
+    ∷ code "kind M is none" Kind "M" []
+    ∷ code "issuer CA" Issuer "CA" (0 ∷ [])
+    ∷ code "issuer AB" Issuer "AB" (1 ∷ [])
+    ∷ code "issuer BC" Issuer "BC" (2 ∷ [])
+    ∷ code "issuer MB" Issuer "MB" (3 ∷ [])
+    ∷ code "issuer NB" Issuer "NB" (4 ∷ [])
+    ∷ code "issuer NL" Issuer "NL" (5 ∷ [])
+    ∷ code "issuer NS" Issuer "NS" (6 ∷ [])
+    ∷ code "issuer ON" Issuer "ON" (7 ∷ [])
+    ∷ code "issuer PE" Issuer "PE" (8 ∷ [])
+    ∷ code "issuer QC" Issuer "QC" (9 ∷ [])
+    ∷ code "issuer SK" Issuer "SK" (10 ∷ [])
+    ∷ code "issuer YT is none" Issuer "YT" []
+    ∷ code "issuer NT is none" Issuer "NT" []
+    ∷ code "issuer NU is none" Issuer "NU" []
+    ∷ code "issuer ca is none" Issuer "ca" []
+    ∷ code "issuer C is none" Issuer "C" []
+    ∷ code "issuer CAA is none" Issuer "CAA" []
+    ∷ code "the empty text is no issuer" Issuer "" []
+    ∷ byte "0x09, a tab" 0x09 0 0
+    ∷ byte "0x0A, LF" 0x0A 0 1
+    ∷ byte "0x0D, CR" 0x0D 0 1
+    ∷ byte "0x1F" 0x1F 0 0
+    ∷ byte "0x20, a space" 0x20 1 1
+    ∷ byte "0x21" 0x21 1 1
+    ∷ byte "0x22, the quote" 0x22 0 0
+    ∷ byte "0x23" 0x23 1 1
+    ∷ byte "0x2B" 0x2B 1 1
+    ∷ byte "0x2C, the comma" 0x2C 0 1
+    ∷ byte "0x2D" 0x2D 1 1
+    ∷ byte "0x7E" 0x7E 1 1
+    ∷ byte "0x7F, DEL" 0x7F 0 0
+    ∷ byte "0x80" 0x80 0 0
+    ∷ decodes "eight bytes, the lowest first, and five more" (1 ∷ 2 ∷ 0 ∷ 0 ∷ 0 ∷ 0 ∷ 0 ∷ 3 ∷ 9 ∷ 9 ∷ 9 ∷ 9 ∷ 9 ∷ []) (216172782113784321 ∷ [])
+    ∷ encodes "a number in eight bytes" (216172782113784321 ∷ []) (1 ∷ 2 ∷ 0 ∷ 0 ∷ 0 ∷ 0 ∷ 0 ∷ 3 ∷ [])
+    ∷ []
+
+-- books and proposals from their numbers
+unfoldable pub proposals : List Case
+proposals =
+    -- the empty book, and a line on it
+    proposal "the empty book" [] [] [] (0 ∷ 0 ∷ 0 ∷ [])
+    ∷ proposal "a line on the empty book" [] [] (line 0 0 1 ∷ []) (11 ∷ 0 ∷ 0 ∷ [])
+    -- "Largest saving first": each coupon with the other side's bond gives 40 cents; coupon with coupon, which gives 80, is refused
+    ∷ proposal "largest saving first: each coupon with the other side's bond" four four-prices (line 0 3 1000 ∷ line 1 2 1000 ∷ []) (0 ∷ 5840000 ∷ 40 ∷ 0 ∷ 0 ∷ 0 ∷ 0 ∷ 0 ∷ 1 ∷ 2 ∷ 3 ∷ [])
+    ∷ figures "largest saving first: coupon with coupon gives 80 cents" four (line 0 2 1000 ∷ []) (11680000 ∷ 80 ∷ 0 ∷ 0 ∷ [])
+    ∷ proposal "largest saving first: coupon with coupon is refused" four four-prices (line 0 2 1000 ∷ []) (17 ∷ 0 ∷ 0 ∷ [])
+    -- "Testing cover on the proposed lines only": the line is covered, the pair of 0 and 3 in no line is not
+    ∷ proposal "cover on the proposed lines only" four (8760 ∷ 0 ∷ 8760 ∷ 0 ∷ []) (line 0 2 1000 ∷ []) (16 ∷ 0 ∷ 3 ∷ [])
+    -- "Pairing across 4,015 days because the rates agree"
+    ∷ proposal "pairing across 4,015 days" (row L C CA 4015 100 ∷ row S C CA 4016 100 ∷ []) (8760 ∷ 8760 ∷ []) (line 0 1 100 ∷ []) (13 ∷ 0 ∷ 0 ∷ [])
+    -- "Rounding each line": two lines of 2 units are 4 units, 1 cent and not 2
+    ∷ proposal "rounding each line" (two 2 2) (8 ∷ 0 ∷ []) (line 0 1 1 ∷ line 0 1 1 ∷ []) (0 ∷ 4 ∷ 1 ∷ 0 ∷ 0 ∷ 0 ∷ 1 ∷ [])
+    -- each holding has its own price: prices of 8 and 0 cover, 0 and 8 cover at another total
+    ∷ proposal "the prices exchanged" (two 2 1) (0 ∷ 8 ∷ []) (line 0 1 1 ∷ []) (0 ∷ 8 ∷ 1 ∷ 1 ∷ 0 ∷ 0 ∷ 1 ∷ [])
+    ∷ proposal "the price on the larger holding" (two 2 1) (8 ∷ 0 ∷ []) (line 0 1 1 ∷ []) (17 ∷ 0 ∷ 0 ∷ [])
+    -- 16 goes by the lowest long, then by the lowest short
+    ∷ proposal "16 at the lowest long, then the lowest short" (row S C ON 2000 1000 ∷ row L C ON 2000 1000 ∷ row S C ON 2000 1000 ∷ row L C ON 2000 1000 ∷ []) (0 ∷ 0 ∷ 0 ∷ 0 ∷ []) [] (16 ∷ 1 ∷ 0 ∷ [])
+    -- the ranking: larger margin first, a tie by lower number
+    ∷ proposal "the ranking" (row L B CA 1 1 ∷ row L B CA 1 3 ∷ row L B CA 1 1 ∷ row L B CA 1 4 ∷ []) (0 ∷ 0 ∷ 0 ∷ 0 ∷ []) [] (0 ∷ 36 ∷ 1 ∷ 1 ∷ 3 ∷ 1 ∷ 4 ∷ 3 ∷ 1 ∷ 0 ∷ 2 ∷ [])
+    ∷ []
+
+-- the refusals of lines, each with its place, and the order of all refusals
+unfoldable pub refusals : List Case
+refusals =
+    -- each refusal of a line, and its place
+    proposal "11 at line 1" (two 2 2) (8 ∷ 0 ∷ []) (line 0 1 1 ∷ line 0 2 1 ∷ []) (11 ∷ 1 ∷ 0 ∷ [])
+    ∷ proposal "12 at line 1" (two 2 2) (8 ∷ 0 ∷ []) (line 0 1 1 ∷ line 1 0 1 ∷ []) (12 ∷ 1 ∷ 0 ∷ [])
+    ∷ proposal "14 at line 1" (two 2 2) (8 ∷ 0 ∷ []) (line 0 1 1 ∷ line 0 1 0 ∷ []) (14 ∷ 1 ∷ 0 ∷ [])
+    ∷ proposal "15 at line 1" (two 2 2) (8 ∷ 0 ∷ []) (line 0 1 1 ∷ line 0 1 2 ∷ []) (15 ∷ 1 ∷ 0 ∷ [])
+    ∷ proposal "15 for the largest amount" (two 2 1) (8 ∷ 0 ∷ []) (line 0 1 18446744073709551615 ∷ []) (15 ∷ 0 ∷ 0 ∷ [])
+    -- the first of several on one line: 11 before 12, 12 before 14, 13 before 14 and 15; 15 before 16, 16 before 17
+    ∷ proposal "11 before 12" (two 2 2) (8 ∷ 0 ∷ []) (line 2 0 1 ∷ []) (11 ∷ 0 ∷ 0 ∷ [])
+    ∷ proposal "12 before 14" (two 2 2) (8 ∷ 0 ∷ []) (line 1 0 0 ∷ []) (12 ∷ 0 ∷ 0 ∷ [])
+    ∷ proposal "13 before 14" bonds (0 ∷ 0 ∷ []) (line 0 1 0 ∷ []) (13 ∷ 0 ∷ 0 ∷ [])
+    ∷ proposal "13 before 15" bonds (0 ∷ 0 ∷ []) (line 0 1 5 ∷ []) (13 ∷ 0 ∷ 0 ∷ [])
+    ∷ proposal "15 before 16" (two 2 2) (0 ∷ 0 ∷ []) (line 0 1 3 ∷ []) (15 ∷ 0 ∷ 0 ∷ [])
+    ∷ proposal "16 before 17" (two 2 2) (0 ∷ 0 ∷ []) (line 0 1 1 ∷ []) (16 ∷ 0 ∷ 1 ∷ [])
+    -- a holding is finished before the next, its value before its price; holdings come before lines
+    ∷ proposal "8 before 10, and holdings before lines" (two 2 0) (8 ∷ 43801 ∷ []) (line 0 2 1 ∷ []) (8 ∷ 1 ∷ 0 ∷ [])
+    ∷ proposal "a holding is finished before the next" (two 2 0) (43801 ∷ 0 ∷ []) (line 0 2 1 ∷ []) (10 ∷ 0 ∷ 0 ∷ [])
+    -- 257 holdings: 3; 513 lines: 9; both: 3
+    ∷ proposal "257 holdings" (replicate 257 (row L B CA 1 1)) [] [] (3 ∷ 0 ∷ 0 ∷ [])
+    ∷ proposal "513 lines" [] [] (replicate 513 (line 0 0 1)) (9 ∷ 0 ∷ 0 ∷ [])
+    ∷ proposal "257 holdings and 513 lines" (replicate 257 (row 2 B CA 1 1)) [] (replicate 513 (line 0 0 1)) (3 ∷ 0 ∷ 0 ∷ [])
+    -- 1, 3, 9, 2, and then the holdings
+    ∷ lent "1 before 3, 9, 2 and 4" true true (replicate 257 (row 2 B CA 1 1)) (replicate 513 (line 0 0 1)) (1 ∷ 0 ∷ 0 ∷ [])
+    ∷ lent "3 before 9, 2 and 4" false true (replicate 257 (row 2 B CA 1 1)) (replicate 513 (line 0 0 1)) (3 ∷ 0 ∷ 0 ∷ [])
+    ∷ lent "9 before 2 and 4" false true (row 2 B CA 1 1 ∷ []) (replicate 513 (line 0 0 1)) (9 ∷ 0 ∷ 0 ∷ [])
+    ∷ lent "2 before 4" false true (row 2 B CA 1 1 ∷ []) (line 0 0 1 ∷ []) (2 ∷ 0 ∷ 0 ∷ [])
+    ∷ lent "4 before 11" false false (row 2 B CA 1 1 ∷ []) (line 0 0 1 ∷ []) (4 ∷ 0 ∷ 0 ∷ [])
+    ∷ []
