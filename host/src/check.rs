@@ -1,86 +1,126 @@
-//! The check on columns of numbers, with its answer as a `Result`.
+//! The check with its answer as a `Result`: on a book and a proposal, and on columns of numbers.
 
-use crate::raw::{self, Columns};
-use crate::{Holding, Refusal};
-
-/// The columns of a book: entry `i` of each describes holding `i`.
-#[derive(Clone, Copy, Debug)]
-pub struct Book<'a> {
-    /// 0 long, 1 short.
-    pub side: &'a [u64],
-    /// 0 bond or debenture, 1 stripped coupon, 2 residual.
-    pub kind: &'a [u64],
-    /// 0 Canada, 1 to 10 a province in the order AB BC MB NB NL NS ON PE QC SK.
-    pub issuer: &'a [u64],
-    /// Days to maturity, 1 to 36,500.
-    pub days: &'a [u64],
-    /// Market value in cents, 1 to 100,000,000,000.
-    pub value: &'a [u64],
-}
-
-impl Book<'_> {
-    /// The holding with this number, which all columns have.
-    pub fn holding(&self, number: usize) -> Holding {
-        Holding {
-            side: self.side[number],
-            kind: self.kind[number],
-            issuer: self.issuer[number],
-            days: self.days[number],
-            value: self.value[number],
-        }
-    }
-}
-
-/// The columns of a proposal: a price for each holding, and the lines.
-#[derive(Clone, Copy, Debug)]
-pub struct Proposal<'a> {
-    /// The price on each holding, 0 to 43,800.
-    pub price: &'a [u64],
-    /// The long of each line.
-    pub long: &'a [u64],
-    /// The short of each line.
-    pub short: &'a [u64],
-    /// The amount of each line in cents, 1 or more.
-    pub amount: &'a [u64],
-}
+use crate::{Book, Columns, Proposal, Refusal, raw};
 
 /// The figures of an accepted proposal.
-#[derive(Clone, Copy, Debug, PartialEq, Eq)]
-pub struct Accepted {
+#[derive(Clone, Copy, Debug, Default, PartialEq, Eq, Hash, PartialOrd, Ord)]
+pub struct Figures {
     /// Total margin in units of 1/146,000 cent.
     pub units: u64,
     /// Total margin in cents, rounded up once.
     pub cents: u64,
 }
 
+/// What the check says to an accepted proposal.
+#[derive(Clone, Debug, Default, PartialEq, Eq, Hash)]
+pub struct Accepted {
+    /// The least margin of the book.
+    pub figures: Figures,
+    /// What the lines leave of each holding's value, in cents.
+    pub remainder: Vec<u64>,
+    /// The holding numbers by margin of the remainder, largest first, ties by lower number.
+    pub ranking: Vec<u64>,
+}
+
 /// Checks a proposal on a book.
-///
-/// On acceptance the first entries of `remainder` and `ranking`, one for each holding, are written: what
-/// the lines leave of each holding's value, and the holding numbers by margin of the remainder, largest
-/// first. Entries past them, and on a refusal both lists, are kept.
 ///
 /// The call needs about 126 KB of stack, whatever the size of the book: when tried, a thread of 120 KiB
 /// aborted and one of 128 KiB passed. The tests call it on one of 256 KiB.
 ///
 /// # Errors
 ///
-/// The first refusal in the paper's order.
-pub fn check(
-    book: &Book<'_>,
-    proposal: &Proposal<'_>,
+/// The first refusal in the check's order; 1 where there is not a price for each holding.
+///
+/// # Panics
+///
+/// If the linked archive breaks the contract that was proved, as only another archive can.
+///
+/// # Examples
+///
+/// ```
+/// use margin_host::{Book, Holding, Issuer, Kind, Line, Proposal, Refusal, Side, check};
+///
+/// let coupon = Holding {
+///     side: Side::Long,
+///     kind: Kind::Coupon,
+///     issuer: Issuer::Ontario,
+///     days: 2_000,
+///     value: 1_000,
+/// };
+/// let residual = Holding { side: Side::Short, kind: Kind::Residual, value: 400, ..coupon };
+/// let book = Book::new([coupon, residual]);
+/// let mut proposal = Proposal::new([0, 17_520], [Line { long: 0, short: 1, amount: 400 }]);
+/// let accepted = check(&book, &proposal)?;
+/// assert_eq!(accepted.figures.cents, 36);
+/// assert_eq!((accepted.remainder, accepted.ranking), (vec![600, 0], vec![0, 1]));
+///
+/// proposal.lines[0].amount = 401;
+/// assert_eq!(check(&book, &proposal), Err(Refusal::AmountAboveRemainder { line: 0 }));
+/// # Ok::<(), Refusal>(())
+/// ```
+pub fn check(book: &Book, proposal: &Proposal) -> Result<Accepted, Refusal> {
+    let count = book.holdings.len();
+    let (mut remainder, mut ranking) = (vec![0; count], vec![0; count]);
+    let columns = Columns::of(book, proposal);
+    let figures = check_columns(&columns, &mut remainder, &mut ranking)?;
+    Ok(Accepted {
+        figures,
+        remainder,
+        ranking,
+    })
+}
+
+/// Checks columns of numbers, in place and whatever they hold.
+///
+/// On acceptance the first entries of `remainder` and `ranking`, one for each holding, are written, as in
+/// [`Accepted`]. Entries past them, and on a refusal both lists, are kept. It needs as much stack as
+/// [`check()`].
+///
+/// # Errors
+///
+/// The first refusal in the check's order.
+///
+/// # Panics
+///
+/// If the linked archive breaks the contract that was proved, as only another archive can.
+///
+/// # Examples
+///
+/// ```
+/// use margin_host::{Columns, Figures, Refusal, check_columns};
+///
+/// let mut columns: Columns<&[u64]> = Columns {
+///     side: &[0, 1],
+///     kind: &[1, 2],
+///     issuer: &[7, 9],
+///     days: &[2_000, 2_000],
+///     value: &[1_000, 400],
+///     price: &[0, 17_520],
+///     long: &[0],
+///     short: &[1],
+///     amount: &[400],
+/// };
+/// let (mut remainder, mut ranking) = ([0; 2], [0; 2]);
+/// let figures = check_columns(&columns, &mut remainder, &mut ranking);
+/// assert_eq!(figures, Ok(Figures { units: 5_256_000, cents: 36 }));
+/// assert_eq!((remainder, ranking), ([600, 0], [0, 1]));
+///
+/// columns.issuer = &[7, 11];
+/// let refused = check_columns(&columns, &mut remainder, &mut ranking);
+/// assert_eq!(refused, Err(Refusal::IssuerUnknown { holding: 1 }));
+/// ```
+pub fn check_columns<C: AsRef<[u64]>>(
+    columns: &Columns<C>,
     remainder: &mut [u64],
     ranking: &mut [u64],
-) -> Result<Accepted, Refusal> {
+) -> Result<Figures, Refusal> {
+    let columns = columns.each_ref().map(|column| bytes(column.as_ref()));
+    let (remainder, ranking) = (bytes_mut(remainder), bytes_mut(ranking));
     let mut answer = [0; 16];
-    let number = raw::margin_check(
-        &columns(book, proposal),
-        bytes_mut(remainder),
-        bytes_mut(ranking),
-        &mut answer,
-    );
+    let number = raw::margin_check(&columns, remainder, ranking, &mut answer);
     let (first, second) = halves(&answer);
     if number == 0 {
-        return Ok(Accepted {
+        return Ok(Figures {
             units: first,
             cents: second,
         });
@@ -94,26 +134,14 @@ pub fn check(
     }
 }
 
-/// The columns of a book and a proposal as bytes, in place.
-pub(crate) fn columns<'a>(book: &Book<'a>, proposal: &Proposal<'a>) -> Columns<'a> {
-    Columns {
-        side: bytes(book.side),
-        kind: bytes(book.kind),
-        issuer: bytes(book.issuer),
-        days: bytes(book.days),
-        value: bytes(book.value),
-        price: bytes(proposal.price),
-        long: bytes(proposal.long),
-        short: bytes(proposal.short),
-        amount: bytes(proposal.amount),
-    }
-}
-
 /// The two numbers of an answer.
 pub(crate) fn halves(answer: &[u8; 16]) -> (u64, u64) {
     let both = u128::from_le_bytes(*answer);
     (both as u64, (both >> 64) as u64)
 }
+
+#[cfg(target_endian = "big")]
+compile_error!("numbers are lent as their own bytes, which must be those of little-endian numbers");
 
 fn bytes(numbers: &[u64]) -> &[u8] {
     // SAFETY: the same memory for the same time; a byte needs no alignment, and a number has no padding.

@@ -1,67 +1,6 @@
-//! The exported check and the exported reader on byte slices.
+//! The exported check and the exported reader on byte slices of eight-byte little-endian numbers.
 
-/// The nine columns that the check reads, each of eight-byte little-endian numbers.
-#[derive(Clone, Copy, Debug)]
-pub struct Columns<'a> {
-    /// 0 long, 1 short.
-    pub side: &'a [u8],
-    /// 0 bond or debenture, 1 stripped coupon, 2 residual.
-    pub kind: &'a [u8],
-    /// 0 Canada, 1 to 10 a province.
-    pub issuer: &'a [u8],
-    /// Days to maturity.
-    pub days: &'a [u8],
-    /// Market value in cents.
-    pub value: &'a [u8],
-    /// The proposal's price on each holding.
-    pub price: &'a [u8],
-    /// The long of each line.
-    pub long: &'a [u8],
-    /// The short of each line.
-    pub short: &'a [u8],
-    /// The amount of each line in cents.
-    pub amount: &'a [u8],
-}
-
-/// The nine lists that the reader fills, each with eight-byte little-endian numbers.
-#[derive(Debug)]
-pub struct ColumnsMut<'a> {
-    /// 0 long, 1 short.
-    pub side: &'a mut [u8],
-    /// 0 bond or debenture, 1 stripped coupon, 2 residual.
-    pub kind: &'a mut [u8],
-    /// 0 Canada, 1 to 10 a province.
-    pub issuer: &'a mut [u8],
-    /// Days to maturity.
-    pub days: &'a mut [u8],
-    /// Market value in cents.
-    pub value: &'a mut [u8],
-    /// The proposal's price on each holding.
-    pub price: &'a mut [u8],
-    /// The long of each line.
-    pub long: &'a mut [u8],
-    /// The short of each line.
-    pub short: &'a mut [u8],
-    /// The amount of each line in cents.
-    pub amount: &'a mut [u8],
-}
-
-impl ColumnsMut<'_> {
-    /// The lists in the order in which they are lent: six of the holdings, three of the lines.
-    pub fn lists(&mut self) -> [&mut [u8]; 9] {
-        [
-            self.side,
-            self.kind,
-            self.issuer,
-            self.days,
-            self.value,
-            self.price,
-            self.long,
-            self.short,
-            self.amount,
-        ]
-    }
-}
+use crate::Columns;
 
 unsafe extern "C" {
     // Eleven slices, each a pointer and then its length in bytes.
@@ -126,10 +65,27 @@ unsafe extern "C" {
 /// An answer slice of 16 bytes or more gets units and cents, or the two places; a shorter one is kept.
 /// On acceptance the remainder and the ranking get one entry for each holding; a refusal keeps both.
 ///
-/// The call needs about 126 KB of stack, whatever the size of the book: when tried, a thread of 120 KiB
-/// aborted and one of 128 KiB passed. The tests call it on one of 256 KiB.
+/// It needs as much stack as [`check()`](crate::check()).
+///
+/// ```
+/// use margin_host::{Columns, raw};
+///
+/// // One Canada bond of one cent and one day, without a line.
+/// let number = |number: u64| number.to_le_bytes();
+/// let (zero, one) = (number(0), number(1));
+/// let mut columns: Columns<&[u8]> = Columns::by_group(&zero, &[]);
+/// (columns.days, columns.value) = (&one, &one);
+/// let (mut remainder, mut ranking, mut answer) = ([0; 8], [9; 8], [0; 16]);
+/// assert_eq!(raw::margin_check(&columns, &mut remainder, &mut ranking, &mut answer), 0);
+/// assert_eq!((remainder, ranking), (one, zero));
+/// assert_eq!(answer.as_chunks().0, [number(4), number(1)]);
+///
+/// columns.days = &zero;
+/// assert_eq!(raw::margin_check(&columns, &mut remainder, &mut ranking, &mut answer), 7);
+/// ```
+#[must_use]
 pub fn margin_check(
-    columns: &Columns<'_>,
+    columns: &Columns<&[u8]>,
     remainder: &mut [u8],
     ranking: &mut [u8],
     answer: &mut [u8],
@@ -166,7 +122,22 @@ pub fn margin_check(
 ///
 /// The call needs less than 70 KB of stack: when tried, the tests on threads of 50,000 bytes aborted, and
 /// those on threads of 70,000 passed.
-pub fn margin_read(text: &[u8], columns: &mut ColumnsMut<'_>, answer: &mut [u8]) -> u64 {
+///
+/// ```
+/// use margin_host::{Columns, raw};
+///
+/// let mut room = Columns::by_group(vec![0; 8], vec![0; 8]);
+/// let mut columns = room.each_mut().map(Vec::as_mut_slice);
+/// let mut answer = [0; 16];
+/// let text = b"H,S,B,CA,2000,600000,5840\r\n";
+/// assert_eq!(raw::margin_read(text, &mut columns, &mut answer), 0);
+/// assert_eq!(columns.value, 600_000_u64.to_le_bytes());
+/// assert_eq!(answer.as_chunks().0, [1_u64.to_le_bytes(), [0; 8]]);
+///
+/// assert_eq!(raw::margin_read(b"\r\n", &mut columns, &mut answer), 20);
+/// ```
+#[must_use]
+pub fn margin_read(text: &[u8], columns: &mut Columns<&mut [u8]>, answer: &mut [u8]) -> u64 {
     let c = columns;
     // SAFETY: each pointer comes from a slice that is borrowed for the whole call, beside that slice's
     // own length. The ten lists are borrowed alone, so nothing else refers to them meanwhile. The reader

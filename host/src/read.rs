@@ -1,43 +1,52 @@
-//! The file's reader, with its answer as a `Result`, and reading and checking in one call.
+//! The file's reader with its answer as a `Result`, and reading and checking in one call.
 
-use crate::check::{check, halves};
-use crate::{Accepted, Refusal, Sheet, raw};
+use crate::check::{bytes_mut, check, halves};
+use crate::{Accepted, Book, Columns, Proposal, Refusal, raw};
 
 /// Entries that no file exceeds.
 const MOST_HOLDINGS: usize = 256;
 const MOST_LINES: usize = 512;
 
-/// An accepted file: what it holds, its figures, and the lists of the check.
-#[derive(Clone, Debug, PartialEq, Eq)]
-pub struct Checked {
-    /// The book and the proposal.
-    pub sheet: Sheet,
-    /// Units and cents.
-    pub accepted: Accepted,
-    /// What the lines leave of each holding's value.
-    pub remainder: Vec<u64>,
-    /// The holding numbers by margin of the remainder, largest first.
-    pub ranking: Vec<u64>,
-}
-
-/// Reads a file into the columns of a book and a proposal. Their ranges are left to the check.
+/// Reads a file into a book and a proposal. Their ranges are left to the check.
 ///
 /// # Errors
 ///
 /// The first refusal in the reader's order: 18; each record in turn 19 to 22, then 3 or 9.
-pub fn read(text: &[u8]) -> Result<Sheet, Refusal> {
-    let mut sheet = Sheet::default();
-    for (at, list) in sheet.lists_mut().into_iter().enumerate() {
-        list.resize(if at < 6 { MOST_HOLDINGS } else { MOST_LINES }, 0);
-    }
+///
+/// # Panics
+///
+/// If the linked archive breaks the contract that was proved, as only another archive can.
+///
+/// # Examples
+///
+/// ```
+/// use margin_host::{Issuer, Line, Refusal, read};
+///
+/// let text = "H,L,C,ON,2000,1000,0\r\nH,S,R,QC,2000,400,17520\r\nP,0,1,400,,,\r\n";
+/// let (book, proposal) = read(text.as_bytes())?;
+/// assert_eq!(book.holdings[1].issuer, Issuer::Quebec);
+/// assert_eq!(proposal.prices, vec![0, 17_520]);
+/// assert_eq!(proposal.lines, vec![Line { long: 0, short: 1, amount: 400 }]);
+///
+/// let refused = read(text.replace("QC", "YT").as_bytes());
+/// assert_eq!(refused, Err(Refusal::FieldNotOfItsSort { record: 1 }));
+/// # Ok::<(), Refusal>(())
+/// ```
+pub fn read(text: &[u8]) -> Result<(Book, Proposal), Refusal> {
+    let mut columns = Columns::by_group(vec![0; MOST_HOLDINGS], vec![0; MOST_LINES]);
+    let mut lists = columns.each_mut().map(|list| bytes_mut(list));
     let mut answer = [0; 16];
-    let number = raw::margin_read(text, &mut sheet.columns_mut(), &mut answer);
+    let number = raw::margin_read(text, &mut lists, &mut answer);
     let (first, second) = halves(&answer);
     if number == 0 {
-        for (at, list) in sheet.lists_mut().into_iter().enumerate() {
-            list.truncate(if at < 6 { first } else { second } as usize);
+        let counts = Columns::by_group(first, second).into_array();
+        for (list, count) in columns.each_mut().into_array().into_iter().zip(counts) {
+            list.truncate(count as usize);
         }
-        return Ok(sheet);
+        let known = columns.book_and_proposal();
+        return Ok(
+            known.expect("the reader's contract is proved: it knows each side, kind and issuer")
+        );
     }
     match Refusal::from_parts(number, first, second) {
         Some(refusal) if matches!(number, 3 | 9 | 18..=22) => Err(refusal),
@@ -53,20 +62,24 @@ pub fn read(text: &[u8]) -> Result<Sheet, Refusal> {
 /// # Errors
 ///
 /// The reader's refusal, or else the check's.
-pub fn check_file(text: &[u8]) -> Result<Checked, Refusal> {
-    let sheet = read(text)?;
-    let count = sheet.side.len();
-    let (mut remainder, mut ranking) = (vec![0; count], vec![0; count]);
-    let accepted = check(
-        &sheet.book(),
-        &sheet.proposal(),
-        &mut remainder,
-        &mut ranking,
-    )?;
-    Ok(Checked {
-        sheet,
-        accepted,
-        remainder,
-        ranking,
-    })
+///
+/// # Panics
+///
+/// If the linked archive breaks the contract that was proved, as only another archive can.
+///
+/// # Examples
+///
+/// ```
+/// use margin_host::{Refusal, check_file};
+///
+/// let text = "H,L,C,ON,2000,1000,0\r\nH,S,R,QC,2000,400,17520\r\nP,0,1,400,,,\r\n";
+/// assert_eq!(check_file(text.as_bytes())?.figures.cents, 36);
+///
+/// let refused = check_file(text.replace("17520", "17519").as_bytes());
+/// assert_eq!(refused, Err(Refusal::PairNotCovered { long: 0, short: 1 }));
+/// # Ok::<(), Refusal>(())
+/// ```
+pub fn check_file(text: &[u8]) -> Result<Accepted, Refusal> {
+    let (book, proposal) = read(text)?;
+    check(&book, &proposal)
 }

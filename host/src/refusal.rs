@@ -106,7 +106,14 @@ pub enum Refusal {
 }
 
 impl Refusal {
-    /// The paper's number, 1 to 22.
+    /// The number, 1 to 22.
+    ///
+    /// ```
+    /// use margin_host::Refusal;
+    ///
+    /// assert_eq!(Refusal::AmountZero { line: 3 }.number(), 14);
+    /// ```
+    #[must_use]
     pub fn number(&self) -> u64 {
         match self {
             Refusal::ColumnsDiffer => 1,
@@ -135,6 +142,14 @@ impl Refusal {
     }
 
     /// The place: the holding, the line, the long or the record; 0 where there is none.
+    ///
+    /// ```
+    /// use margin_host::Refusal;
+    ///
+    /// assert_eq!(Refusal::AmountZero { line: 3 }.place(), 3);
+    /// assert_eq!(Refusal::TotalsDiffer.place(), 0);
+    /// ```
+    #[must_use]
     pub fn place(&self) -> u64 {
         match *self {
             Refusal::ColumnsDiffer
@@ -163,6 +178,14 @@ impl Refusal {
     }
 
     /// The second place: the short of an uncovered pair, otherwise 0.
+    ///
+    /// ```
+    /// use margin_host::Refusal;
+    ///
+    /// assert_eq!(Refusal::PairNotCovered { long: 0, short: 2 }.second(), 2);
+    /// assert_eq!(Refusal::AmountZero { line: 3 }.second(), 0);
+    /// ```
+    #[must_use]
     pub fn second(&self) -> u64 {
         match *self {
             Refusal::PairNotCovered { short, .. } => short,
@@ -171,6 +194,15 @@ impl Refusal {
     }
 
     /// The refusal with this number and these places, if there is one.
+    ///
+    /// ```
+    /// use margin_host::Refusal;
+    ///
+    /// let refusal = Refusal::from_parts(14, 3, 0);
+    /// assert_eq!(refusal, Some(Refusal::AmountZero { line: 3 }));
+    /// assert_eq!(Refusal::from_parts(14, 3, 1), None);
+    /// ```
+    #[must_use]
     pub fn from_parts(number: u64, place: u64, second: u64) -> Option<Refusal> {
         let (holding, line, record) = (place, place, place);
         let refusal = match number {
@@ -205,36 +237,44 @@ impl Refusal {
     }
 }
 
+/// Writes a clause for a message such as `refused: ...`, without a full stop.
+///
+/// ```
+/// use margin_host::Refusal;
+///
+/// let message = format!("refused: {}", Refusal::AmountZero { line: 3 });
+/// assert_eq!(message, "refused: line 3, counting from 0, has amount 0, and the least is 1 cent");
+/// ```
 impl fmt::Display for Refusal {
     fn fmt(&self, f: &mut fmt::Formatter<'_>) -> fmt::Result {
         let (place, second, fault) = (self.place(), self.second(), self.fault());
         match self.number() {
-            4..=8 | 10 => write!(f, "Holding {place}, counting from 0, {fault}."),
-            11..=15 => write!(f, "Line {place}, counting from 0, {fault}."),
+            4..=8 | 10 => write!(f, "holding {place}, counting from 0, {fault}"),
+            11..=15 => write!(f, "line {place}, counting from 0, {fault}"),
             16 => write!(
                 f,
-                "The prices of long holding {place} and short holding {second}, counting from 0, {fault}."
+                "the prices of long holding {place} and short holding {second}, counting from 0, {fault}"
             ),
-            19..=22 => write!(f, "Record {place}, counting from 0, {fault}."),
-            _ => write!(f, "{fault}."),
+            19..=22 => write!(f, "record {place}, counting from 0, {fault}"),
+            _ => f.write_str(fault),
         }
     }
 }
 
 impl Refusal {
-    /// What is wrong: a sentence, or the end of one that begins with the place.
+    /// What is wrong: a clause, or the end of one that begins with the place.
     fn fault(&self) -> &'static str {
         match self {
             Refusal::ColumnsDiffer => {
-                "The columns of the holdings, the price column among them, must all have the same \
+                "the columns of the holdings, the price column among them, must all have the same \
                  length in whole numbers, and so must the columns of the lines"
             }
             Refusal::ListTooShort => {
-                "A list lent for the results is too short: remainder, ranking and the columns of \
+                "a list lent for the results is too short: remainder, ranking and the columns of \
                  the holdings need one entry for each holding, the columns of the lines one for \
                  each line, the answer 16 bytes"
             }
-            Refusal::TooManyHoldings => "The book has more than 256 holdings",
+            Refusal::TooManyHoldings => "the book has more than 256 holdings",
             Refusal::SideUnknown { .. } => {
                 "has an unknown side: it must be 0 for long or 1 for short"
             }
@@ -249,7 +289,7 @@ impl Refusal {
             Refusal::ValueOutOfRange { .. } => {
                 "has a market value outside 1 to 100,000,000,000 cents"
             }
-            Refusal::TooManyLines => "The proposal has more than 512 lines",
+            Refusal::TooManyLines => "the proposal has more than 512 lines",
             Refusal::PriceTooHigh { .. } => "has a price outside 0 to 43,800",
             _ => self.fault_of_lines(),
         }
@@ -270,7 +310,7 @@ impl Refusal {
             }
             Refusal::PairNotCovered { .. } => "add up to less than the saving rate of their pair",
             Refusal::TotalsDiffer => {
-                "The priced total of the holdings differs from the saving of the lines, \
+                "the priced total of the holdings differs from the saving of the lines, \
                  and the two must be equal"
             }
             _ => self.fault_of_the_file(),
@@ -279,7 +319,7 @@ impl Refusal {
 
     fn fault_of_the_file(&self) -> &'static str {
         match self {
-            Refusal::FileTooLong => "The file is longer than 65,536 bytes",
+            Refusal::FileTooLong => "the file is longer than 65,536 bytes",
             Refusal::RecordIllFormed { .. } => {
                 "has quotes, line ends or characters that the grammar of RFC 4180 does not allow"
             }

@@ -2,9 +2,8 @@
 
 mod support;
 
-use margin_host::Holding;
-use margin_host::calculator::{Position, pair_rate};
-use margin_host::samples::{Random, SHAPES, Shape, best_sheet, holdings};
+use margin_calculator::samples::{Random, SHAPES, Shape, best_sheet, holdings};
+use margin_calculator::{Position, Row, pair_rate};
 use support::Run;
 
 /// Two holdings that may be paired, and their rate.
@@ -14,7 +13,7 @@ struct Pair {
     rate: u64,
 }
 
-fn pairs(book: &[Holding]) -> Vec<Pair> {
+fn pairs(book: &[Row]) -> Vec<Pair> {
     let mut pairs = Vec::new();
     for (long, one) in book
         .iter()
@@ -55,7 +54,7 @@ fn least(rates: &[u64], left: &mut [u64], pairs: &[Pair]) -> u64 {
     best
 }
 
-fn small_book(random: &mut Random, shape: &Shape, size: usize, values: u64) -> Vec<Holding> {
+fn small_book(random: &mut Random, shape: &Shape, size: usize, values: u64) -> Vec<Row> {
     let mut book = holdings(random, shape, size);
     for holding in &mut book {
         holding.value = 1 + random.below(values);

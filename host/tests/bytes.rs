@@ -2,8 +2,8 @@
 
 mod support;
 
-use margin_host::samples::{ANY, best_sheet, holdings};
-use margin_host::{Holding, Sheet};
+use margin_calculator::samples::{ANY, best_sheet, holdings};
+use margin_calculator::{Row, Rows, Sheet};
 use support::Run;
 use support::faults::{Fault, HOLDINGS, PAIRS, plant, sound};
 use support::lent::{Lent, NAMES};
@@ -112,14 +112,14 @@ fn lists_of_every_length() {
 fn lists_of_the_largest_book() {
     // 256 Canada bonds of one cent and one day, at 4 units each.
     let mut run = Run::fixed("lists of the largest book");
-    let bond = Holding {
+    let bond = Row {
         side: 0,
         kind: 0,
         issuer: 0,
         days: 1,
         value: 1,
     };
-    let mut lent = Lent::of(&Sheet::of(&[bond; 256], 0));
+    let mut lent = Lent::of(&Sheet::of_rows(&[bond; 256], 0));
     for short in [2_047, 2_040] {
         for (remainder, ranking) in [(short, 2_048), (2_048, short), (short, short)] {
             lent.lists(remainder, ranking);

@@ -4,8 +4,9 @@ mod support;
 
 use std::thread;
 
-use margin_host::samples::{ANY, SHAPES, Shape, best_sheet, holdings, split_lines};
-use margin_host::{Accepted, Holding, Line, Sheet, check};
+use margin_calculator::samples::{ANY, SHAPES, Shape, best_sheet, holdings, split_lines};
+use margin_calculator::{Row, Rows, Sheet};
+use margin_host::{Figures, Line, check_columns};
 use support::faults::{PAIRS, sound};
 use support::lent::{Left, Lent, NAMES};
 use support::{Run, column};
@@ -23,7 +24,7 @@ fn large() -> Vec<u64> {
     numbers
 }
 
-/// The paper's limit of each column of the sound sheet, and the number of the refusal above it.
+/// The limit of each column of the sound sheet, and the number of the refusal above it.
 const LIMITS: [(u64, u64); 9] = [
     (1, 4),
     (2, 5),
@@ -167,7 +168,7 @@ fn largest(run: &mut Run, shape: &Shape) -> Sheet {
     let mut book = holdings(&mut run.random, shape, 254);
     for side in [0, 1] {
         let (kind, issuer, days, value) = (1, 0, 100, 50_000);
-        book.push(Holding {
+        book.push(Row {
             side,
             kind,
             issuer,
@@ -216,17 +217,12 @@ fn a_stack_of_256_kib_is_enough() {
     let units = run.units(&sheet, format_args!("on the test's own stack"));
     let call = move || {
         let (mut remainder, mut ranking) = (vec![0; 256], vec![0; 256]);
-        check(
-            &sheet.book(),
-            &sheet.proposal(),
-            &mut remainder,
-            &mut ranking,
-        )
+        check_columns(&sheet, &mut remainder, &mut ranking)
     };
     let small = thread::Builder::new().stack_size(256 * 1_024);
     let answer = small.spawn(call).expect("a thread").join();
     let cents = units.div_ceil(146_000);
-    assert_eq!(answer.expect("an answer"), Ok(Accepted { units, cents }));
+    assert_eq!(answer.expect("an answer"), Ok(Figures { units, cents }));
 }
 
 #[test]
@@ -249,26 +245,26 @@ fn the_largest_totals() {
     // 256 holdings of the highest value and the highest rate: all long, all short, and half with half.
     let mut run = Run::fixed("the largest totals");
     let (kind, issuer, days, value) = (2, 10, 36_500, 100_000_000_000);
-    let residual = |side| Holding {
+    let residual = |side| Row {
         side,
         kind,
         issuer,
         days,
         value,
     };
-    let longs = Sheet::of(&[residual(0); 256], 0);
+    let longs = Sheet::of_rows(&[residual(0); 256], 0);
     run.accepted(
         &Lent::of(&longs),
         256 * value * 21_900,
         format_args!("all long"),
     );
-    let dear = Sheet::of(&[residual(1); 256], 43_800);
+    let dear = Sheet::of_rows(&[residual(1); 256], 43_800);
     run.refused(
         &Lent::of(&dear),
         (17, 0, 0),
         format_args!("all short at the highest price"),
     );
-    let mut sheet = Sheet::of(&[residual(0); 128], 43_800);
+    let mut sheet = Sheet::of_rows(&[residual(0); 128], 43_800);
     for long in 0..128 {
         sheet.add_holding(residual(1), 0);
         sheet.add_line(Line {
@@ -284,7 +280,7 @@ fn the_largest_totals() {
 fn one_uncovered_pair_among_all() {
     // One long is priced one lower and all shorts but one are priced one higher.
     let mut run = Run::fixed("one uncovered pair among all");
-    let residual = |side| Holding {
+    let residual = |side| Row {
         side,
         kind: 2,
         issuer: 0,
@@ -293,7 +289,7 @@ fn one_uncovered_pair_among_all() {
     };
     for long in [0, 1, 64, 126, 127] {
         for short in [128, 129, 200, 254, 255] {
-            let mut sheet = Sheet::of(&[residual(0); 128], 17_520);
+            let mut sheet = Sheet::of_rows(&[residual(0); 128], 17_520);
             for number in 128..256 {
                 sheet.add_holding(residual(1), if number == short { 17_520 } else { 17_521 });
             }
@@ -310,7 +306,7 @@ fn one_uncovered_pair_among_all() {
 fn ties_go_to_the_lower_number() {
     let mut run = Run::fixed("ties in the ranking");
     let (side, issuer, value) = (0, 0, 50);
-    let holding = |kind, days| Holding {
+    let holding = |kind, days| Row {
         side,
         kind,
         issuer,
@@ -325,10 +321,16 @@ fn ties_go_to_the_lower_number() {
         holding(2, 20),
         holding(0, 30),
     ];
-    let left = run.compare(&Lent::of(&Sheet::of(&book, 0)), format_args!("five longs"));
+    let left = run.compare(
+        &Lent::of(&Sheet::of_rows(&book, 0)),
+        format_args!("five longs"),
+    );
     assert_eq!(left.number, 0);
     assert_eq!(Left::entries(&left.ranking), [2, 0, 1, 3, 4]);
     let many = [holding(1, 7); 256];
-    let left = run.compare(&Lent::of(&Sheet::of(&many, 0)), format_args!("256 alike"));
+    let left = run.compare(
+        &Lent::of(&Sheet::of_rows(&many, 0)),
+        format_args!("256 alike"),
+    );
     assert!(Left::entries(&left.ranking).into_iter().eq(0..256));
 }

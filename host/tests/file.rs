@@ -2,8 +2,9 @@
 
 mod support;
 
-use margin_host::samples::{joined, quoted};
-use margin_host::{Holding, Line, Sheet};
+use margin_calculator::samples::{joined, quoted};
+use margin_calculator::{Row, Rows, Sheet};
+use margin_host::Line;
 use support::column;
 use support::file::{File, Files, PRINTED, with_field};
 
@@ -23,14 +24,14 @@ fn printed() -> Sheet {
 
 fn one_holding(side: u64, kind: u64, issuer: u64) -> Sheet {
     let (days, value) = (2_000, 1_000);
-    let holding = Holding {
+    let holding = Row {
         side,
         kind,
         issuer,
         days,
         value,
     };
-    Sheet::of(&[holding], 0)
+    Sheet::of_rows(&[holding], 0)
 }
 
 #[test]

@@ -2,8 +2,9 @@
 
 mod support;
 
-use margin_host::samples::{ANY, best_sheet, holdings, text_of};
-use margin_host::{Holding, Line, Sheet};
+use margin_calculator::samples::{ANY, best_sheet, holdings, text_of};
+use margin_calculator::{Row, Rows, Sheet};
+use margin_host::Line;
 use support::file::{File, Files};
 use support::lent::NAMES;
 
@@ -123,14 +124,14 @@ fn lists_of_holdings_alone_and_lines_alone() {
 #[test]
 fn lists_of_the_largest_file() {
     let mut files = Files::fixed("lists of the largest file");
-    let holding = Holding {
+    let holding = Row {
         side: 0,
         kind: 0,
         issuer: 0,
         days: 1,
         value: 1,
     };
-    let mut sheet = Sheet::of(&[holding; 256], 0);
+    let mut sheet = Sheet::of_rows(&[holding; 256], 0);
     for line in 0..512 {
         sheet.add_line(Line {
             long: line,

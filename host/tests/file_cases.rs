@@ -6,8 +6,8 @@ use std::collections::HashSet;
 use std::fs;
 use std::path::Path;
 
-use margin_host::calculator::print;
-use margin_host::cases::{Case, all, stdin, stdout};
+use margin_calculator::cases::{Case, all, stdin, stdout};
+use margin_calculator::print;
 use support::file::{File, Files};
 
 fn first_line(case: &Case) -> String {
@@ -16,7 +16,7 @@ fn first_line(case: &Case) -> String {
 }
 
 #[test]
-fn each_case_prints_what_the_paper_says() {
+fn each_case_prints_its_stated_line() {
     let mut stated = 0;
     for case in all() {
         let line = first_line(&case);
@@ -25,7 +25,7 @@ fn each_case_prints_what_the_paper_says() {
             stated += 1;
         }
     }
-    assert!(stated >= 150, "{stated} cases have a line from the paper");
+    assert!(stated >= 150, "{stated} cases state their first line");
 }
 
 #[test]

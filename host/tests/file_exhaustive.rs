@@ -2,7 +2,7 @@
 
 mod support;
 
-use margin_host::samples::{joined, quoted};
+use margin_calculator::samples::{joined, quoted};
 use support::file::{File, Files, PRINTED, with_field};
 
 /// Every text of so many letters.

@@ -2,8 +2,9 @@
 
 mod support;
 
-use margin_host::samples::{joined, quoted, records};
-use margin_host::{Holding, Line, Sheet};
+use margin_calculator::samples::{joined, quoted, records};
+use margin_calculator::{Row, Rows, Sheet};
+use margin_host::Line;
 use support::file::{File, Files, PRINTED};
 
 /// How a text begins, what it is filled up with, how it ends, and what it is refused with.
@@ -82,14 +83,14 @@ fn as_many_records_as_there_may_be() {
 fn the_longest_file_that_is_read() {
     // Every numeral has all the digits that it may have, and every field is in quotes.
     let mut files = Files::fixed("the longest file that is read");
-    let holding = Holding {
+    let holding = Row {
         side: 1,
         kind: 2,
         issuer: 10,
         days: 999_999,
         value: 999_999_999_999,
     };
-    let mut sheet = Sheet::of(&[holding; 256], 999_999);
+    let mut sheet = Sheet::of_rows(&[holding; 256], 999_999);
     for _ in 0..512 {
         sheet.add_line(Line {
             long: 999_999,

@@ -2,7 +2,7 @@
 
 mod support;
 
-use margin_host::samples::Random;
+use margin_calculator::samples::Random;
 use support::file::{File, Files};
 
 /// Fields at which something changes in the paper, and some that are none.

@@ -2,7 +2,7 @@
 
 mod support;
 
-use margin_host::samples::joined;
+use margin_calculator::samples::joined;
 use support::file::{File, Files};
 
 const HOLDING: &str = "H,L,C,ON,2000,1000,8760";

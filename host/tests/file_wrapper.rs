@@ -2,10 +2,13 @@
 
 mod support;
 
-use margin_host::calculator::{self, Position, print};
-use margin_host::cases::all;
-use margin_host::samples::{Random, SHAPES, best_sheet, holdings, joined, text_of};
-use margin_host::{Accepted, Checked, Refusal, Sheet, check_file, read};
+use margin_calculator::cases::all;
+use margin_calculator::samples::{Random, SHAPES, best_sheet, holdings, joined, text_of};
+use margin_calculator::{self as calculator, Position, Rows, Sheet, print};
+use margin_host::{
+    Accepted, Book, Columns, Figures, Holding, Issuer, Kind, Line, Proposal, Refusal, Side, check,
+    check_file, read,
+};
 use support::file::PRINTED;
 
 /// The printed file with another record at one place.
@@ -15,39 +18,62 @@ fn with(at: usize, record: &str) -> Vec<u8> {
     joined(&records)
 }
 
+/// What a file holds, as columns.
+fn read_columns(text: &[u8]) -> Result<Sheet, Refusal> {
+    read(text).map(|(book, proposal)| Columns::of(&book, &proposal))
+}
+
 #[test]
 fn the_printed_file() {
-    let sheet = read(&joined(&PRINTED)).expect("it is read");
-    let book = sheet.book();
-    assert_eq!(book.side, [0, 1, 1]);
-    assert_eq!(book.kind, [1, 0, 2]);
-    assert_eq!(book.issuer, [0, 0, 7]);
-    assert_eq!(book.days, [2_000; 3]);
-    assert_eq!(book.value, [1_000_000, 600_000, 300_000]);
-    let proposal = sheet.proposal();
-    assert_eq!(proposal.price, [0, 5_840, 6_570]);
-    assert_eq!((proposal.long, proposal.short), (&[0, 0][..], &[1, 2][..]));
-    assert_eq!(proposal.amount, [600_000, 300_000]);
-    let checked = check_file(&joined(&PRINTED));
-    let accepted = Accepted {
-        units: 3_285_000_000,
-        cents: 22_500,
-    };
-    let wanted = Checked {
-        sheet,
-        accepted,
+    let sheet = read_columns(&joined(&PRINTED)).expect("it is read");
+    assert_eq!(sheet.side, [0, 1, 1]);
+    assert_eq!(sheet.kind, [1, 0, 2]);
+    assert_eq!(sheet.issuer, [0, 0, 7]);
+    assert_eq!(sheet.days, [2_000; 3]);
+    assert_eq!(sheet.value, [1_000_000, 600_000, 300_000]);
+    assert_eq!(sheet.price, [0, 5_840, 6_570]);
+    assert_eq!((sheet.long, sheet.short), (vec![0, 0], vec![1, 2]));
+    assert_eq!(sheet.amount, [600_000, 300_000]);
+    let wanted = Accepted {
+        figures: Figures {
+            units: 3_285_000_000,
+            cents: 22_500,
+        },
         remainder: vec![100_000, 0, 0],
         ranking: vec![0, 1, 2],
     };
-    assert_eq!(checked, Ok(wanted));
+    assert_eq!(check_file(&joined(&PRINTED)), Ok(wanted));
+}
+
+#[test]
+fn the_printed_file_by_its_names() {
+    let holding = |side, kind, issuer, value| Holding {
+        side,
+        kind,
+        issuer,
+        days: 2_000,
+        value,
+    };
+    let book = Book::new([
+        holding(Side::Long, Kind::Coupon, Issuer::Canada, 1_000_000),
+        holding(Side::Short, Kind::Bond, Issuer::Canada, 600_000),
+        holding(Side::Short, Kind::Residual, Issuer::Ontario, 300_000),
+    ]);
+    let line = |short, amount| Line {
+        long: 0,
+        short,
+        amount,
+    };
+    let proposal = Proposal::new([0, 5_840, 6_570], [line(1, 600_000), line(2, 300_000)]);
+    let text = joined(&PRINTED);
+    assert_eq!(check(&book, &proposal), check_file(&text));
+    assert_eq!(read(&text), Ok((book, proposal)));
 }
 
 #[test]
 fn the_empty_file() {
-    assert_eq!(read(b""), Ok(Sheet::default()));
-    let checked = check_file(b"").expect("it is accepted");
-    assert_eq!((checked.accepted.units, checked.accepted.cents), (0, 0));
-    assert!(checked.remainder.is_empty() && checked.ranking.is_empty());
+    assert_eq!(read(b""), Ok((Book::default(), Proposal::default())));
+    assert_eq!(check_file(b""), Ok(Accepted::default()));
 }
 
 #[test]
@@ -74,46 +100,46 @@ fn every_refusal_of_a_file() {
 #[test]
 fn ranges_are_left_to_the_check() {
     let long = with(0, "H,L,C,CA,36501,1000000,0");
-    assert_eq!(read(&long).map(|sheet| sheet.days[0]), Ok(36_501));
+    assert_eq!(read_columns(&long).map(|sheet| sheet.days[0]), Ok(36_501));
     let refusal = Err(Refusal::DaysOutOfRange { holding: 0 });
     assert_eq!(check_file(&long), refusal);
     let large = with(2, "H,S,R,ON,2000,999999999999,6570");
     assert_eq!(
-        read(&large).map(|sheet| sheet.value[2]),
+        read_columns(&large).map(|sheet| sheet.value[2]),
         Ok(999_999_999_999)
     );
     let refusal = Err(Refusal::ValueOutOfRange { holding: 2 });
     assert_eq!(check_file(&large), refusal);
     let far = with(4, "P,0,999999,300000,,,");
-    assert_eq!(read(&far).map(|sheet| sheet.short[1]), Ok(999_999));
+    assert_eq!(read_columns(&far).map(|sheet| sheet.short[1]), Ok(999_999));
     let refusal = Err(Refusal::NotInBook { line: 1 });
     assert_eq!(check_file(&far), refusal);
 }
 
-/// The lines that the program prints, from the wrapper's answer.
-fn printed(answer: Result<Checked, Refusal>) -> String {
-    let checked = match answer {
-        Ok(checked) => checked,
-        Err(refusal) => {
-            let (number, place, second) = (refusal.number(), refusal.place(), refusal.second());
-            return format!("X,{number},{place},{second}\r\n");
-        }
-    };
-    let Accepted { units, cents } = checked.accepted;
+/// The lines that the program prints, from the wrapper's answers.
+fn printed(text: &[u8]) -> String {
+    let (sheet, accepted) =
+        match read_columns(text).and_then(|sheet| Ok((sheet, check_file(text)?))) {
+            Ok(both) => both,
+            Err(refusal) => {
+                let (number, place, second) = (refusal.number(), refusal.place(), refusal.second());
+                return format!("X,{number},{place},{second}\r\n");
+            }
+        };
+    let Figures { units, cents } = accepted.figures;
     let mut lines = format!("M,{units},{cents}\r\n");
-    for number in checked.ranking {
-        let holding = checked.sheet.book().holding(number as usize);
-        let left = checked.remainder[number as usize];
-        let units = Position::of(&holding).rate * left;
+    for number in accepted.ranking {
+        let left = accepted.remainder[number as usize];
+        let units = Position::of(&sheet.row(number as usize)).rate * left;
         lines += &format!("R,{number},{left},{units}\r\n");
     }
     lines
 }
 
 fn printed_alike(text: &[u8], what: &str) {
-    assert_eq!(read(text), calculator::read(text), "{what}");
+    assert_eq!(read_columns(text), calculator::read(text), "{what}");
     let calculated = String::from_utf8(print(text)).expect("ASCII");
-    assert_eq!(printed(check_file(text)), calculated, "{what}");
+    assert_eq!(printed(text), calculated, "{what}");
 }
 
 #[test]

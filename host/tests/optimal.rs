@@ -2,14 +2,14 @@
 
 mod support;
 
-use margin_host::calculator::{Position, optimise, pair_rate};
-use margin_host::samples::{Random, SHAPES, Shape, best_sheet, holdings, split_lines};
-use margin_host::{Line, Refusal, Sheet};
+use margin_calculator::samples::{Random, SHAPES, Shape, best_sheet, holdings, split_lines};
+use margin_calculator::{Position, Rows, Sheet, optimise, pair_rate};
+use margin_host::{Line, Refusal};
 use support::Run;
 use support::lent::{Left, Lent};
 
 fn position(sheet: &Sheet, number: usize) -> Position {
-    Position::of(&sheet.book().holding(number))
+    Position::of(&sheet.row(number))
 }
 
 /// The figures from their definition: remainders, and units of lines and remainders.
@@ -219,9 +219,9 @@ fn lines_in_another_order() {
 #[test]
 fn a_faulty_book_has_no_best() {
     let one = |change: fn(&mut Sheet)| {
-        let mut sheet = Sheet::of(&holdings(&mut Random::new(0x0108), &SHAPES[0], 9), 0);
+        let mut sheet = Sheet::of_rows(&holdings(&mut Random::new(0x0108), &SHAPES[0], 9), 0);
         change(&mut sheet);
-        optimise(&sheet.book()).map(|_| ())
+        optimise(&sheet).map(|_| ())
     };
     let holding = 4;
     assert_eq!(one(|_| {}), Ok(()));
@@ -246,6 +246,6 @@ fn a_faulty_book_has_no_best() {
         one(|sheet| sheet.value[4] = 0),
         Err(Refusal::ValueOutOfRange { holding })
     );
-    let many = Sheet::of(&[holdings(&mut Random::new(1), &SHAPES[0], 1)[0]; 257], 0);
-    assert_eq!(optimise(&many.book()), Err(Refusal::TooManyHoldings));
+    let many = Sheet::of_rows(&[holdings(&mut Random::new(1), &SHAPES[0], 1)[0]; 257], 0);
+    assert_eq!(optimise(&many), Err(Refusal::TooManyHoldings));
 }

@@ -1,9 +1,9 @@
-//! Document 01's worked cases, edges and shortcuts, with its figures.
+//! Document 01's worked cases, edges and shortcuts with its figures, and cases next to them.
 
 mod support;
 
-use margin_host::calculator::Position;
-use margin_host::{Holding, Line, Sheet};
+use margin_calculator::{Position, Row, Rows, Sheet};
+use margin_host::Line;
 use support::Run;
 use support::lent::{Left, Lent};
 
@@ -16,8 +16,8 @@ const CA: u64 = 0;
 const ON: u64 = 7;
 const QC: u64 = 9;
 
-fn holding(side: u64, kind: u64, issuer: u64, days: u64, value: u64) -> Holding {
-    Holding {
+fn holding(side: u64, kind: u64, issuer: u64, days: u64, value: u64) -> Row {
+    Row {
         side,
         kind,
         issuer,
@@ -26,7 +26,7 @@ fn holding(side: u64, kind: u64, issuer: u64, days: u64, value: u64) -> Holding 
     }
 }
 
-fn sheet(holdings: &[(Holding, u64)], lines: &[(u64, u64, u64)]) -> Sheet {
+fn sheet(holdings: &[(Row, u64)], lines: &[(u64, u64, u64)]) -> Sheet {
     let mut sheet = Sheet::default();
     for (holding, price) in holdings {
         sheet.add_holding(*holding, *price);
@@ -368,7 +368,7 @@ fn cover_is_asked_of_pairs_in_no_line() {
 #[test]
 fn cover_is_not_asked_across_a_period_end() {
     // The rates are equal on both sides of 4,015 days, so only the period tells the two alike apart.
-    let mut run = Run::fixed("a gap behind an equal rate");
+    let mut run = Run::fixed("an uncovered pair behind an equal rate");
     let coupon = |side, days| (holding(side, COUPON, CA, days, 1_000), 0);
     for (single, alike) in [(SHORT, LONG), (LONG, SHORT)] {
         for (days, partner) in [(4_015, 0), (4_016, 1)] {

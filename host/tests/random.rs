@@ -2,8 +2,8 @@
 
 mod support;
 
-use margin_host::Sheet;
-use margin_host::samples::{Random, SHAPES, best_sheet, holdings};
+use margin_calculator::Sheet;
+use margin_calculator::samples::{Random, SHAPES, best_sheet, holdings};
 use support::lent::Lent;
 use support::{Run, column};
 

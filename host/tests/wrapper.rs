@@ -2,25 +2,21 @@
 
 mod support;
 
-use margin_host::samples::{Random, SHAPES, best_sheet, holdings};
-use margin_host::{Accepted, Refusal, Sheet, check};
+use margin_calculator::samples::{Random, SHAPES, best_sheet, holdings};
+use margin_calculator::{Rows, Sheet};
+use margin_host::{Figures, Refusal, check_columns};
 use support::Run;
 use support::faults::{HOLDINGS, LONE_LONG, PAIRS, sound};
 use support::lent::{Left, Lent};
 
 /// What the wrapper says to a sheet, with lists of the right length.
-fn answer(sheet: &Sheet) -> Result<Accepted, Refusal> {
+fn answer(sheet: &Sheet) -> Result<Figures, Refusal> {
     let count = sheet.side.len();
-    check(
-        &sheet.book(),
-        &sheet.proposal(),
-        &mut vec![0; count],
-        &mut vec![0; count],
-    )
+    check_columns(sheet, &mut vec![0; count], &mut vec![0; count])
 }
 
 /// The sound sheet with one change.
-fn with(change: impl FnOnce(&mut Sheet)) -> Result<Accepted, Refusal> {
+fn with(change: impl FnOnce(&mut Sheet)) -> Result<Figures, Refusal> {
     let mut sheet = sound();
     change(&mut sheet);
     answer(&sheet)
@@ -30,15 +26,10 @@ fn with(change: impl FnOnce(&mut Sheet)) -> Result<Accepted, Refusal> {
 fn accepted_with_lists() {
     let sheet = sound();
     let (mut remainder, mut ranking) = ([7; 16], [8; 16]);
-    let figures = check(
-        &sheet.book(),
-        &sheet.proposal(),
-        &mut remainder,
-        &mut ranking,
-    );
+    let figures = check_columns(&sheet, &mut remainder, &mut ranking);
     assert_eq!(
         figures,
-        Ok(Accepted {
+        Ok(Figures {
             units: 7_300_000,
             cents: 50
         })
@@ -58,12 +49,7 @@ fn a_refusal_keeps_the_lists() {
     let mut sheet = sound();
     sheet.price[LONE_LONG as usize] = 1;
     let (mut remainder, mut ranking) = ([7; 15], [8; 15]);
-    let refusal = check(
-        &sheet.book(),
-        &sheet.proposal(),
-        &mut remainder,
-        &mut ranking,
-    );
+    let refusal = check_columns(&sheet, &mut remainder, &mut ranking);
     assert_eq!(refusal, Err(Refusal::TotalsDiffer));
     assert_eq!((remainder, ranking), ([7; 15], [8; 15]));
 }
@@ -82,16 +68,11 @@ fn every_refusal_of_a_length() {
     let sheet = sound();
     for (remainder, ranking) in [(13, 14), (14, 13), (0, 14), (14, 0)] {
         let (mut remainder, mut ranking) = (vec![1; remainder], vec![2; ranking]);
-        let short = check(
-            &sheet.book(),
-            &sheet.proposal(),
-            &mut remainder,
-            &mut ranking,
-        );
+        let short = check_columns(&sheet, &mut remainder, &mut ranking);
         assert_eq!(short, Err(Refusal::ListTooShort));
     }
     let holding = holdings(&mut Random::new(0x0600), &SHAPES[0], 1)[0];
-    let book = Sheet::of(&vec![holding; 257], 0);
+    let book = Sheet::of_rows(&vec![holding; 257], 0);
     assert_eq!(answer(&book), Err(Refusal::TooManyHoldings));
     let lines = with(|sheet| {
         for column in [&mut sheet.long, &mut sheet.short, &mut sheet.amount] {
@@ -161,19 +142,10 @@ fn the_wrapper_is_the_raw_call() {
             }
             let left = run.compare(&Lent::of(&sheet), format_args!("{}", shape.name));
             let (mut remainder, mut ranking) = (vec![0; size], vec![0; size]);
-            let answer = check(
-                &sheet.book(),
-                &sheet.proposal(),
-                &mut remainder,
-                &mut ranking,
-            );
+            let answer = check_columns(&sheet, &mut remainder, &mut ranking);
             match answer {
-                Ok(accepted) => {
-                    assert_eq!(
-                        (0, accepted.units, accepted.cents),
-                        parts(&left),
-                        "{sheet:?}"
-                    );
+                Ok(figures) => {
+                    assert_eq!((0, figures.units, figures.cents), parts(&left), "{sheet:?}");
                     assert_eq!(remainder, Left::entries(&left.remainder));
                     assert_eq!(ranking, Left::entries(&left.ranking));
                 }
@@ -212,109 +184,133 @@ fn parts_and_back() {
     assert_eq!(Refusal::from_parts(u64::MAX, 0, 0), None);
 }
 
-/// Number, place and second place, and the sentence.
+/// Number, place and second place, and what it says.
 const SENTENCES: [((u64, u64, u64), &str); 22] = [
     (
         (1, 0, 0),
-        "The columns of the holdings, the price column among them, must all have the same \
-         length in whole numbers, and so must the columns of the lines.",
+        "the columns of the holdings, the price column among them, must all have the same \
+         length in whole numbers, and so must the columns of the lines",
     ),
     (
         (2, 0, 0),
-        "A list lent for the results is too short: remainder, ranking and the columns of \
+        "a list lent for the results is too short: remainder, ranking and the columns of \
          the holdings need one entry for each holding, the columns of the lines one for \
-         each line, the answer 16 bytes.",
+         each line, the answer 16 bytes",
     ),
-    ((3, 0, 0), "The book has more than 256 holdings."),
+    ((3, 0, 0), "the book has more than 256 holdings"),
     (
         (4, 0, 0),
-        "Holding 0, counting from 0, has an unknown side: it must be 0 for long or 1 for \
-         short.",
+        "holding 0, counting from 0, has an unknown side: it must be 0 for long or 1 for \
+         short",
     ),
     (
         (5, 12, 0),
-        "Holding 12, counting from 0, has an unknown kind: it must be 0 for a bond, 1 for \
-         a stripped coupon or 2 for a residual.",
+        "holding 12, counting from 0, has an unknown kind: it must be 0 for a bond, 1 for \
+         a stripped coupon or 2 for a residual",
     ),
     (
         (6, 1, 0),
-        "Holding 1, counting from 0, has an unknown issuer: it must be 0 for Canada or 1 \
-         to 10 for a province.",
+        "holding 1, counting from 0, has an unknown issuer: it must be 0 for Canada or 1 \
+         to 10 for a province",
     ),
     (
         (7, 255, 0),
-        "Holding 255, counting from 0, has days to maturity outside 1 to 36,500.",
+        "holding 255, counting from 0, has days to maturity outside 1 to 36,500",
     ),
     (
         (8, 3, 0),
-        "Holding 3, counting from 0, has a market value outside 1 to 100,000,000,000 \
-         cents.",
+        "holding 3, counting from 0, has a market value outside 1 to 100,000,000,000 \
+         cents",
     ),
-    ((9, 0, 0), "The proposal has more than 512 lines."),
+    ((9, 0, 0), "the proposal has more than 512 lines"),
     (
         (10, 4, 0),
-        "Holding 4, counting from 0, has a price outside 0 to 43,800.",
+        "holding 4, counting from 0, has a price outside 0 to 43,800",
     ),
     (
         (11, 0, 0),
-        "Line 0, counting from 0, names a holding that is not in the book.",
+        "line 0, counting from 0, names a holding that is not in the book",
     ),
     (
         (12, 511, 0),
-        "Line 511, counting from 0, must name a long holding first and a short holding \
-         second.",
+        "line 511, counting from 0, must name a long holding first and a short holding \
+         second",
     ),
     (
         (13, 5, 0),
-        "Line 5, counting from 0, pairs two holdings that lie in different periods or are \
-         both bonds.",
+        "line 5, counting from 0, pairs two holdings that lie in different periods or are \
+         both bonds",
     ),
     (
         (14, 6, 0),
-        "Line 6, counting from 0, has amount 0, and the least is 1 cent.",
+        "line 6, counting from 0, has amount 0, and the least is 1 cent",
     ),
     (
         (15, 7, 0),
-        "Line 7, counting from 0, has an amount above what the lines before it leave of \
-         one of its holdings.",
+        "line 7, counting from 0, has an amount above what the lines before it leave of \
+         one of its holdings",
     ),
     (
         (16, 0, 2),
-        "The prices of long holding 0 and short holding 2, counting from 0, add up to \
-         less than the saving rate of their pair.",
+        "the prices of long holding 0 and short holding 2, counting from 0, add up to \
+         less than the saving rate of their pair",
     ),
     (
         (17, 0, 0),
-        "The priced total of the holdings differs from the saving of the lines, and the \
-         two must be equal.",
+        "the priced total of the holdings differs from the saving of the lines, and the \
+         two must be equal",
     ),
-    ((18, 0, 0), "The file is longer than 65,536 bytes."),
+    ((18, 0, 0), "the file is longer than 65,536 bytes"),
     (
         (19, 8, 0),
-        "Record 8, counting from 0, has quotes, line ends or characters that the grammar \
-         of RFC 4180 does not allow.",
+        "record 8, counting from 0, has quotes, line ends or characters that the grammar \
+         of RFC 4180 does not allow",
     ),
     (
         (20, 0, 0),
-        "Record 0, counting from 0, does not have seven fields.",
+        "record 0, counting from 0, does not have seven fields",
     ),
     (
         (21, 767, 0),
-        "Record 767, counting from 0, begins with neither H nor P, has a field that is no \
-         value of its sort, or fills one that must be empty.",
+        "record 767, counting from 0, begins with neither H nor P, has a field that is no \
+         value of its sort, or fills one that must be empty",
     ),
     (
         (22, 2, 0),
-        "Record 2, counting from 0, is a holding after a pair line, and all holdings must \
-         come before all lines.",
+        "record 2, counting from 0, is a holding after a pair line, and all holdings must \
+         come before all lines",
     ),
 ];
 
 #[test]
-fn every_refusal_in_one_sentence() {
-    for ((number, place, second), sentence) in SENTENCES {
+fn every_refusal_in_words() {
+    for ((number, place, second), words) in SENTENCES {
         let refusal = Refusal::from_parts(number, place, second).expect("a refusal");
         let error: &dyn std::error::Error = &refusal;
-        assert_eq!(error.to_string(), sentence);
+        assert_eq!(error.to_string(), words);
+    }
+}
+
+#[test]
+fn the_words_fit_after_a_colon() {
+    for number in 1..=22 {
+        let has_place = matches!(number, 4..=8 | 10..=16 | 19..=22);
+        let (place, second) = (
+            if has_place { 4_711 } else { 0 },
+            if number == 16 { 815 } else { 0 },
+        );
+        let refusal = Refusal::from_parts(number, place, second).expect("a refusal");
+        let words = refusal.to_string();
+        assert!(
+            words.starts_with(|first: char| first.is_ascii_lowercase()),
+            "{words}"
+        );
+        assert!(
+            words.ends_with(|last: char| last.is_ascii_alphanumeric()),
+            "{words}"
+        );
+        assert!(!words.contains(". ") && !words.contains('\n'), "{words}");
+        assert_eq!(words.contains("4711"), has_place, "{words}");
+        assert_eq!(words.contains("815"), number == 16, "{words}");
     }
 }

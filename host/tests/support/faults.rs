@@ -1,6 +1,7 @@
 //! Faults to plant in a proposal that is accepted, and the paper's order between them.
 
-use margin_host::{Holding, Line, Sheet};
+use margin_calculator::{Row, Rows, Sheet};
+use margin_host::Line;
 
 use super::lent::Lent;
 
@@ -68,14 +69,14 @@ impl Fault {
 
 /// Six longs and six shorts, ON coupons of 2,000 days, paired one with one; and two lone bonds.
 pub fn sound() -> Sheet {
-    let coupon = |side| Holding {
+    let coupon = |side| Row {
         side,
         kind: 1,
         issuer: 7,
         days: 2_000,
         value: 1_000,
     };
-    let bond = |side| Holding {
+    let bond = |side| Row {
         side,
         kind: 0,
         issuer: 7,
@@ -161,7 +162,7 @@ fn uncover(sheet: &mut Sheet, long: usize, short: usize) {
 }
 
 fn lengthen_book(sheet: &mut Sheet) {
-    let bond = Holding {
+    let bond = Row {
         side: 0,
         kind: 0,
         issuer: 7,

@@ -4,9 +4,9 @@ use std::fmt::{Arguments, Display};
 use std::io::Write;
 use std::ops::Range;
 
-use margin_host::raw::{self, ColumnsMut};
-use margin_host::samples::Random;
-use margin_host::{Sheet, calculator};
+use margin_calculator::samples::Random;
+use margin_calculator::{Sheet, margin_read};
+use margin_host::{Columns, raw};
 
 use super::lent::{NAMES, pattern};
 
@@ -48,7 +48,7 @@ pub struct Read {
     memory: Memory,
 }
 
-type Call = fn(&[u8], &mut ColumnsMut<'_>, &mut [u8]) -> u64;
+type Call = fn(&[u8], &mut Columns<&mut [u8]>, &mut [u8]) -> u64;
 
 impl File {
     /// A text, with lists that have room for every file.
@@ -89,36 +89,13 @@ impl Memory {
         let mut memory = self.clone();
         let mut rest = memory.bytes.as_mut_slice();
         let mut taken = 0;
-        let [
-            text,
-            side,
-            kind,
-            issuer,
-            days,
-            value,
-            price,
-            long,
-            short,
-            amount,
-            answer,
-        ] = self.spans.each_ref().map(|span| {
+        let [text, lists @ .., answer] = self.spans.each_ref().map(|span| {
             let tail = std::mem::take(&mut rest).split_at_mut(span.start - taken).1;
             let (list, tail) = tail.split_at_mut(span.len());
             (rest, taken) = (tail, span.end);
             list
         });
-        let mut lists = ColumnsMut {
-            side,
-            kind,
-            issuer,
-            days,
-            value,
-            price,
-            long,
-            short,
-            amount,
-        };
-        let number = call(text, &mut lists, answer);
+        let number = call(text, &mut Columns::from_array(lists), answer);
         Read { number, memory }
     }
 
@@ -148,7 +125,7 @@ impl Read {
     pub fn sheet(&self) -> Sheet {
         let (holdings, lines) = self.figures().expect("a file that is read has an answer");
         let mut sheet = Sheet::default();
-        for (at, list) in sheet.lists_mut().into_iter().enumerate() {
+        for (at, list) in sheet.each_mut().into_array().into_iter().enumerate() {
             let count = if at < 6 { holdings } else { lines } as usize;
             let entries = self.list(at).as_chunks::<8>().0;
             list.extend(
@@ -214,7 +191,7 @@ impl Files {
         self.count += 1;
         let memory = file.memory();
         let ours = memory.run(raw::margin_read);
-        let calculated = memory.run(calculator::margin_read);
+        let calculated = memory.run(margin_read);
         let story = || self.story(file, &what);
         assert_eq!(ours.number, calculated.number, "the number: {}", story());
         assert_eq!(

@@ -2,8 +2,8 @@
 
 use std::fmt;
 
-use margin_host::Sheet;
-use margin_host::raw::Columns;
+use margin_calculator::{Rows, Sheet};
+use margin_host::Columns;
 
 /// Bytes on each side of a list that nobody may write.
 const GUARD: usize = 24;
@@ -32,19 +32,17 @@ pub struct Left {
     pub answer: Vec<u8>,
 }
 
-type Call = fn(&Columns<'_>, &mut [u8], &mut [u8], &mut [u8]) -> u64;
+type Call = fn(&Columns<&[u8]>, &mut [u8], &mut [u8], &mut [u8]) -> u64;
 
 impl Lent {
     /// The columns of a sheet, with lists that are as long as they must be.
     pub fn of(sheet: &Sheet) -> Lent {
-        let c = sheet.columns();
-        let columns = [
-            c.side, c.kind, c.issuer, c.days, c.value, c.price, c.long, c.short, c.amount,
-        ];
+        let columns = sheet.bytes().into_array();
+        let bytes = columns[0].len();
         Lent {
-            columns: columns.map(<[u8]>::to_vec),
-            remainder: pattern(c.side.len(), 0x51),
-            ranking: pattern(c.side.len(), 0xA3),
+            columns,
+            remainder: pattern(bytes, 0x51),
+            ranking: pattern(bytes, 0xA3),
             answer: pattern(16, 0xC7),
         }
     }
@@ -66,19 +64,7 @@ impl Lent {
         let columns = self.columns.each_ref().map(|column| guarded(column, shift));
         let mut lists =
             [&self.remainder, &self.ranking, &self.answer].map(|list| guarded(list, shift));
-        let [side, kind, issuer, days, value, price, long, short, amount] =
-            columns.each_ref().map(|column| inside(column, shift));
-        let lent = Columns {
-            side,
-            kind,
-            issuer,
-            days,
-            value,
-            price,
-            long,
-            short,
-            amount,
-        };
+        let lent = Columns::from_array(columns.each_ref().map(|column| inside(column, shift)));
         let [remainder, ranking, answer] = lists.each_mut().map(|list| {
             let end = list.len() - GUARD;
             &mut list[GUARD + shift..end]

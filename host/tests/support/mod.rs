@@ -11,12 +11,13 @@ use std::fmt::{Arguments, Display};
 use std::io::Write;
 
 use lent::{Left, Lent};
-use margin_host::samples::Random;
-use margin_host::{Sheet, calculator, raw};
+use margin_calculator::samples::Random;
+use margin_calculator::{Sheet, margin_check};
+use margin_host::raw;
 
 /// One of the nine columns of a sheet, in the order in which they are lent.
 pub fn column(sheet: &mut Sheet, at: usize) -> &mut Vec<u64> {
-    let columns = sheet.lists_mut();
+    let columns = sheet.each_mut().into_array();
     columns.into_iter().nth(at).expect("there are nine")
 }
 
@@ -48,7 +49,7 @@ impl Run {
     pub fn compare(&mut self, lent: &Lent, what: Arguments<'_>) -> Left {
         self.books += 1;
         let ours = lent.run(raw::margin_check);
-        let calculated = lent.run(calculator::margin_check);
+        let calculated = lent.run(margin_check);
         let story = || format!("{}\n{lent:?}", self.story(&what));
         assert_eq!(
             ours,

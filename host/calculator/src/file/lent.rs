@@ -1,11 +1,13 @@
 //! The reader on the same lent bytes as the exported one.
 
+use margin_host::{Columns, Refusal};
+
 use super::reader::read;
-use crate::raw::ColumnsMut;
-use crate::{Refusal, Sheet};
+use crate::Sheet;
 
 /// Returns the refusal number, 0 for accepted, and leaves in the lists what the reader must leave there.
-pub fn margin_read(text: &[u8], columns: &mut ColumnsMut<'_>, answer: &mut [u8]) -> u64 {
+#[must_use]
+pub fn margin_read(text: &[u8], columns: &mut Columns<&mut [u8]>, answer: &mut [u8]) -> u64 {
     let fitting = read(text).and_then(|sheet| {
         let fits = fits(&sheet, columns) && answer.len() >= 16;
         fits.then_some(sheet).ok_or(Refusal::ListTooShort)
@@ -25,17 +27,18 @@ pub fn margin_read(text: &[u8], columns: &mut ColumnsMut<'_>, answer: &mut [u8])
 }
 
 /// Whether each list has room for what it must hold.
-fn fits(sheet: &Sheet, columns: &mut ColumnsMut<'_>) -> bool {
-    let wanted = sheet.lists().map(Vec::len);
-    let lent = columns.lists().map(|list| list.len());
+fn fits(sheet: &Sheet, columns: &Columns<&mut [u8]>) -> bool {
+    let wanted = sheet.each_ref().map(Vec::len).into_array();
+    let lent = columns.each_ref().map(|list| list.len()).into_array();
     wanted
         .iter()
         .zip(lent)
         .all(|(entries, bytes)| 8 * entries <= bytes)
 }
 
-fn write_columns(sheet: &Sheet, columns: &mut ColumnsMut<'_>) {
-    for (numbers, list) in sheet.lists().into_iter().zip(columns.lists()) {
+fn write_columns(sheet: &Sheet, columns: &mut Columns<&mut [u8]>) {
+    let lists = columns.each_mut().into_array();
+    for (numbers, list) in sheet.each_ref().into_array().into_iter().zip(lists) {
         let slots = list.as_chunks_mut::<8>().0;
         for (slot, number) in slots.iter_mut().zip(numbers) {
             *slot = number.to_le_bytes();

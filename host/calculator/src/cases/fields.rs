@@ -2,7 +2,7 @@
 
 use super::List;
 use super::sound::{Change, FIRST, RECORDS, with, with_fields};
-use crate::calculator::ISSUERS;
+use crate::ISSUERS;
 use crate::samples::joined;
 
 /// Letters that are none there, at the first, a middle and the last record.

@@ -2,9 +2,10 @@
 
 use std::hint::select_unpredictable;
 
-use super::article::{Class, Position};
-use super::plain::Entry;
-use crate::Refusal;
+use margin_host::Refusal;
+
+use crate::article::{Class, Position};
+use crate::plain::Entry;
 
 /// A short, as far as cover asks, side by side with the others of its period.
 #[derive(Clone, Copy)]
@@ -86,15 +87,14 @@ fn shorts_by_period(entries: &[Entry]) -> (Vec<Short>, [usize; 6]) {
 #[cfg(test)]
 mod tests {
     use super::{Short, needed};
-    use crate::Holding;
-    use crate::calculator::{Position, saving_rate};
+    use crate::{Position, Row, saving_rate};
 
     fn positions() -> Vec<Position> {
         let mut positions = Vec::new();
         for days in [1, 2, 364, 365, 366, 1_095, 2_555, 4_015, 5_000, 7_300] {
             for (kind, issuer) in [(0, 0), (1, 0), (2, 0), (0, 1), (1, 5), (2, 10)] {
                 let (side, value) = (0, 1);
-                positions.push(Position::of(&Holding {
+                positions.push(Position::of(&Row {
                     side,
                     kind,
                     issuer,

@@ -2,7 +2,7 @@
 
 use super::List;
 use super::sound::RECORDS;
-use crate::calculator::MOST_BYTES;
+use crate::MOST_BYTES;
 use crate::samples::joined;
 
 const HOLDING: &str = "H,L,B,CA,1,1,0";

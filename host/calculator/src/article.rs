@@ -1,7 +1,7 @@
 //! Article 7204, Groups I, II and XI paragraphs 1 and 2: rates and pairs.
 
-use super::fraction::Fraction;
-use crate::Holding;
+use crate::Row;
+use crate::fraction::Fraction;
 
 /// The days of a year.
 const YEAR: u64 = 365;
@@ -65,7 +65,8 @@ pub struct Position {
 
 impl Position {
     /// The position of a holding whose numbers are in their ranges.
-    pub fn of(holding: &Holding) -> Position {
+    #[must_use]
+    pub fn of(holding: &Row) -> Position {
         let period = PERIOD_ENDS
             .iter()
             .filter(|end| holding.days > **end)
@@ -101,11 +102,13 @@ pub(crate) fn may_pair(one: &Position, other: &Position) -> bool {
 }
 
 /// The rate of a pair that is allowed, in units per cent; nothing where it is not.
+#[must_use]
 pub fn pair_rate(one: &Position, other: &Position) -> Option<u64> {
     may_pair(one, other).then(|| allowed_pair_rate(one, other))
 }
 
 /// What a pair saves against its two legs alone, in units per cent; nothing where it is not allowed.
+#[must_use]
 pub fn saving_rate(one: &Position, other: &Position) -> Option<u64> {
     pair_rate(one, other).map(|rate| one.rate + other.rate - rate)
 }
@@ -115,7 +118,7 @@ fn allowed_pair_rate(one: &Position, other: &Position) -> u64 {
     if one.class == other.class {
         one.rate.abs_diff(other.rate)
     } else {
-        // Exact, because every rate is even: tests/paper.rs goes through them all.
+        // Exact, because every rate is even: the tests go through them all.
         (one.rate + other.rate) / 2
     }
 }
@@ -123,11 +126,11 @@ fn allowed_pair_rate(one: &Position, other: &Position) -> u64 {
 #[cfg(test)]
 mod tests {
     use super::{Position, pair_rate, saving_rate};
-    use crate::Holding;
+    use crate::Row;
 
     fn position(kind: u64, issuer: u64, days: u64) -> Position {
         let (side, value) = (0, 1);
-        Position::of(&Holding {
+        Position::of(&Row {
             side,
             kind,
             issuer,

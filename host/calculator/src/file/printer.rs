@@ -1,10 +1,12 @@
 //! What the program `margin` prints for a file.
 
+use margin_host::Refusal;
+
 use super::reader::read;
-use crate::calculator::{Position, margin_check};
-use crate::{Refusal, Sheet};
+use crate::{Position, Rows, Sheet, margin_check};
 
 /// The lines M and R of an accepted file, or the line X of a refused one, each with its CRLF.
+#[must_use]
 pub fn print(text: &[u8]) -> Vec<u8> {
     let lines = read(text).and_then(|sheet| report(&sheet));
     let lines = lines.unwrap_or_else(|refusal| {
@@ -19,7 +21,8 @@ pub fn print(text: &[u8]) -> Vec<u8> {
 fn report(sheet: &Sheet) -> Result<Vec<String>, Refusal> {
     let bytes = 8 * sheet.side.len();
     let (mut remainder, mut ranking, mut answer) = (vec![0; bytes], vec![0; bytes], [0; 16]);
-    let columns = sheet.columns();
+    let columns = sheet.bytes();
+    let columns = columns.each_ref().map(Vec::as_slice);
     let number = margin_check(&columns, &mut remainder, &mut ranking, &mut answer);
     let [first, second] = [0, 1].map(|at| entry(&answer, at));
     if number != 0 {
@@ -30,7 +33,7 @@ fn report(sheet: &Sheet) -> Result<Vec<String>, Refusal> {
     for rank in 0..sheet.side.len() {
         let holding = entry(&ranking, rank) as usize;
         let left = entry(&remainder, holding);
-        let units = Position::of(&sheet.book().holding(holding)).rate * left;
+        let units = Position::of(&sheet.row(holding)).rate * left;
         lines.push(format!("R,{holding},{left},{units}"));
     }
     Ok(lines)

@@ -2,13 +2,14 @@
 
 use std::cmp::Reverse;
 
-use super::article::{Position, pair_rate};
-use super::cover::cover;
-use crate::raw::Columns;
-use crate::{Accepted, Holding, Refusal};
+use margin_host::{Columns, Figures, Refusal};
 
-pub(super) const MOST_HOLDINGS: usize = 256;
-pub(super) const MOST_LINES: usize = 512;
+use crate::Row;
+use crate::article::{Position, pair_rate};
+use crate::cover::cover;
+
+pub(crate) const MOST_HOLDINGS: usize = 256;
+pub(crate) const MOST_LINES: usize = 512;
 const HIGHEST_ISSUER: u64 = 10;
 const LONGEST_DAYS: u64 = 36_500;
 const HIGHEST_VALUE: u64 = 100_000_000_000;
@@ -16,10 +17,10 @@ const HIGHEST_PRICE: u64 = 43_800;
 const UNITS_OF_A_CENT: u64 = 146_000;
 
 /// A holding without fault, with what is worked out once for it.
-pub(super) struct Entry {
-    pub(super) position: Position,
-    pub(super) price: u64,
-    pub(super) short: bool,
+pub(crate) struct Entry {
+    pub(crate) position: Position,
+    pub(crate) price: u64,
+    pub(crate) short: bool,
     value: u64,
     left: u64,
 }
@@ -32,14 +33,15 @@ struct Paired {
 }
 
 /// Returns the refusal number, 0 for accepted, and leaves in the lists what the check must leave there.
+#[must_use]
 pub fn margin_check(
-    columns: &Columns<'_>,
+    columns: &Columns<&[u8]>,
     remainder: &mut [u8],
     ranking: &mut [u8],
     answer: &mut [u8],
 ) -> u64 {
     let (number, first, second) = match judge(columns, remainder, ranking, answer.len()) {
-        Ok(accepted) => (0, accepted.units, accepted.cents),
+        Ok(figures) => (0, figures.units, figures.cents),
         Err(refusal) => (refusal.number(), refusal.place(), refusal.second()),
     };
     if let ([low, high, ..], _) = answer.as_chunks_mut::<8>() {
@@ -50,11 +52,11 @@ pub fn margin_check(
 }
 
 fn judge(
-    columns: &Columns<'_>,
+    columns: &Columns<&[u8]>,
     remainder: &mut [u8],
     ranking: &mut [u8],
     answer: usize,
-) -> Result<Accepted, Refusal> {
+) -> Result<Figures, Refusal> {
     lengths(columns, remainder.len(), ranking.len(), answer)?;
     let mut entries = holdings(columns)?;
     let paired = lines(columns, &mut entries)?;
@@ -65,7 +67,7 @@ fn judge(
     }
     let unpaired = write_lists(&entries, remainder, ranking);
     let units = paired.units + unpaired;
-    Ok(Accepted {
+    Ok(Figures {
         units,
         cents: units.div_ceil(UNITS_OF_A_CENT),
     })
@@ -73,7 +75,7 @@ fn judge(
 
 /// Refusals 1, 3, 9 and 2, in this order.
 fn lengths(
-    c: &Columns<'_>,
+    c: &Columns<&[u8]>,
     remainder: usize,
     ranking: usize,
     answer: usize,
@@ -98,7 +100,7 @@ fn lengths(
 }
 
 /// Refusals 4 to 8 and 10 of each holding in turn.
-fn holdings(columns: &Columns<'_>) -> Result<Vec<Entry>, Refusal> {
+fn holdings(columns: &Columns<&[u8]>) -> Result<Vec<Entry>, Refusal> {
     let sides = numbers(columns.side);
     let mut entries = Vec::with_capacity(sides.len());
     let others = numbers(columns.kind)
@@ -108,7 +110,7 @@ fn holdings(columns: &Columns<'_>) -> Result<Vec<Entry>, Refusal> {
         .zip(numbers(columns.price));
     for (number, (side, ((((kind, issuer), days), value), price))) in sides.zip(others).enumerate()
     {
-        let holding = Holding {
+        let holding = Row {
             side,
             kind,
             issuer,
@@ -128,7 +130,7 @@ fn holdings(columns: &Columns<'_>) -> Result<Vec<Entry>, Refusal> {
 }
 
 /// Refusals 4 to 8 and 10 of one holding.
-pub(super) fn in_range(number: u64, holding: &Holding, price: u64) -> Result<(), Refusal> {
+pub(crate) fn in_range(number: u64, holding: &Row, price: u64) -> Result<(), Refusal> {
     let refusal = if holding.side > 1 {
         Refusal::SideUnknown { holding: number }
     } else if holding.kind > 2 {
@@ -148,7 +150,7 @@ pub(super) fn in_range(number: u64, holding: &Holding, price: u64) -> Result<(),
 }
 
 /// Refusals 11 to 15 of each line in turn; takes each amount off what is left of both legs.
-fn lines(columns: &Columns<'_>, entries: &mut [Entry]) -> Result<Paired, Refusal> {
+fn lines(columns: &Columns<&[u8]>, entries: &mut [Entry]) -> Result<Paired, Refusal> {
     let mut paired = Paired::default();
     let legs = numbers(columns.long).zip(numbers(columns.short));
     for (number, ((long, short), amount)) in legs.zip(numbers(columns.amount)).enumerate() {

@@ -94,7 +94,8 @@ fn change(random: &mut Random, sheet: &mut Sheet) -> &'static str {
     };
     let at = random.place(names.len());
     let column = sheet
-        .lists_mut()
+        .each_mut()
+        .into_array()
         .into_iter()
         .nth(first + at)
         .expect("there are nine");

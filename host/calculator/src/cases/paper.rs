@@ -1,4 +1,4 @@
-//! Document 01's worked file, edges and shortcuts.
+//! Document 01's worked file, edges and shortcuts, and cases next to them.
 
 use super::{List, Table};
 use crate::samples::joined;
@@ -161,7 +161,7 @@ pub(super) fn add(list: &mut List) {
         for (leg, price) in ["L,C", "L,B", "S,C", "S,B"].iter().zip(prices) {
             records.push(format!("H,{leg},ON,2000,1000,{price}"));
         }
-        records.extend(lines.iter().map(|line| line.to_string()));
+        records.extend(lines.iter().map(ToString::to_string));
         list.add(title, joined(&records), first);
     }
     for (title, records, first) in SHORTCUTS {

@@ -7,8 +7,8 @@ use std::path::Path;
 use std::process::{Command, Stdio};
 use std::time::Instant;
 
-use margin_host::calculator::print;
-use margin_host::samples::joined;
+use margin_calculator::print;
+use margin_calculator::samples::joined;
 
 use crate::read::full_file;
 use crate::timing::median;

@@ -1,8 +1,10 @@
 //! Records to columns, with the refusals of the file.
 
+use margin_host::{Line, Refusal};
+
 use super::records::{IllFormed, Records};
-use crate::calculator::plain::{MOST_HOLDINGS, MOST_LINES};
-use crate::{Holding, Line, Refusal, Sheet};
+use crate::plain::{MOST_HOLDINGS, MOST_LINES};
+use crate::{Row, Rows, Sheet};
 
 /// A longer file is refused.
 pub const MOST_BYTES: usize = 65_536;
@@ -18,9 +20,10 @@ pub const ISSUERS: [&str; 11] = [
 const DIGITS_OF_CENTS: usize = 12;
 const DIGITS: usize = 6;
 
-/// What a record with seven fields says.
-enum Row {
-    Holding(Holding, u64),
+/// The contents of a record with seven fields.
+enum Contents {
+    /// A holding and its price.
+    Holding(Row, u64),
     Line(Line),
 }
 
@@ -39,35 +42,37 @@ pub fn read(text: &[u8]) -> Result<Sheet, Refusal> {
     while let Some(found) = records.next() {
         let found = found.map_err(|IllFormed| Refusal::RecordIllFormed { record })?;
         let fields = found.fields().ok_or(Refusal::NotSevenFields { record })?;
-        match row(fields).ok_or(Refusal::FieldNotOfItsSort { record })? {
-            Row::Holding(..) if !sheet.long.is_empty() => {
+        match contents(fields).ok_or(Refusal::FieldNotOfItsSort { record })? {
+            Contents::Holding(..) if !sheet.long.is_empty() => {
                 return Err(Refusal::HoldingAfterLine { record });
             }
-            Row::Holding(..) if sheet.side.len() == MOST_HOLDINGS => {
+            Contents::Holding(..) if sheet.side.len() == MOST_HOLDINGS => {
                 return Err(Refusal::TooManyHoldings);
             }
-            Row::Line(_) if sheet.long.len() == MOST_LINES => return Err(Refusal::TooManyLines),
-            Row::Holding(holding, price) => sheet.add_holding(holding, price),
-            Row::Line(line) => sheet.add_line(line),
+            Contents::Line(_) if sheet.long.len() == MOST_LINES => {
+                return Err(Refusal::TooManyLines);
+            }
+            Contents::Holding(holding, price) => sheet.add_holding(holding, price),
+            Contents::Line(line) => sheet.add_line(line),
         }
         record += 1;
     }
     Ok(sheet)
 }
 
-fn row(fields: [&[u8]; 7]) -> Option<Row> {
+fn contents(fields: [&[u8]; 7]) -> Option<Contents> {
     match fields {
         [b"H", side, kind, issuer, days, value, price] => {
-            let holding = Holding {
+            let holding = Row {
                 side: place_among(&SIDES, side)?,
                 kind: place_among(&KINDS, kind)?,
                 issuer: place_among(&ISSUERS, issuer)?,
                 days: numeral(days, DIGITS)?,
                 value: numeral(value, DIGITS_OF_CENTS)?,
             };
-            Some(Row::Holding(holding, numeral(price, DIGITS)?))
+            Some(Contents::Holding(holding, numeral(price, DIGITS)?))
         }
-        [b"P", long, short, amount, b"", b"", b""] => Some(Row::Line(Line {
+        [b"P", long, short, amount, b"", b"", b""] => Some(Contents::Line(Line {
             long: numeral(long, DIGITS)?,
             short: numeral(short, DIGITS)?,
             amount: numeral(amount, DIGITS_OF_CENTS)?,

@@ -4,7 +4,7 @@
 //! text, then the title and the text. [`stdout`] has for each case `# `, the title and CRLF, and then what
 //! the calculator prints for the text.
 
-use crate::calculator::print;
+use crate::print;
 
 mod books;
 mod fields;
@@ -21,11 +21,12 @@ pub struct Case {
     pub title: String,
     /// The file.
     pub text: Vec<u8>,
-    /// The first line that must be printed, as the paper has it; empty where only the calculator says.
+    /// The first line that must be printed, worked out by hand; empty where only the calculator says.
     pub first: String,
 }
 
 /// All cases, in the order in which they are run.
+#[must_use]
 pub fn all() -> Vec<Case> {
     let mut list = List::default();
     paper::add(&mut list);
@@ -38,6 +39,7 @@ pub fn all() -> Vec<Case> {
 }
 
 /// The input of the program.
+#[must_use]
 pub fn stdin(cases: &[Case]) -> Vec<u8> {
     let mut input = Vec::new();
     for case in cases {
@@ -51,6 +53,7 @@ pub fn stdin(cases: &[Case]) -> Vec<u8> {
 }
 
 /// What the program must print.
+#[must_use]
 pub fn stdout(cases: &[Case]) -> Vec<u8> {
     let mut output = Vec::new();
     for case in cases {

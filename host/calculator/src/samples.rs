@@ -1,18 +1,20 @@
 //! Books made from a seed and files of them, for the tests, the cases and the benchmark.
 
-use crate::calculator::optimise;
-use crate::{Holding, Line, Sheet};
+use margin_host::Line;
+
+use crate::{Row, Rows, Sheet, optimise};
 
 mod text;
 
 pub use text::{joined, quoted, records, text_of};
 
-/// SplitMix64: the same numbers from the same seed everywhere.
+/// `SplitMix64`: the same numbers from the same seed everywhere.
 #[derive(Clone, Debug)]
 pub struct Random(u64);
 
 impl Random {
     /// Starts at a seed.
+    #[must_use]
     pub fn new(seed: u64) -> Random {
         Random(seed)
     }
@@ -26,22 +28,38 @@ impl Random {
         mixed ^ (mixed >> 31)
     }
 
-    /// A number below `limit`, which is at least 1.
+    /// A number below `limit`.
+    ///
+    /// # Panics
+    ///
+    /// If `limit` is 0.
     pub fn below(&mut self, limit: u64) -> u64 {
         self.bits() % limit
     }
 
-    /// A place in a list of this length, which is at least 1.
+    /// A place in a list of this length.
+    ///
+    /// # Panics
+    ///
+    /// If the length is 0.
     pub fn place(&mut self, length: usize) -> usize {
         self.below(length as u64) as usize
     }
 
     /// One of a list.
+    ///
+    /// # Panics
+    ///
+    /// If the list is empty.
     pub fn pick<T: Copy>(&mut self, list: &[T]) -> T {
         list[self.place(list.len())]
     }
 
     /// A number of one of several ranges, both ends included.
+    ///
+    /// # Panics
+    ///
+    /// If there is no range, or one whose ends are exchanged.
     pub fn within(&mut self, ranges: &[(u64, u64)]) -> u64 {
         let (low, high) = self.pick(ranges);
         low + self.below(high - low + 1)
@@ -192,11 +210,11 @@ pub const SHAPES: [Shape; 18] = [
 ];
 
 /// Draws a book.
-pub fn holdings(random: &mut Random, shape: &Shape, size: usize) -> Vec<Holding> {
-    let mut book: Vec<Holding> = Vec::with_capacity(size);
+pub fn holdings(random: &mut Random, shape: &Shape, size: usize) -> Vec<Row> {
+    let mut book: Vec<Row> = Vec::with_capacity(size);
     for number in 0..size {
         let holding = if number < shape.different {
-            Holding {
+            Row {
                 side: random.pick(shape.sides),
                 kind: random.pick(shape.kinds),
                 issuer: random.pick(shape.issuers),
@@ -212,9 +230,14 @@ pub fn holdings(random: &mut Random, shape: &Shape, size: usize) -> Vec<Holding>
 }
 
 /// The book with a best proposal on it.
-pub fn best_sheet(holdings: &[Holding]) -> Sheet {
-    let mut sheet = Sheet::of(holdings, 0);
-    let best = optimise(&sheet.book()).expect("the holdings are within their ranges");
+///
+/// # Panics
+///
+/// If a holding is outside its ranges, or there are more than 256.
+#[must_use]
+pub fn best_sheet(holdings: &[Row]) -> Sheet {
+    let mut sheet = Sheet::of_rows(holdings, 0);
+    let best = optimise(&sheet).expect("the holdings are within their ranges");
     best.put_on(&mut sheet);
     sheet
 }

@@ -1,13 +1,17 @@
 //! Sheets as files.
 
-use crate::Sheet;
-use crate::calculator::{ISSUERS, KINDS, SIDES};
+use crate::{ISSUERS, KINDS, Rows, SIDES, Sheet};
 
-/// The records of a sheet whose sides, kinds and issuers are in their ranges: holdings, then lines.
+/// The records of a sheet: holdings, then lines.
+///
+/// # Panics
+///
+/// If a side, kind or issuer is unknown, or the columns differ in length.
+#[must_use]
 pub fn records(sheet: &Sheet) -> Vec<String> {
     let mut records = Vec::with_capacity(sheet.side.len() + sheet.long.len());
     for (number, price) in sheet.price.iter().enumerate() {
-        let holding = sheet.book().holding(number);
+        let holding = sheet.row(number);
         let side = SIDES[holding.side as usize];
         let kind = KINDS[holding.kind as usize];
         let issuer = ISSUERS[holding.issuer as usize];
@@ -31,11 +35,17 @@ pub fn joined<T: AsRef<str>>(records: &[T]) -> Vec<u8> {
 }
 
 /// The file of a sheet.
+///
+/// # Panics
+///
+/// As [`records`].
+#[must_use]
 pub fn text_of(sheet: &Sheet) -> Vec<u8> {
     joined(&records(sheet))
 }
 
 /// A record without quotes, with each of its fields in quotes.
+#[must_use]
 pub fn quoted(record: &str) -> String {
     let fields: Vec<String> = record
         .split(',')

@@ -4,9 +4,11 @@
 //! how much its two prices exceed its saving rate. After each path the prices move by the distances, so
 //! they always cover, and what is priced above 0 is used up. All of it is in whole numbers.
 
-use super::article::{Position, saving_rate};
-use super::plain::{MOST_HOLDINGS, in_range};
-use crate::{Book, Line, Refusal, Sheet};
+use margin_host::{Line, Refusal};
+
+use crate::article::{Position, saving_rate};
+use crate::plain::{MOST_HOLDINGS, in_range};
+use crate::{Rows, Sheet};
 
 mod forest;
 mod path;
@@ -32,12 +34,12 @@ impl Best {
     }
 }
 
-/// Finds a best proposal.
+/// Finds a best proposal for the book of a sheet, whatever the proposal on it.
 ///
 /// # Errors
 ///
 /// A book that the check would refuse whatever the proposal, with that refusal.
-pub fn optimise(book: &Book<'_>) -> Result<Best, Refusal> {
+pub fn optimise(book: &Sheet) -> Result<Best, Refusal> {
     let mut market = Market::of(book)?;
     for long in 0..market.longs.len() {
         market.place(long);
@@ -68,7 +70,7 @@ struct Market {
 }
 
 impl Market {
-    fn of(book: &Book<'_>) -> Result<Market, Refusal> {
+    fn of(book: &Sheet) -> Result<Market, Refusal> {
         let positions = positions(book)?;
         let side = |side: u64| {
             let holdings: Vec<usize> = (0..positions.len())
@@ -153,9 +155,9 @@ fn savings(positions: &[Position], longs: &Side, shorts: &Side) -> Vec<Option<u6
 }
 
 /// The position of each holding, or the refusal of the book: 1, 3, or 4 to 8.
-fn positions(book: &Book<'_>) -> Result<Vec<Position>, Refusal> {
+fn positions(book: &Sheet) -> Result<Vec<Position>, Refusal> {
     let count = book.side.len();
-    let columns = [book.kind, book.issuer, book.days, book.value];
+    let columns = [&book.kind, &book.issuer, &book.days, &book.value];
     if columns.iter().any(|column| column.len() != count) {
         return Err(Refusal::ColumnsDiffer);
     }
@@ -163,7 +165,7 @@ fn positions(book: &Book<'_>) -> Result<Vec<Position>, Refusal> {
         return Err(Refusal::TooManyHoldings);
     }
     let position = |number: usize| {
-        let holding = book.holding(number);
+        let holding = book.row(number);
         in_range(number as u64, &holding, 0).map(|()| Position::of(&holding))
     };
     (0..count).map(position).collect()

@@ -4,7 +4,7 @@ use std::env;
 use std::io::{self, Write};
 use std::process::ExitCode;
 
-use margin_host::cases::{all, stdin, stdout};
+use margin_calculator::cases::{all, stdin, stdout};
 
 fn main() -> ExitCode {
     let bytes = match env::args().nth(1).as_deref() {

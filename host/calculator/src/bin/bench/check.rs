@@ -1,0 +1,152 @@
+//! Calls a second of the exported check and of the calculator's plain check.
+
+use std::hint::black_box;
+
+use margin_calculator::samples::{ANY, Random, Shape, best_sheet, holdings, split_lines};
+use margin_calculator::{Row, Rows, Sheet, margin_check};
+use margin_host::{Columns, raw};
+
+use crate::SEED;
+use crate::timing::{BATCHES, rates};
+
+type Call = fn(&Columns<&[u8]>, &mut [u8], &mut [u8], &mut [u8]) -> u64;
+
+/// Days of the first period alone.
+const ONE_PERIOD: &[(u64, u64)] = &[(1, 365)];
+
+/// The lists that a call writes.
+#[derive(Clone, PartialEq, Eq)]
+struct Lists {
+    remainder: Vec<u8>,
+    ranking: Vec<u8>,
+    answer: [u8; 16],
+}
+
+/// Prints a line for each book.
+pub fn run() {
+    println!("Proposals from seed {SEED:#x}; half long, half short; kinds and issuers mixed.");
+    println!(
+        "One period: every long with every short is allowed. Outputs are not cleared before a call."
+    );
+    println!("Median of {BATCHES} alternating batches; calls a second, and their ratio.");
+    println!();
+    println!(
+        "{:>8}  {:<14} {:>5}  {:>6}  {:>12}  {:>12}  {:>12}",
+        "holdings", "book", "lines", "number", "check", "plain", "check/plain"
+    );
+    for size in [1, 16, 64, 256] {
+        print_line("one period", &sheet_of(size, ONE_PERIOD), 0);
+        print_line("mixed periods", &sheet_of(size, ANY.days), 0);
+    }
+    print_line("uncovered late", &uncovered_late(), 16);
+    print_line("nothing paired", &nothing_paired(), 0);
+}
+
+/// Measures a sheet to which both must give this number.
+fn print_line(book: &str, sheet: &Sheet, number: u64) {
+    let [ours, plain] = measure(sheet, number);
+    let (size, lines) = (sheet.side.len(), sheet.long.len());
+    let ratio = ours / plain;
+    println!(
+        "{size:>8}  {book:<14} {lines:>5}  {number:>6}  {ours:>12.0}  {plain:>12.0}  {ratio:>12.2}"
+    );
+}
+
+/// A best proposal, its lines split until there are twice as many as holdings.
+pub fn sheet_of(size: usize, days: &'static [(u64, u64)]) -> Sheet {
+    let mut sheet = best_sheet(&book_of(size, days));
+    split_lines(&mut sheet, 2 * size);
+    sheet
+}
+
+/// Longs and shorts in turn. The longs are strips, so that in one period each of them may be paired with
+/// every short.
+fn book_of(size: usize, days: &'static [(u64, u64)]) -> Vec<Row> {
+    let mut random = Random::new(SEED);
+    let (sides, kinds) = (&[0][..], &[1, 2][..]);
+    let values = &[(1_000_000, 100_000_000_000)][..];
+    let long = Shape {
+        sides,
+        kinds,
+        days,
+        values,
+        ..ANY
+    };
+    let short = Shape {
+        sides: &[1],
+        kinds: ANY.kinds,
+        ..long
+    };
+    let mut book = Vec::with_capacity(size);
+    for number in 0..size {
+        let shape = if number % 2 == 0 { &long } else { &short };
+        book.extend(holdings(&mut random, shape, 1));
+    }
+    book
+}
+
+/// A full book whose last long with a price has one unit too little, so that all longs before it are
+/// looked at.
+fn uncovered_late() -> Sheet {
+    let mut sheet = sheet_of(256, ONE_PERIOD);
+    let priced = |holding: &usize| sheet.side[*holding] == 0 && sheet.price[*holding] > 0;
+    let last = (0..256).rfind(priced).expect("a long has a price");
+    sheet.price[last] -= 1;
+    sheet
+}
+
+/// A full book of bonds, which pair with no bond.
+fn nothing_paired() -> Sheet {
+    let mut book = book_of(256, ANY.days);
+    for row in &mut book {
+        row.kind = 0;
+    }
+    Sheet::of_rows(&book, 0)
+}
+
+/// Calls a second of the check and of the plain check.
+fn measure(sheet: &Sheet, number: u64) -> [f64; 2] {
+    let calls: [Call; 2] = [raw::margin_check, margin_check];
+    let columns = sheet.bytes();
+    let columns = columns.each_ref().map(Vec::as_slice);
+    let bytes = columns.side.len();
+    let fresh = Lists {
+        remainder: vec![1; bytes],
+        ranking: vec![1; bytes],
+        answer: [1; 16],
+    };
+    let [mut ours, mut plain] = calls.map(|_| fresh.clone());
+    let numbers = [
+        call_once(calls[0], &columns, &mut ours),
+        call_once(calls[1], &columns, &mut plain),
+    ];
+    assert_eq!(numbers, [number; 2], "both give the number");
+    assert!(ours == plain, "both leave the same bytes");
+    let rates = rates([
+        &mut || {
+            black_box(call_once(
+                calls[0],
+                black_box(&columns),
+                black_box(&mut ours),
+            ));
+        },
+        &mut || {
+            black_box(call_once(
+                calls[1],
+                black_box(&columns),
+                black_box(&mut plain),
+            ));
+        },
+    ]);
+    assert!(ours == plain, "both still leave the same bytes");
+    rates
+}
+
+fn call_once(call: Call, columns: &Columns<&[u8]>, lists: &mut Lists) -> u64 {
+    call(
+        columns,
+        &mut lists.remainder,
+        &mut lists.ranking,
+        &mut lists.answer,
+    )
+}

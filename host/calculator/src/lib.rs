@@ -1,0 +1,30 @@
+//! An independent calculator, written from document 01, the customer's scope, and the article's text
+//! alone. It shares nothing with the proved crates, and the tests hold the one against the other.
+//!
+//! [`margin_check`] says what the check must return and what it must leave in every lent list, byte for
+//! byte, and [`margin_read`] the same of the file's reader. [`print()`] says what the program prints for
+//! a file. [`optimise`] finds the pairing with the largest saving, and prices that show it. [`samples`]
+//! makes books and files from seeds, and [`cases`] has the files that the program `cases` is given.
+
+#![deny(missing_docs)]
+
+mod article;
+pub mod cases;
+mod cover;
+mod file;
+mod fraction;
+mod optimise;
+mod plain;
+pub mod samples;
+mod sheet;
+
+pub use article::{Class, Position, pair_rate, saving_rate};
+pub use file::{ISSUERS, KINDS, MOST_BYTES, SIDES, margin_read, print, read};
+pub use optimise::{Best, optimise};
+pub use plain::margin_check;
+pub use sheet::{Row, Rows, Sheet};
+
+/// The Rust examples of the README.
+#[cfg(doctest)]
+#[doc = include_str!(concat!(env!("OUT_DIR"), "/readme.md"))]
+struct Readme;

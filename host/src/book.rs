@@ -1,0 +1,115 @@
+//! A book and a proposal on it.
+
+use crate::{Issuer, Kind, Side};
+
+/// One holding. Its ranges are the check's to judge.
+#[derive(Clone, Copy, Debug, PartialEq, Eq, Hash)]
+pub struct Holding {
+    /// Long or short.
+    pub side: Side,
+    /// Bond, stripped coupon or residual.
+    pub kind: Kind,
+    /// Canada or a province.
+    pub issuer: Issuer,
+    /// Days to maturity, for a coupon to its payment date: 1 to 36,500.
+    pub days: u64,
+    /// Market value in cents, 1 to 100,000,000,000.
+    pub value: u64,
+}
+
+/// A book: up to 256 holdings, numbered from 0. Two may be alike in everything.
+///
+/// ```
+/// use margin_host::{Book, Holding, Issuer, Kind, Side};
+///
+/// let records = [("ON", 1_000), ("QC", 2_000)];
+/// let book: Result<Book, _> = records
+///     .into_iter()
+///     .map(|(issuer, value)| {
+///         Ok::<_, margin_host::UnknownCode>(Holding {
+///             side: Side::Long,
+///             kind: Kind::Bond,
+///             issuer: issuer.parse()?,
+///             days: 400,
+///             value,
+///         })
+///     })
+///     .collect();
+/// assert_eq!(book.map(|book| book.holdings[1].issuer), Ok(Issuer::Quebec));
+/// ```
+#[derive(Clone, Debug, Default, PartialEq, Eq, Hash)]
+pub struct Book {
+    /// The holdings in the order of their numbers.
+    pub holdings: Vec<Holding>,
+}
+
+impl Book {
+    /// A book of these holdings.
+    ///
+    /// ```
+    /// use margin_host::{Book, Holding, Issuer, Kind, Side};
+    ///
+    /// let bond = Holding {
+    ///     side: Side::Long,
+    ///     kind: Kind::Bond,
+    ///     issuer: Issuer::Canada,
+    ///     days: 365,
+    ///     value: 1_000,
+    /// };
+    /// let coupon = Holding { kind: Kind::Coupon, ..bond };
+    /// assert_eq!(Book::new([bond, coupon]).holdings, vec![bond, coupon]);
+    /// ```
+    #[must_use]
+    pub fn new(holdings: impl Into<Vec<Holding>>) -> Book {
+        Book {
+            holdings: holdings.into(),
+        }
+    }
+}
+
+impl FromIterator<Holding> for Book {
+    fn from_iter<T: IntoIterator<Item = Holding>>(holdings: T) -> Book {
+        Book {
+            holdings: holdings.into_iter().collect(),
+        }
+    }
+}
+
+/// One pair line.
+#[derive(Clone, Copy, Debug, PartialEq, Eq, Hash)]
+pub struct Line {
+    /// The number of a long.
+    pub long: u64,
+    /// The number of a short.
+    pub short: u64,
+    /// The amount of market value in cents, 1 or more.
+    pub amount: u64,
+}
+
+/// A proposal on a book: a price for each holding, and up to 512 lines.
+#[derive(Clone, Debug, Default, PartialEq, Eq, Hash)]
+pub struct Proposal {
+    /// The price of each holding, 0 to 43,800.
+    pub prices: Vec<u64>,
+    /// The lines in the order of their numbers.
+    pub lines: Vec<Line>,
+}
+
+impl Proposal {
+    /// A proposal of these prices and lines.
+    ///
+    /// ```
+    /// use margin_host::{Line, Proposal};
+    ///
+    /// let line = Line { long: 0, short: 1, amount: 600_000 };
+    /// let proposal = Proposal::new([0, 5_840], [line]);
+    /// assert_eq!((proposal.prices.len(), proposal.lines.len()), (2, 1));
+    /// ```
+    #[must_use]
+    pub fn new(prices: impl Into<Vec<u64>>, lines: impl Into<Vec<Line>>) -> Proposal {
+        Proposal {
+            prices: prices.into(),
+            lines: lines.into(),
+        }
+    }
+}

@@ -1,0 +1,213 @@
+//! A book and a proposal as columns.
+
+use crate::{Book, Holding, Issuer, Kind, Line, Proposal, Side};
+
+/// Defines the columns by their names, in the order in which they are lent.
+macro_rules! columns {
+    (
+        holdings { $($(#[$of_a_holding:meta])* $holding:ident,)+ }
+        lines { $($(#[$of_a_line:meta])* $line:ident,)+ }
+    ) => {
+        /// The columns of a book and of a proposal on it: entry `i` of `side` to `price` belongs to
+        /// holding `i`, and entry `i` of `long` to `amount` to line `i`.
+        ///
+        /// What a column is, is left open: `Columns<&[u64]>` and `Columns<Vec<u64>>` have numbers,
+        /// which the check judges whatever they are; [`raw`](crate::raw) has bytes.
+        ///
+        /// ```
+        /// use margin_host::Columns;
+        ///
+        /// let columns: Columns<&[u64]> = Columns {
+        ///     side: &[0, 1, 1],
+        ///     kind: &[1, 0, 2],
+        ///     issuer: &[0, 0, 7],
+        ///     days: &[2_000, 2_000, 2_000],
+        ///     value: &[1_000_000, 600_000, 300_000],
+        ///     price: &[0, 5_840, 6_570],
+        ///     long: &[0, 0],
+        ///     short: &[1, 2],
+        ///     amount: &[600_000, 300_000],
+        /// };
+        /// assert_eq!(columns.map(<[u64]>::len), Columns::by_group(3, 2));
+        /// ```
+        #[derive(Clone, Copy, Debug, Default, PartialEq, Eq, Hash)]
+        pub struct Columns<C> {
+            $($(#[$of_a_holding])* pub $holding: C,)+
+            $($(#[$of_a_line])* pub $line: C,)+
+        }
+
+        const COUNT: usize = [$(stringify!($holding),)+ $(stringify!($line),)+].len();
+
+        impl<C> Columns<C> {
+            /// The same for each column of the holdings, and the same for each column of the lines.
+            ///
+            /// ```
+            /// use margin_host::Columns;
+            ///
+            /// let counts = Columns::by_group(256, 512);
+            /// assert_eq!((counts.side, counts.price, counts.long), (256, 256, 512));
+            /// ```
+            #[must_use]
+            pub fn by_group(holdings: C, lines: C) -> Columns<C>
+            where
+                C: Clone,
+            {
+                Columns { $($holding: holdings.clone(),)+ $($line: lines.clone(),)+ }
+            }
+
+            /// The columns from an array in the order in which they are lent.
+            ///
+            /// ```
+            /// use margin_host::Columns;
+            ///
+            /// let places = Columns::from_array(std::array::from_fn(|place| place));
+            /// assert_eq!((places.side, places.kind, places.issuer), (0, 1, 2));
+            /// ```
+            #[must_use]
+            pub fn from_array([$($holding,)+ $($line,)+]: [C; COUNT]) -> Columns<C> {
+                Columns { $($holding,)+ $($line,)+ }
+            }
+
+            /// The columns as an array in the order in which they are lent.
+            ///
+            /// ```
+            /// use margin_host::Columns;
+            ///
+            /// let [side, .., amount] = Columns::by_group(256, 512).into_array();
+            /// assert_eq!((side, amount), (256, 512));
+            /// ```
+            #[must_use]
+            pub fn into_array(self) -> [C; COUNT] {
+                let Columns { $($holding,)+ $($line,)+ } = self;
+                [$($holding,)+ $($line,)+]
+            }
+
+            /// The columns by reference.
+            ///
+            /// ```
+            /// use margin_host::Columns;
+            ///
+            /// let columns = Columns::by_group(vec![0; 3], vec![0; 2]);
+            /// assert_eq!(columns.each_ref().map(Vec::len), Columns::by_group(3, 2));
+            /// ```
+            #[must_use]
+            pub fn each_ref(&self) -> Columns<&C> {
+                let Columns { $($holding,)+ $($line,)+ } = self;
+                Columns { $($holding,)+ $($line,)+ }
+            }
+
+            /// The columns by reference, to be changed.
+            ///
+            /// ```
+            /// use margin_host::Columns;
+            ///
+            /// let mut columns = Columns::by_group(vec![0; 3], vec![0; 2]);
+            /// for column in columns.each_mut().into_array() {
+            ///     column.push(7);
+            /// }
+            /// assert_eq!(columns.amount, vec![0, 0, 7]);
+            /// ```
+            #[must_use]
+            pub fn each_mut(&mut self) -> Columns<&mut C> {
+                let Columns { $($holding,)+ $($line,)+ } = self;
+                Columns { $($holding,)+ $($line,)+ }
+            }
+
+            /// The columns, each changed.
+            ///
+            /// ```
+            /// use margin_host::Columns;
+            ///
+            /// let bytes = Columns::by_group(3, 2).map(|count| 8 * count);
+            /// assert_eq!(bytes, Columns::by_group(24, 16));
+            /// ```
+            #[must_use]
+            pub fn map<D>(self, change: impl FnMut(C) -> D) -> Columns<D> {
+                Columns::from_array(self.into_array().map(change))
+            }
+        }
+    };
+}
+
+columns! {
+    holdings {
+        /// 0 long, 1 short: [`Side::number`].
+        side,
+        /// 0 bond or debenture, 1 stripped coupon, 2 residual: [`Kind::number`].
+        kind,
+        /// 0 Canada, 1 to 10 a province: [`Issuer::number`].
+        issuer,
+        /// Days to maturity, 1 to 36,500.
+        days,
+        /// Market value in cents, 1 to 100,000,000,000.
+        value,
+        /// The proposal's price of each holding, 0 to 43,800.
+        price,
+    }
+    lines {
+        /// The long of each line.
+        long,
+        /// The short of each line.
+        short,
+        /// The amount of each line in cents, 1 or more.
+        amount,
+    }
+}
+
+impl Columns<Vec<u64>> {
+    /// The columns of a book and a proposal.
+    ///
+    /// ```
+    /// use margin_host::{Book, Columns, Holding, Issuer, Kind, Proposal, Side};
+    ///
+    /// let holding = Holding {
+    ///     side: Side::Short,
+    ///     kind: Kind::Residual,
+    ///     issuer: Issuer::Ontario,
+    ///     days: 2_000,
+    ///     value: 300_000,
+    /// };
+    /// let columns = Columns::of(&Book::new([holding]), &Proposal::new([6_570], []));
+    /// assert_eq!((columns.side, columns.kind, columns.issuer), (vec![1], vec![2], vec![7]));
+    /// ```
+    #[must_use]
+    pub fn of(book: &Book, proposal: &Proposal) -> Columns<Vec<u64>> {
+        let holdings = |number: fn(&Holding) -> u64| book.holdings.iter().map(number).collect();
+        let lines = |number: fn(&Line) -> u64| proposal.lines.iter().map(number).collect();
+        Columns {
+            side: holdings(|holding| holding.side.number()),
+            kind: holdings(|holding| holding.kind.number()),
+            issuer: holdings(|holding| holding.issuer.number()),
+            days: holdings(|holding| holding.days),
+            value: holdings(|holding| holding.value),
+            price: proposal.prices.clone(),
+            long: lines(|line| line.long),
+            short: lines(|line| line.short),
+            amount: lines(|line| line.amount),
+        }
+    }
+
+    /// The book and the proposal of columns as long as they must be, if every side, kind and issuer is
+    /// known.
+    pub(crate) fn book_and_proposal(self) -> Option<(Book, Proposal)> {
+        let holding = |at: usize| {
+            Some(Holding {
+                side: Side::from_number(self.side[at])?,
+                kind: Kind::from_number(self.kind[at])?,
+                issuer: Issuer::from_number(self.issuer[at])?,
+                days: self.days[at],
+                value: self.value[at],
+            })
+        };
+        let line = |at: usize| Line {
+            long: self.long[at],
+            short: self.short[at],
+            amount: self.amount[at],
+        };
+        let book = (0..self.side.len())
+            .map(holding)
+            .collect::<Option<Book>>()?;
+        let lines: Vec<Line> = (0..self.long.len()).map(line).collect();
+        Some((book, Proposal::new(self.price, lines)))
+    }
+}

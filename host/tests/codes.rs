@@ -1,0 +1,117 @@
+//! Sides, kinds and issuers: their texts and numbers.
+
+use std::fmt::{Debug, Display};
+use std::str::FromStr;
+
+use margin_calculator::{ISSUERS, KINDS, SIDES};
+use margin_host::{Issuer, Kind, Side, UnknownCode};
+
+/// Texts that are no side, kind or issuer.
+const FOREIGN: [&str; 14] = [
+    "", " ", "l", "s", "b", "c", "ca", "Ca", "on", "YT", "NT", "NU", "CAN", "0",
+];
+
+/// Every value has the text and the number of its place among all, and no other text or number has one.
+fn there_and_back<T>(
+    all: &[T],
+    texts: &[&str],
+    number: fn(T) -> u64,
+    from_number: fn(u64) -> Option<T>,
+) where
+    T: Copy + Debug + PartialEq + Ord + Display + FromStr<Err = UnknownCode>,
+{
+    assert_eq!(all.len(), texts.len());
+    assert!(all.is_sorted(), "in the order of the numbers");
+    for (place, (value, text)) in all.iter().zip(texts).enumerate() {
+        assert_eq!(number(*value), place as u64);
+        assert_eq!(from_number(place as u64), Some(*value));
+        assert_eq!(value.to_string(), *text);
+        assert_eq!(text.parse(), Ok(*value));
+        for changed in [
+            text.to_lowercase(),
+            format!("{text} "),
+            format!(" {text}"),
+            format!("\"{text}\""),
+            text.repeat(2),
+        ] {
+            assert!(changed.parse::<T>().is_err(), "{changed:?}");
+        }
+    }
+    for number in [all.len() as u64, 11, 256, 1 << 32, u64::MAX] {
+        assert_eq!(from_number(number), None);
+    }
+    for text in FOREIGN {
+        assert!(text.parse::<T>().is_err(), "{text:?}");
+    }
+}
+
+#[test]
+fn sides() {
+    there_and_back(&Side::ALL, &["L", "S"], Side::number, Side::from_number);
+    assert_eq!([Side::Long, Side::Short].map(Side::number), [0, 1]);
+}
+
+#[test]
+fn kinds() {
+    let texts = ["B", "C", "R"];
+    there_and_back(&Kind::ALL, &texts, Kind::number, Kind::from_number);
+    let kinds = [Kind::Bond, Kind::Coupon, Kind::Residual];
+    assert_eq!(kinds.map(Kind::number), [0, 1, 2]);
+}
+
+#[test]
+fn issuers() {
+    let texts = [
+        "CA", "AB", "BC", "MB", "NB", "NL", "NS", "ON", "PE", "QC", "SK",
+    ];
+    there_and_back(&Issuer::ALL, &texts, Issuer::number, Issuer::from_number);
+    let named = [
+        Issuer::Canada,
+        Issuer::Alberta,
+        Issuer::BritishColumbia,
+        Issuer::Manitoba,
+        Issuer::NewBrunswick,
+        Issuer::NewfoundlandAndLabrador,
+        Issuer::NovaScotia,
+        Issuer::Ontario,
+        Issuer::PrinceEdwardIsland,
+        Issuer::Quebec,
+        Issuer::Saskatchewan,
+    ];
+    assert_eq!(named, Issuer::ALL);
+}
+
+#[test]
+fn the_calculator_has_the_same_texts() {
+    assert_eq!(Side::ALL.map(|side| side.to_string()), SIDES);
+    assert_eq!(Kind::ALL.map(|kind| kind.to_string()), KINDS);
+    assert_eq!(Issuer::ALL.map(|issuer| issuer.to_string()), ISSUERS);
+}
+
+#[test]
+fn texts_are_padded_as_asked() {
+    let (side, issuer) = (Side::Long, Issuer::Ontario);
+    assert_eq!(format!("{side:>3}|{issuer:<4}|"), "  L|ON  |");
+}
+
+#[test]
+fn an_unknown_text_in_words() {
+    let words = |error: UnknownCode| {
+        let error: &dyn std::error::Error = &error;
+        error.to_string()
+    };
+    let side = "LS".parse::<Side>().map_err(words);
+    assert_eq!(
+        side,
+        Err("unknown side \"LS\": it must be L or S".to_string())
+    );
+    let kind = "".parse::<Kind>().map_err(words);
+    assert_eq!(
+        kind,
+        Err("unknown kind \"\": it must be B, C or R".to_string())
+    );
+    let issuer = "YT".parse::<Issuer>().map_err(words);
+    let wanted = "unknown issuer \"YT\": it must be CA, AB, BC, MB, NB, NL, NS, ON, PE, QC or SK"
+        .to_string();
+    assert_eq!(issuer, Err(wanted));
+}
