@@ -8,12 +8,13 @@ use borrow.Author.Tests.{eq-eqb, ne-eqb}
 use Rattle.lists.specs.Choice.{within}
 use Rattle.lists.proofs.Tests.{by-test}
 use Rattle.holding.proofs.Ranges.{fault-none, none-fault, row-kept, holding-kept}
+use Rattle.holding.proofs.Numbers.{numbers}
 use Rattle.article.proofs.RateTable.{rate-table}
 use Rattle.article.proofs.Rates.{rate-high, half-exact}
 use Rattle.article.proofs.PairRates.{difference-excess, rate-and-saving, saving-high}
 use Rattle.article.proofs.Legs.{allowed-meets, meets-allowed, bonds-no-rule, kinds-pair, class-rule, no-class-long, no-class-short, no-rule}
 use Rattle.article.proofs.Periods.{period-1, period-2, period-3, period-4, period-5}
-use Rattle.article.specs.Article.{Numbers, Periods, MayPair, OneClass, both-canada, both-provincial, TwoClasses, canada-long, canada-short, Pairing, UnknownIssuer, Article}
+use Rattle.article.specs.Article.{Periods, MayPair, OneClass, both-canada, both-provincial, TwoClasses, canada-long, canada-short, Pairing, UnknownIssuer, Article}
 use Rattle.holding.specs.Holding.{InRange, sideNumber, kindNumber, noIssuer, issuerNumber, rowOf}
 use Rattle.article.specs.Rate.{classOf, rateOf}
 use Rattle.article.specs.Pair.{legOf, isCanada, isProvince, ruleOf, ruleRate, permits, allowed, pairRateOf}
@@ -97,20 +98,6 @@ module _ (p : ℕ) (stray : within 1 10 p ≡ false) where
     as-long = λ l s e. let (c, n) = stray-leg l e in no-rule _ _ (no-class-long _ _ c n);
     as-short = λ l s e. let (c, n) = stray-leg s e in no-rule _ _ (no-class-short _ _ c n);
   }
-
-numbers : (h : Holding) → Numbers h
-unfolding rowOf
-numbers h = record {
-  of-long = ap sideNumber;
-  of-short = ap sideNumber;
-  of-bond = ap kindNumber;
-  of-coupon = ap kindNumber;
-  of-residual = ap kindNumber;
-  of-canada = ap issuerNumber;
-  of-province = λ p w e. ap issuerNumber e ∙ rw w;
-  days = refl;
-  value = refl;
-}
 
 periods : (days : ℕ) → Periods days
 periods d = record { first = period-1 d; second = period-2 d; third = period-3 d; fourth = period-4 d; fifth = period-5 d }

@@ -6,11 +6,12 @@ use mathlib.Core.Logic.{_↔_}
 use Prim.Native.Nat.{ℕ, _+_, _*_, _≤_, _<_, min, max}
 use Rattle.lists.specs.Choice.{within}
 use Rattle.holding.specs.Holding.{Ranges, InRange, faultOf, rowOf, holdingOf}
+use Rattle.holding.specs.Numbers.{Numbers}
 use Rattle.article.specs.Rate.{periodOf, rateOf}
 use Rattle.article.specs.RateTable.{RateTable}
 use Rattle.article.specs.Pair.{legOf, allowed, pairRateOf, savingRateOf}
 use Rattle.holding.specs.declared.Side.the-variants.{Long, Short}
-use Rattle.holding.specs.declared.Kind.the-variants.{Bond, Coupon, Residual}
+use Rattle.holding.specs.declared.Kind.the-variants.{Bond}
 use Rattle.holding.specs.declared.Issuer.{Issuer}
 use Rattle.holding.specs.declared.Issuer.the-variants.{Canada, Province}
 use Rattle.holding.specs.declared.Holding.{Holding}
@@ -20,18 +21,6 @@ use Rattle.holding.specs.declared.Row.{Row}
 pub record RowKept (r : Row) : Type 0 where
   pub no-fault : (faultOf r ≡ 0) ↔ Ranges r
   pub kept : Ranges r → rowOf (holdingOf r) ≡ r
-
--- the numbers of a record. Side: 0 long, 1 short. Kind: 0 bond or debenture, 1 stripped coupon, 2 residual. Issuer: 0 Canada, 1 to 10 a province
-pub record Numbers (h : Holding) : Type 0 where
-  pub of-long : h .side ≡ Long → rowOf h .side ≡ 0
-  pub of-short : h .side ≡ Short → rowOf h .side ≡ 1
-  pub of-bond : h .kind ≡ Bond → rowOf h .kind ≡ 0
-  pub of-coupon : h .kind ≡ Coupon → rowOf h .kind ≡ 1
-  pub of-residual : h .kind ≡ Residual → rowOf h .kind ≡ 2
-  pub of-canada : h .issuer ≡ Canada → rowOf h .issuer ≡ 0
-  pub of-province : (p : ℕ) → within 1 10 p ≡ true → h .issuer ≡ Province p → rowOf h .issuer ≡ p
-  pub days : rowOf h .days ≡ h .days
-  pub value : rowOf h .value ≡ h .value
 
 -- periods end at 365, 1,095, 2,555 and 4,015 days, each end inside the earlier period; the fifth is everything longer
 pub record Periods (days : ℕ) : Type 0 where
@@ -80,6 +69,7 @@ pub record Article : Type 0 where
   pub each-row : (r : Row) → RowKept r
   -- a record within the ranges is the record of its numbers
   pub records : (h : Holding) → InRange h → holdingOf (rowOf h) ≡ h
+  -- side 0 long, 1 short; kind 0 bond, 1 coupon, 2 residual; issuer 0 Canada, 1 to 10 a province
   pub numbered : (h : Holding) → Numbers h
   pub unknown-issuers : (p : ℕ) → within 1 10 p ≡ false → UnknownIssuer p
   pub ends : (days : ℕ) → Periods days

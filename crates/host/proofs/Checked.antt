@@ -7,11 +7,9 @@ use lib.Dec.{eqb}
 use lib.ListN.{length, take, drop}
 use lib.Seq.{take-at}
 use Rattle.lists.specs.Tables.{front, zeros}
-use Rattle.lists.proofs.Tables.{length-to, getD-to}
-use Rattle.holding.specs.declared.Row.{Row}
+use Rattle.lists.proofs.Tables.{length-to}
 use Rattle.article.specs.Answer.{Answer, answer}
-use Rattle.pairing.specs.declared.Line.{Line}
-use Rattle.proposal.specs.Submission.{bookOf, submitted, priced, noRow, noLine}
+use Rattle.proposal.specs.Submission.{bookOf, submitted, priced}
 use Rattle.proposal.specs.Figures.{remainder, remaindersOf, ranked}
 use Rattle.proposal.specs.Outcome.{outcome}
 use Rattle.proposal.specs.declared.Book.{Book}
@@ -20,12 +18,12 @@ use Rattle.verdict.specs.Judges.{verdictOf, written, Judges}
 use Rattle.verdict.specs.declared.Verdict.the-variants.{Accepted, Refused}
 use Rattle.verdict.specs.declared.Judgement.{Judgement}
 use Rattle.verdict.proofs.Judged.{written-none, ranked-length, all-ranked}
-use Rattle.words.specs.Words.{entries, decode, encode}
-use Rattle.lent.specs.Columns.{Columns, rowsIn, linesIn, submission, HoldsRows, HoldsLines}
+use Rattle.words.specs.Words.{encode}
+use Rattle.lent.specs.Columns.{Columns, submission, HoldsRows, HoldsLines}
 use Rattle.sizes.specs.Sizes.{differ, tooShort, lengthFault}
 use Rattle.lent.specs.Lists.{Lent, makeLent, Answers, countWritten, Publishes}
-use Rattle.host.specs.Boundary.{sizesOf, outcomeOf, Entries, Checks}
-use Rattle.lent.proofs.Columns.{submitted-read, holdings-read, lines-read}
+use Rattle.host.specs.Boundary.{sizesOf, outcomeOf, Checks}
+use Rattle.lent.proofs.Columns.{submitted-read, holdings-read, lines-read, entries-read}
 use Rattle.host.proofs.Returned.{returned-demands}
 use Rattle.sizes.proofs.Sizes.{Passed, long-enough, lengths, sizes-refused}
 
@@ -44,26 +42,6 @@ published-list a n xs e = by (eqb (a .number) 0)
     by false = refl
 
 module _ (c : Columns) where
-  entries-read : Entries c
-  unfolding submission rowsIn linesIn decode entries
-  entries-read = record {
-    holdings = holdings-read c;
-    lines = lines-read c;
-    holding = λ k h.
-        let row = getD-to _ _ k noRow h in
-        record {
-          side = ap (λ (r : Row). r .side) row;
-          kind = ap (λ (r : Row). r .kind) row;
-          issuer = ap (λ (r : Row). r .issuer) row;
-          days = ap (λ (r : Row). r .days) row;
-          value = ap (λ (r : Row). r .value) row;
-        };
-    price = λ k h. getD-to _ _ k 0 h;
-    line = λ k h.
-        let line = getD-to _ _ k noLine h in
-        record { long = ap (λ (l : Line). l .long) line; short = ap (λ (l : Line). l .short) line; amount = ap (λ (l : Line). l .amount) line };
-  }
-
   count-read : priced (submission c) .count ≡ length (c .side) / 8
   unfolding priced bookOf
   count-read = holdings-read c
@@ -84,7 +62,7 @@ module _ (c : Columns) where
         let d = returned-demands (differ z) (tooShort z) (submission c) (before .answer) out′ r (λ e. long-enough z e .2) returned in
         let l = lengths z in
         record {
-          submitted = entries-read;
+          submitted = entries-read c;
           returned = returned;
           remainder = p;
           ranking = q;

@@ -2,18 +2,18 @@
 -- numbers": what the exported check promises of what is lent. Assumes nothing.
 use mathlib.Core.Path.{_≡_}
 use mathlib.Core.Logic.{_↔_}
-use Prim.Native.Nat.{ℕ, _/_, _<_}
-use lib.ListN.{length, getD}
+use Prim.Native.Nat.{ℕ}
+use lib.ListN.{length}
 use Rattle.lists.specs.Tables.{front}
 use Rattle.article.specs.Answer.{Answer}
 use Rattle.ranking.specs.Ranking.{Ranks}
-use Rattle.proposal.specs.Submission.{priced, noRow, noLine}
+use Rattle.proposal.specs.Submission.{priced}
 use Rattle.proposal.specs.Figures.{margin, remaindersOf, ranked}
 use Rattle.proposal.specs.Outcome.{outcome}
 use Rattle.proposal.specs.Demands.{Acceptable, Demands}
 use Rattle.verdict.specs.Judges.{written}
-use Rattle.words.specs.Words.{wordAt, encode}
-use Rattle.lent.specs.Columns.{Columns, submission}
+use Rattle.words.specs.Words.{encode}
+use Rattle.lent.specs.Columns.{Columns, submission, Entries}
 use Rattle.sizes.specs.Sizes.{Sizes, makeSizes, Lengths, differ, tooShort}
 use Rattle.lent.specs.Lists.{Lent, answerIn, Answers}
 
@@ -27,31 +27,10 @@ sizesOf c l =
 unfoldable pub outcomeOf : Columns → Lent → Answer
 outcomeOf c l = outcome (differ (sizesOf c l)) (tooShort (sizesOf c l)) (submission c)
 
--- what is submitted at an entry of the columns: the numbers of a holding with its price, and of a line
-pub record HoldingAt (c : Columns) (k : ℕ) : Type 0 where
-  pub side : getD (submission c .rows) k noRow .side ≡ wordAt (c .side) k
-  pub kind : getD (submission c .rows) k noRow .kind ≡ wordAt (c .kind) k
-  pub issuer : getD (submission c .rows) k noRow .issuer ≡ wordAt (c .issuer) k
-  pub days : getD (submission c .rows) k noRow .days ≡ wordAt (c .days) k
-  pub value : getD (submission c .rows) k noRow .value ≡ wordAt (c .value) k
-
-pub record LineAt (c : Columns) (k : ℕ) : Type 0 where
-  pub long : getD (submission c .lines) k noLine .long ≡ wordAt (c .long) k
-  pub short : getD (submission c .lines) k noLine .short ≡ wordAt (c .short) k
-  pub amount : getD (submission c .lines) k noLine .amount ≡ wordAt (c .amount) k
-
--- a book or proposal has as many holdings or lines as its columns have entries
-pub record Entries (c : Columns) : Type 0 where
-  pub holdings : length (submission c .rows) ≡ length (c .side) / 8
-  pub lines : length (submission c .lines) ≡ length (c .long) / 8
-  pub holding : (k : ℕ) → k < length (c .side) / 8 → HoldingAt c k
-  pub price : (k : ℕ) → k < length (c .price) / 8 → getD (submission c .prices) k 0 ≡ wordAt (c .price) k
-  pub line : (k : ℕ) → k < length (c .long) / 8 → LineAt c k
-
 -- what the exported check promises of what is lent, before and after, and of the number that it returns
 module _ (c : Columns) (before after : Lent) (r : ℕ) where
   pub record Checks : Type 0 where
-    -- what is submitted stands in the columns
+    -- a book or proposal has as many holdings or lines as its columns have entries, and of each the numbers that stand there
     pub submitted : Entries c
     -- the refusal number, 0 for accepted, is returned; units and cents, or the two places, stand in the answer slice, where the host reads them
     pub returned : Answers (outcomeOf c before) (before .answer) (after .answer) r

@@ -12,7 +12,7 @@ use Rattle.proposal.specs.Submission.{noRow, noLine, rowsOf, pricesOf, linesOf,
 use Rattle.proposal.specs.declared.Book.{Book}
 use Rattle.proposal.specs.declared.Proposal.{Proposal}
 use Rattle.words.specs.Words.{wordAt, entries, decode}
-use Rattle.lent.specs.Columns.{Columns, rowIn, lineIn, rowsIn, linesIn, submission, HoldsRows, HoldsLines}
+use Rattle.lent.specs.Columns.{Columns, rowIn, lineIn, rowsIn, linesIn, submission, Entries, HoldsRows, HoldsLines}
 
 -- rows, and lines, of equal numbers
 pub row-eq : {s s′ k k′ i i′ d d′ v v′ : ℕ} → s ≡ s′ → k ≡ k′ → i ≡ i′ → d ≡ d′ → v ≡ v′
@@ -71,3 +71,24 @@ holdings-read c = length-to (length (c .side) / 8) _
 pub lines-read : (c : Columns) → length (submission c .lines) ≡ length (c .long) / 8
 unfolding submission linesIn entries
 lines-read c = length-to (length (c .long) / 8) _
+
+-- what is submitted stands in the columns
+pub entries-read : (c : Columns) → Entries c
+unfolding submission rowsIn linesIn decode entries
+entries-read c = record {
+  holdings = holdings-read c;
+  lines = lines-read c;
+  holding = λ k h.
+      let row = getD-to _ _ k noRow h in
+      record {
+        side = ap (λ (r : Row). r .side) row;
+        kind = ap (λ (r : Row). r .kind) row;
+        issuer = ap (λ (r : Row). r .issuer) row;
+        days = ap (λ (r : Row). r .days) row;
+        value = ap (λ (r : Row). r .value) row;
+      };
+  price = λ k h. getD-to _ _ k 0 h;
+  line = λ k h.
+      let line = getD-to _ _ k noLine h in
+      record { long = ap (λ (l : Line). l .long) line; short = ap (λ (l : Line). l .short) line; amount = ap (λ (l : Line). l .amount) line };
+}

@@ -1,11 +1,12 @@
 -- Document 01, "A book or proposal has as many holdings or lines as its columns have entries": columns of bytes, and what they hold. Assumes nothing.
 use mathlib.Core.Path.{_≡_}
 use mathlib.Core.List.{List}
-use Prim.Native.Nat.{ℕ}
+use Prim.Native.Nat.{ℕ, _/_, _<_}
+use lib.ListN.{length, getD}
 use Rattle.lists.specs.Tables.{listTo, front, zeros}
 use Rattle.holding.specs.declared.Row.{Row}
 use Rattle.pairing.specs.declared.Line.{Line}
-use Rattle.proposal.specs.Submission.{Submission, rowsOf, linesOf}
+use Rattle.proposal.specs.Submission.{Submission, noRow, noLine, rowsOf, linesOf}
 use Rattle.proposal.specs.declared.Book.{Book}
 use Rattle.proposal.specs.declared.Proposal.{Proposal}
 use Rattle.words.specs.Words.{wordAt, entries, decode}
@@ -61,6 +62,27 @@ submission c = record {
   prices = decode (c .price);
   lines = linesIn (c .long) (c .short) (c .amount);
 }
+
+-- what is submitted at an entry of the columns: the numbers of a holding with its price, and of a line
+pub record HoldingAt (c : Columns) (k : ℕ) : Type 0 where
+  pub side : getD (submission c .rows) k noRow .side ≡ wordAt (c .side) k
+  pub kind : getD (submission c .rows) k noRow .kind ≡ wordAt (c .kind) k
+  pub issuer : getD (submission c .rows) k noRow .issuer ≡ wordAt (c .issuer) k
+  pub days : getD (submission c .rows) k noRow .days ≡ wordAt (c .days) k
+  pub value : getD (submission c .rows) k noRow .value ≡ wordAt (c .value) k
+
+pub record LineAt (c : Columns) (k : ℕ) : Type 0 where
+  pub long : getD (submission c .lines) k noLine .long ≡ wordAt (c .long) k
+  pub short : getD (submission c .lines) k noLine .short ≡ wordAt (c .short) k
+  pub amount : getD (submission c .lines) k noLine .amount ≡ wordAt (c .amount) k
+
+-- a book or proposal has as many holdings or lines as its columns have entries
+pub record Entries (c : Columns) : Type 0 where
+  pub holdings : length (submission c .rows) ≡ length (c .side) / 8
+  pub lines : length (submission c .lines) ≡ length (c .long) / 8
+  pub holding : (k : ℕ) → k < length (c .side) / 8 → HoldingAt c k
+  pub price : (k : ℕ) → k < length (c .price) / 8 → getD (submission c .prices) k 0 ≡ wordAt (c .price) k
+  pub line : (k : ℕ) → k < length (c .long) / 8 → LineAt c k
 
 -- a book has the rows of its columns; what its array holds past the count is nobody's, and free
 pub record HoldsRows (side kind issuer days value : List ℕ) (r : Book) : Type 0 where

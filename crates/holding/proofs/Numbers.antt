@@ -1,0 +1,19 @@
+-- A record has the numbers of its cases. Assumes nothing.
+use mathlib.Core.Path.{_≡_, refl, ap, _∙_}
+use Rattle.holding.specs.Holding.{sideNumber, kindNumber, issuerNumber, rowOf}
+use Rattle.holding.specs.Numbers.{Numbers}
+use Rattle.holding.specs.declared.Holding.{Holding}
+
+pub numbers : (h : Holding) → Numbers h
+unfolding rowOf
+numbers h = record {
+  of-long = ap sideNumber;
+  of-short = ap sideNumber;
+  of-bond = ap kindNumber;
+  of-coupon = ap kindNumber;
+  of-residual = ap kindNumber;
+  of-canada = ap issuerNumber;
+  of-province = λ p w e. ap issuerNumber e ∙ rw w;
+  days = refl;
+  value = refl;
+}
