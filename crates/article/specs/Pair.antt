@@ -93,7 +93,7 @@ unfoldable pub pairAnswer : Pair → Answer
 pairAnswer (pairs.Allowed rate saving) = answer 0 rate saving
 pairAnswer pairs.NotAllowed = answer 13 0 0
 
--- what two legs are told
+-- the answer on two legs as a pair
 unfoldable pub pairOf : Leg → Leg → Answer
 pairOf l s = cond (allowed l s) (answer 0 (pairRateOf l s) (savingRateOf l s)) (answer 13 0 0)
 

@@ -1,4 +1,4 @@
-// Runs the cases on standard input: for each its title behind `# `, and what `margin` prints of its text.
+// Runs the cases on standard input: for each its title after `# `, and what `margin` prints of its text.
 // A case is two eight-byte little-endian numbers, the bytes of the title and of the text, then the title, then the text.
 ghost use mathlib.Core.Path.{_≡_};
 ghost use lib.ListN.{length};
@@ -28,7 +28,7 @@ fn read_part(n: u64, buffer: &mut [u8]) -> usize
     io::read_full(libc::STDIN_FILENO, buffer)
 }
 
-// Reads a title, and prints it as a line behind `# `.
+// Reads a title, and prints it as a line after `# `.
 fn print_title(n: u64, buffer: &mut [u8]) {
     let got = read_part(n, buffer);
     io::write_all(libc::STDOUT_FILENO, b"# ");

@@ -1,4 +1,4 @@
--- A text among named ones, told by its place. Assumes nothing.
+-- A text among named ones, by its place. Assumes nothing.
 use mathlib.Core.Path.{_≡_}
 use mathlib.Core.Bool.{cond}
 use mathlib.Core.List.{List, [], _∷_}

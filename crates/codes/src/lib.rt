@@ -1,4 +1,4 @@
-// Texts that are named in a table, told by their places there.
+// Texts that are named in a table, by their places there.
 ghost use mathlib.Core.Path.{_≡_};
 ghost use Prim.Native.Nat.{_*_, _≤_};
 ghost use lib.ListN.{length};

@@ -1,4 +1,4 @@
--- Columns of rows and of lines, laid one number after another. Assumes nothing.
+-- Columns of rows and of lines, written one number after another. Assumes nothing.
 use mathlib.Core.Path.{_≡_, refl, sym, ap, _∙_}
 use mathlib.Core.List.{List, map}
 use Prim.Native.Nat.{ℕ, zero, suc, _+_, _≤_}
@@ -30,7 +30,7 @@ line-last zero line h = absurd (omega arith)
 line-last (suc zero) line h = absurd (omega arith)
 line-last (suc (suc j)) line h = refl
 
--- no number is laid, and one more
+-- no number is written, and one more
 pub numbers-none : (f : ℕ → ℕ) (old : List ℕ) → old ≡ front (encode (listTo 0 f)) old
 unfolding listTo front encode
 numbers-none f old = refl
@@ -48,7 +48,7 @@ firsts-take n xs h =
     let all : xs ≡ listTo (length xs) (λ k. getD xs k 0) = ext-getD 0 xs _ (sym (length-to (length xs) (λ k. getD xs k 0))) (λ k l. sym (getD-to (length xs) (λ k. getD xs k 0) k 0 l)) in
     ap (λ (ys : List ℕ). take n ys) all ∙ take-to (length xs) n (λ k. getD xs k 0) h
 
--- every column of a book is laid, and every column of a proposal
+-- every column of a book is written, and every column of a proposal
 module _ (book : Book) (proposal : Proposal) (old : BookColumns) where
   pub book-written : {side kind issuer days value price : List ℕ} → length (proposal .prices) ≡ 256 → book .count ≤ 256
       → side ≡ front (encode (listTo (book .count) (rowColumn 0 (book .rows)))) (old .side)

@@ -1,4 +1,4 @@
-// A book and a proposal laid into lent columns of bytes.
+// A book and a proposal written into lent columns of bytes.
 use holding::Row;
 use pairing::Line;
 use proposal::Book;

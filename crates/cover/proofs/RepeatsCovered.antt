@@ -1,4 +1,4 @@
--- A holding that repeats an earlier one is in no gap where that one is in none, as the long and as the short. Assumes nothing.
+-- A holding that repeats an earlier one is in no uncovered pair where that one is in none, as the long and as the short. Assumes nothing.
 use mathlib.Core.Path.{refl}
 use mathlib.Core.List.{List}
 use mathlib.Core.Logic.{_≢_}

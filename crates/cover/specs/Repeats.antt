@@ -1,4 +1,4 @@
--- Holdings that repeat an earlier one: in a gap only where that one is. Assumes nothing.
+-- Holdings that repeat an earlier one: in an uncovered pair only where that one is. Assumes nothing.
 use mathlib.Core.Path.{_≡_}
 use mathlib.Core.Bool.{true}
 use mathlib.Core.List.{List}

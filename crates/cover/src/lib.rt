@@ -46,7 +46,7 @@ fn repeats(positions: Positions) -> [u64; 256]
 }
 
 // The first allowed pair of the book that the prices do not cover, lowest long, then lowest short, or no fault. A holding that repeats an
-// earlier one is passed over: the earlier one is in a gap wherever it is.
+// earlier one is passed over: the earlier one is in an uncovered pair wherever it is.
 pub fn first_uncovered(positions: Positions) -> Fault
     requires { ⌜ InBounds positions ⌝ }
     ensures { λ r. ⌜ faultAnswer r ≡ firstFault (uncoveredPairs (heldBook positions)) ⌝ }

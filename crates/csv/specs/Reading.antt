@@ -103,7 +103,7 @@ recordAt text i = fieldsFrom text (suc (length text)) i
 abbrev pub noSpans : List Span
 noSpans = replicate 7 (span 0 0)
 
--- a record as the code hands it back: the first seven spans laid over zeros, and the count of all
+-- a record as the code hands it back: the first seven spans written over zeros, and the count of all
 unfoldable pub fieldsOf : Split → Fields
 fieldsOf (fields ss next) = record { formed = true; count = length ss; spans = front (take 7 ss) noSpans; next = next }
 fieldsOf malformed = record { formed = false; count = 0; spans = noSpans; next = 0 }

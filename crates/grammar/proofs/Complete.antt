@@ -22,7 +22,7 @@ use Rattle.csv.proofs.Pieces.{Ending, comma, end, after, part-of}
 use Rattle.csv.proofs.Pieces as pieces
 use Rattle.csv.proofs.Places.{clash, record-turn, records-end, records-next}
 
--- what may follow a field: it is no TEXTDATA, no quote, and is told as what it is
+-- what may follow a field: it is no TEXTDATA, no quote, and is read as what it is
 text-ends : {b : Bool} {mark rest : List ℕ} → Ending b mark rest → (i : ℕ) → textFrom i (mark ++ rest) ≡ i
 unfolding textFrom isText within
 text-ends comma i = refl

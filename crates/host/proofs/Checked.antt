@@ -51,7 +51,7 @@ module _ (c : Columns) where
   remainders-length = length-to (priced (submission c) .count) (remainder (priced (submission c)) (submission c .lines)) ∙ count-read
 
   module _ (before : Lent) where
-    -- what is told of the outcome, and the two lists, are all that is promised
+    -- the answer on the outcome, and the two lists, are all that is promised
     checks-all : (remainder′ ranking′ out′ : List ℕ) (r : ℕ) → Answers (outcomeOf c before) (before .answer) out′ r
         → remainder′ ≡ front (encode (written (outcomeOf c before) (remaindersOf (priced (submission c)) (submission c .lines)))) (before .remainder)
         → ranking′ ≡ front (encode (written (outcomeOf c before) (ranked (priced (submission c)) (submission c .lines)))) (before .ranking)

@@ -28,7 +28,7 @@ ahead-more : (found : List ℕ) (v : ℕ) (vs : Values) → ahead found (andValu
 ahead-more found v (values vs) = rw (append-assoc found (v ∷ []) vs)
 ahead-more found v wrong = refl
 
--- field j of those behind the letter
+-- field j of those after the letter
 module _ (ss : List Sort) (ts : List (List ℕ)) (found : List ℕ) (j : ℕ) where
   module _ (hs : j < length ss) (ht : j < length ts) where
     turn : valuesOf (drop j ss) (drop j ts) ≡ andValue (valueOf (getD ss j Empty) (getD ts j [])) (valuesOf (drop (j + 1) ss) (drop (j + 1) ts))
@@ -46,7 +46,7 @@ module _ (ss : List Sort) (ts : List (List ℕ)) (found : List ℕ) (j : ℕ) wh
   unfolding valuesOf
   found-all hs ht = rw (drop-of-length-le ss hs, drop-of-length-le ts ht, append-nil)
 
--- the value of the field that stands at j behind the letter
+-- the value of the field that stands at j after the letter
 pub value-after : (text : List ℕ) (spans : List Span) (letter j : ℕ) {x : Value} {sort : Sort} {field : List ℕ} → x ≡ valueOf sort field → sort ≡ getD (sortsBy letter) j Empty
     → field ≡ part text (getD spans (j + 1) (span 0 0)) → x ≡ valueOf (getD (sortsBy letter) j Empty) (getD (drop 1 (map (part text) spans)) j [])
 unfolding part

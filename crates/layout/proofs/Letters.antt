@@ -1,4 +1,4 @@
--- The two letters of a record, and the sorts behind each. Assumes nothing.
+-- The two letters of a record, and the sorts after each. Assumes nothing.
 use mathlib.Core.Path.{_≡_, refl, sym}
 use mathlib.Core.List.{List}
 use Prim.Native.Nat.{ℕ, zero, suc, _≤_}
@@ -21,7 +21,7 @@ pub six-sorts : (letter : ℕ) → length (sortsBy letter) ≡ 6
 six-sorts zero = refl
 six-sorts (suc letter) = refl
 
--- past the last field, and behind the amount of a line, nothing stands
+-- past the last field, and after the amount of a line, nothing stands
 pub past-sorts : (letter j : ℕ) → 6 ≤ j → Empty ≡ getD (sortsBy letter) j Empty
 past-sorts letter j h =
     let l : length (sortsBy letter) ≤ j = omega (arith, six-sorts letter) in

@@ -1,4 +1,4 @@
--- What a record that was looked at says, by the tests on its fields. Assumes nothing.
+-- What a record that was looked at is parsed as, by the tests on its fields. Assumes nothing.
 use mathlib.Core.Path.{_≡_, refl, sym, ap, _∙_}
 use mathlib.Core.Bool.{true, false, false≢true}
 use mathlib.Core.List.{List, [], _∷_, map}
@@ -43,7 +43,7 @@ module _ (text : List ℕ) {p : Split} where
       pub parse-no-letter : Nowhere ≡ placeOf letter letters → Refused 21 ≡ parse (readOf text p)
       parse-no-letter q = sym (parse-after ∙ rw (← q))
 
-      -- behind the letter of number k
+      -- after the letter of number k
       module _ (k : ℕ) (q : At k ≡ placeOf letter letters) (found : Cells) (f : found ≡ cellsOf (valuesOf (sortsBy k) (drop 1 (map (part text) ss)))) where
         pub parse-wrong : found .good ≡ false → Refused 21 ≡ parse (readOf text p)
         parse-wrong g = sym (parse-after ∙ rw (← q) (by (valuesOf (sortsBy k) (drop 1 (map (part text) ss))) f))
@@ -59,7 +59,7 @@ module _ (text : List ℕ) {p : Split} where
             by (values vs) w = rw (ap (λ (c : Cells). c .values) w)
             by wrong w = absurd (false≢true (sym (ap (λ (c : Cells). c .good) w) ∙ g))
 
--- a record that was looked at, with what it says and where the next one starts
+-- a record that was looked at, parsed, and where the next one starts
 pub entry-of : (text : List ℕ) (p : Split) {f : Fields} {parsed : Parsed} {r : Entry} → f ≡ fieldsOf p → r ≡ entry parsed (f .next) → parsed ≡ parse (readOf text p)
     → r ≡ entry (parse (readOf text p)) (fieldsOf p .next)
 entry-of text p e w q = w ∙ rw (q, e)

@@ -1,4 +1,4 @@
--- Document 01, "The file": the layout of a record, what it says, and the refusals 19 to 21. Assumes nothing.
+-- Document 01, "The file": the layout of a record, parsed, and the refusals 19 to 21. Assumes nothing.
 use mathlib.Core.Path.{_≡_}
 use mathlib.Core.Bool.{true, false, cond}
 use mathlib.Core.List.{List, [], _∷_, map}
@@ -60,7 +60,7 @@ valuesOf [] (t ∷ ts) = wrong
 valuesOf (s ∷ ss) [] = wrong
 valuesOf (s ∷ ss) (t ∷ ts) = andValue (valueOf s t) (valuesOf ss ts)
 
--- what the values behind a letter say: a holding's row and price, or a line
+-- what the values after a letter are: a holding's row and price, or a line
 abbrev pub rowBy : List ℕ → Row
 rowBy vs = record { side = getD vs 0 0; kind = getD vs 1 0; issuer = getD vs 2 0; days = getD vs 3 0; value = getD vs 4 0 }
 
@@ -101,6 +101,6 @@ abbrev pub readOf : List ℕ → Split → Read
 readOf text (fields ss next) = formed (map (part text) ss)
 readOf text malformed = broken
 
--- what the record at a place says, and where the next one starts
+-- the record at a place, parsed, and where the next one starts
 abbrev pub EntryAt : List ℕ → ℕ → Entry → Type 0
 EntryAt text at r = r ≡ entry (parse (readOf text (recordAt text at))) (fieldsOf (recordAt text at) .next)

@@ -1,4 +1,4 @@
-// The layout of a record: a letter, and behind it six fields, each of a sort.
+// The layout of a record: a letter, and after it six fields, each of a sort.
 use codes::Place;
 use csv::Span;
 use holding::Row;
@@ -27,7 +27,7 @@ pub enum Value {
     Wrong,
 }
 
-// What a record says: a holding with its price, a line, or a refusal from 19 to 21.
+// A record as parsed: a holding with its price, a line, or a refusal from 19 to 21.
 pub enum Parsed {
     Holding { row: Row, price: u64 },
     Line { line: Line },
@@ -40,13 +40,13 @@ pub struct Entry {
     pub next: usize,
 }
 
-// The values behind a letter, if all are good.
+// The values after a letter, if all are good.
 pub struct Cells {
     pub good: bool,
     pub values: [u64; 6],
 }
 
-// The sort of field j behind the letter.
+// The sort of field j after the letter.
 fn sort_at(letter: usize, j: usize) -> Sort
     ensures { λ r. ⌜ r ≡ getD (sortsBy letter) j Sort.Empty ⌝ }
 {
@@ -108,7 +108,7 @@ fn value_in(sort: Sort, text: &[u8]) -> Value
     }
 }
 
-// The values of the fields behind a letter.
+// The values of the fields after a letter.
 fn values_after(text: &[u8], spans: [Span; csv::FIELDS], letter: usize) -> Cells
     ensures { λ r. ⌜ r ≡ cellsOf (valuesOf (sortsBy letter) (drop 1 (map (part (now (text .entry))) spans))) ⌝ }
 {
@@ -134,7 +134,7 @@ fn values_after(text: &[u8], spans: [Span; csv::FIELDS], letter: usize) -> Cells
     Cells { good: true, values }
 }
 
-// What good values behind a letter say.
+// What good values after a letter are.
 fn parsed_by(letter: usize, values: [u64; 6]) -> Parsed
     ensures { λ r. ⌜ r ≡ parsedBy letter values ⌝ }
 {
@@ -169,7 +169,7 @@ fn refused(number: u64, next: usize) -> Entry
     }
 }
 
-// The record at `at`: what it says, and where the next one starts.
+// The record at `at`, parsed, and where the next one starts.
 pub fn entry_at(text: &[u8], at: usize) -> Entry
     ensures { λ r. ⌜ EntryAt (now (text .entry)) at r ⌝ }
 {

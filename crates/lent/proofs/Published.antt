@@ -10,7 +10,7 @@ use Rattle.verdict.specs.declared.Judgement.{Judgement}
 use Rattle.words.specs.Words.{encode}
 use Rattle.lent.specs.Lists.{makeLent, Answers, countWritten, Publishes}
 
--- the entries that the verdict asks for are laid, and its answer told
+-- the entries that the verdict asks for are written, and its answer put
 pub published : (j : Judgement) (n m r : ℕ) (remainder ranking out remainder′ ranking′ out′ : List ℕ) (v : Verdict) → j .verdict ≡ v → m ≡ countWritten (j .verdict) n
     → remainder′ ≡ front (encode (take m (j .remainders))) remainder → ranking′ ≡ front (encode (take m (j .ranking))) ranking
     → Answers (answerOf v) out out′ r → Publishes j n (makeLent remainder ranking out) (makeLent remainder′ ranking′ out′) r

@@ -30,7 +30,7 @@ answered a old = cond (ltb (length old) 16) old (front (encode (a .first ∷ a .
 abbrev pub answerIn : ℕ → List ℕ → Answer
 answerIn r bytes = answer r (wordAt bytes 0) (wordAt bytes 1)
 
--- a number and two more are told: the number is returned, and the two stand in the answer slice, where the host reads them
+-- a number and two more are the answer: the number is returned, and the two stand in the answer slice, where the host reads them
 pub record Answers (a : Answer) (before after : List ℕ) (r : ℕ) : Type 0 where
   pub number : r ≡ a .number
   pub slice : after ≡ answered a before

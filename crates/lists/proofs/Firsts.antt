@@ -97,7 +97,7 @@ module _ {A : Type 0} (number : A → ℕ) where
   unfolding inTurn
   numbered-in-turn f h n = numbered-turns f h 0 n
 
-  -- the number 0 is told where none holds
+  -- the number 0 is given where none holds
   pub none-first : (fs : List (Bool × A)) (z : A) → Numbered fs → number (firstOf fs z) ≡ 0 → None fs × (number z ≡ 0)
   unfolding firstOf
   none-first [] z h e = (tt, e)
@@ -106,13 +106,13 @@ module _ {A : Type 0} (number : A → ℕ) where
       let (n, o) = none-first fs z (h .1) e in
       ((refl, n), o)
 
-  -- a refusal that was told does not rest on what follows
+  -- a refusal that was found does not rest on what follows
   pub first-refused : (fs : List (Bool × A)) (z w : A) → number z ≡ 0 → (number (firstOf fs z) ≡ 0 → ⊥) → firstOf fs w ≡ firstOf fs z
   unfolding firstOf
   first-refused [] z w e h = absurd (h e)
   first-refused ((true, a) ∷ fs) z w e h = refl
   first-refused ((false, a) ∷ fs) z w e h = first-refused fs z w e h
 
--- refusals that are told by their numbers alone
+-- refusals by their numbers alone
 abbrev pub Listed : List (Bool × ℕ) → Type 0
 Listed fs = Numbered (λ (n : ℕ). n) fs

@@ -23,7 +23,7 @@ module _ {A : Type 0} where
   unfolding overwrite front
   overwrite-one at x old h = set-split old at x h ∙ rw (drop-drop 1 at old, add-one at)
 
-  -- what stood before, what was written, and what stood behind it
+  -- what stood before, what was written, and what stood after it
   overwrite-parts : (at : ℕ) (xs old : List A) → overwrite at xs old ≡ (take at old ++ xs) ++ drop (at + length xs) old
   unfolding overwrite front
   overwrite-parts at xs old = rw (append-assoc, drop-drop (length xs) at old)
@@ -31,7 +31,7 @@ module _ {A : Type 0} where
   before : (at : ℕ) (xs old : List A) → at ≤ length old → length (take at old ++ xs) ≡ at + length xs
   before at xs old h = length-append (take at old) xs ∙ rw (length-take-le at old h)
 
-  -- one list written behind another
+  -- one list written after another
   pub overwrite-overwrite : (at : ℕ) (xs ys old : List A) → at ≤ length old → overwrite (at + length xs) ys (overwrite at xs old) ≡ overwrite at (xs ++ ys) old
   overwrite-overwrite at xs ys old h =
       let n = at + length xs in

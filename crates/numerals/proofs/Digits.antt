@@ -40,7 +40,7 @@ digits-parts : (x : ℕ) → digits x ≡ lead x (x / 10) ++ ((48 + x % 10) ∷ 
 unfolding digits
 digits-parts x = refl
 
--- a digit behind a number above 0
+-- a digit after a number above 0
 pub digits-more : (a d : ℕ) → 0 < a → d < 10 → digits (10 * a + d) ≡ digits a ++ ((48 + d) ∷ [])
 digits-more a d p h =
     let q : (10 * a + d) / 10 ≡ a = omega arith in

@@ -1,4 +1,4 @@
--- A numeral is written digit by digit: that of the tenth part, and behind it the last digit. Assumes nothing.
+-- A numeral is written digit by digit: that of the tenth part, and after it the last digit. Assumes nothing.
 use mathlib.Core.Path.{_≡_, ap, _∙_}
 use mathlib.Core.List.{List, _++_}
 use Prim.Native.Nat.{ℕ, _+_, _*_, _/_, _%_, _≤_, _<_}
@@ -17,7 +17,7 @@ digits-split x h =
 length-split : (x : ℕ) → 10 ≤ x → length (digits x) ≡ length (digits (x / 10)) + 1
 length-split x h = rw (digits-split x h, length-append, digits-one (x % 10) (omega arith))
 
--- where there is room for a numeral, there is for that of a smaller number, and for its last digit, behind the others too
+-- where there is room for a numeral, there is for that of a smaller number, and for its last digit, after the others too
 pub room-fewer : (x y at n : ℕ) → y ≤ x → at + length (digits x) ≤ n → at + length (digits y) ≤ n
 room-fewer x y at n l h = omega (arith, digits-fewer x y l)
 

@@ -16,11 +16,11 @@ lead zero x = []
 lead (suc k) zero = []
 lead (suc k) (suc x) = lead k (suc x / 10) ++ ((48 + suc x % 10) ∷ [])
 
--- the numeral of x: its last digit is always there, behind those of the tenth part
+-- the numeral of x: its last digit is always there, after those of the tenth part
 unfoldable pub digits : ℕ → List ℕ
 digits x = lead x (x / 10) ++ ((48 + x % 10) ∷ [])
 
--- x with the digits of a text behind it
+-- x with the digits of a text after it
 unfoldable pub valueFrom : ℕ → List ℕ → ℕ
 valueFrom x [] = x
 valueFrom x (c ∷ text) = valueFrom (10 * x + (c - 48)) text
@@ -29,7 +29,7 @@ valueFrom x (c ∷ text) = valueFrom (10 * x + (c - 48)) text
 unfoldable pub numeralOf : ℕ → List ℕ → Numeral
 numeralOf most text = cond (leb (length text) most && same text (digits (valueFrom 0 text))) (Number (valueFrom 0 text)) NotANumeral
 
--- the numeral of x stands in a list from a place on, and the next place is behind it
+-- the numeral of x stands in a list from a place on, and the next place is after it
 pub record Put (x at next : ℕ) (old now : List ℕ) : Type 0 where
   pub ends : next ≡ at + length (digits x)
   pub bytes : now ≡ overwrite at (digits x) old

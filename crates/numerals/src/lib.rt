@@ -51,7 +51,7 @@ pub fn read_numeral(text: &[u8], most: usize) -> Numeral
     Numeral::Number(x)
 }
 
-// Writes the numeral of a number below 10 into out at `at`, and returns the place behind it.
+// Writes the numeral of a number below 10 into out at `at`, and returns the place after it.
 fn put_digit(x: u64, at: usize, out: &mut [u8]) -> usize
     requires { ⌜ (x < 10) × (at < length (now out)) ⌝ }
     ensures { λ r. ⌜ Put x at r (now (out .entry)) (now (out .exit)) ⌝ }
@@ -60,7 +60,7 @@ fn put_digit(x: u64, at: usize, out: &mut [u8]) -> usize
     at + 1
 }
 
-// Writes the numeral of x into out from `at` on, and returns the place behind it.
+// Writes the numeral of x into out from `at` on, and returns the place after it.
 pub fn put_digits(x: u64, at: usize, out: &mut [u8]) -> usize
     requires { ⌜ at + length (digits x) ≤ length (now out) ⌝ }
     ensures { λ r. ⌜ Put x at r (now (out .entry)) (now (out .exit)) ⌝ }

@@ -65,7 +65,7 @@ module _ (book : Book) (price : List ℕ) where
   pub record Opening (ls : List Leg) (vs ps : List ℕ) (i : ℕ) : Type 0 where
     -- no holding before it has a fault
     pub passed : Passed (book .count) faultsAt i
-    -- of each before it the leg, the value and the price are laid
+    -- of each before it the leg, the value and the price are written
     pub legs : Filled 256 noLeg (λ k. legOf (holdingOf (row book k))) i ls
     pub values : Filled 256 0 (λ k. row book k .value) i vs
     pub prices : Filled 256 0 (λ k. getD price k 0) i ps
@@ -76,7 +76,7 @@ module _ {book : Book} {price : List ℕ} {ls : List Leg} {vs ps : List ℕ} whe
   opening-start el ev ep = rw (el, ev, ep) (record { passed = passed-none; legs = filled-none 256 noLeg _; values = filled-none 256 0 _; prices = filled-none 256 0 _ })
 
   module _ {i : ℕ} (o : Opening book price ls vs ps i) where
-    -- a row without fault and a price within its limit: its leg, value and price are laid
+    -- a row without fault and a price within its limit: its leg, value and price are written
     pub opening-more : {l : Leg} {v p : ℕ} → i < book .count → book .count ≤ 256 → faultOf (row book i) ≡ 0 → getD price i 0 ≤ 43800
         → l ≡ legOf (holdingOf (row book i)) → v ≡ row book i .value → p ≡ getD price i 0
         → Opening book price (set ls i l) (set vs i v) (set ps i p) (i + 1)

@@ -30,11 +30,11 @@ module _ (p : ℕ) where
   listed-at [] h = tt
   listed-at (f ∷ fs) h = (h .0, listed-at fs (h .1))
 
-  -- the number 0 is told: none holds at the place
+  -- the number 0 is given: none holds at the place
   pub zero-at : (fs : List (Bool × ℕ)) → Listed fs → firstOf fs 0 ≡ 0 → None (atPlace p fs)
   zero-at fs h e = none-at fs (none-first (λ (n : ℕ). n) fs 0 h e .0)
 
-  -- a number is told: it is the answer at the place, whatever follows
+  -- a number is given: it is the answer at the place, whatever follows
   pub first-at : (fs : List (Bool × ℕ)) (n : ℕ) → n ≡ firstOf fs 0 → (n ≡ 0 → ⊥) → (w : Answer) → firstOf (atPlace p fs) w ≡ answer n p 0
   unfolding atPlace firstOf
   first-at [] n e h w = absurd (h e)

@@ -16,7 +16,7 @@ use Rattle.readable.proofs.Numbers.{none-exactly}
 use Rattle.readable.proofs.Submitted.{parted, records-give}
 
 module _ (text : List ℕ) where
-  -- what is said in order is submitted
+  -- what is parsed in order is submitted
   order-submits : length text ≤ 65536 → InOrder 0 0 (parsedIn text) → Submits text (submissionOf (parsedIn text))
   unfolding parsedIn submissionOf
   order-submits short order =
@@ -32,7 +32,7 @@ module _ (text : List ℕ) where
         few-lines = omega (arith, records .few-lines);
       }
 
-  -- what is submitted is said in order
+  -- what is submitted is parsed in order
   submits-order : (s : Submission) → Submits text s → InOrder 0 0 (parsedIn text) × (submissionOf (parsedIn text) ≡ s)
   unfolding parsedIn
   submits-order s h =

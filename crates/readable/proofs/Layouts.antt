@@ -1,4 +1,4 @@
--- A record says a holding exactly when it is a good H with that row and price, and a line exactly when it is a good P. Assumes nothing.
+-- A record is parsed as a holding exactly when it is a good H with that row and price, and a line exactly when it is a good P. Assumes nothing.
 use mathlib.Core.Path.{_≡_, refl, ap, subst}
 use mathlib.Core.Logic.{_↔_}
 use mathlib.Core.List.{List, [], _∷_}
@@ -24,13 +24,13 @@ use Rattle.layout.specs.declared.Parsed.the-variants.{Holding, Line as Lined, R
 use Rattle.codes.proofs.Places.{distinct-exactly}
 use Rattle.readable.proofs.Values.{values-exactly}
 
--- what the texts of a record are, by what it says
+-- what the texts of a record are, by what it is parsed as
 abbrev pub ParsedAs : List (List ℕ) → Parsed → Type 0
 ParsedAs texts (Holding row price) = IsHolding texts row price
 ParsedAs texts (Lined line) = IsLine texts line
 ParsedAs texts (Refused number) = Unit {0}
 
--- six values behind a letter; where three must be empty they are 0
+-- six values after a letter; where three must be empty they are 0
 six : {a b c d e f : Sort} {ts : List (List ℕ)} {vs : List ℕ} → AreValues (a ∷ b ∷ c ∷ d ∷ e ∷ f ∷ []) ts vs → vs ≡ getD vs 0 0 ∷ getD vs 1 0 ∷ getD vs 2 0 ∷ getD vs 3 0 ∷ getD vs 4 0 ∷ getD vs 5 0 ∷ []
 six (value-and a (value-and b (value-and c (value-and d (value-and e (value-and f no-values)))))) = refl
 
@@ -48,7 +48,7 @@ unfolding same
 letter-exactly letter k = distinct-exactly letter letters refl k
 
 module _ (letter : List ℕ) (texts : List (List ℕ)) where
-  -- behind a known letter
+  -- after a known letter
   values-parsed : (vs : Values) (k : ℕ) → Named letter letters k → valuesOf (sortsBy k) texts ≡ vs → ParsedAs (letter ∷ texts) (parsedIf k vs)
   values-parsed wrong k n e = tt
   values-parsed (values vs) zero n e =
@@ -63,7 +63,7 @@ module _ (letter : List ℕ) (texts : List (List ℕ)) where
   after-parsed (At k) e = values-parsed (valuesOf (sortsBy k) texts) k (letter-exactly letter k .0 e) refl
   after-parsed Nowhere e = tt
 
-  -- good values behind the letter of a place
+  -- good values after the letter of a place
   parse-values : (k : ℕ) (vs : List ℕ) → Named letter letters k → AreValues (sortsBy k) texts vs → parse (formed (letter ∷ texts)) ≡ parsedBy k vs
   unfolding parse parsedOf
   parse-values k vs n good =
@@ -75,12 +75,12 @@ unfolding parsedOf
 parsed-fields [] = tt
 parsed-fields (letter ∷ texts) = after-parsed letter texts (placeOf letter letters) refl
 
--- every record is what it says
+-- every record is what it is parsed as
 pub parsed-as : (texts : List (List ℕ)) → ParsedAs texts (parse (formed texts))
 unfolding parse
 parsed-as texts = by-test (ParsedAs texts) (eqb (length texts) 7) (λ e. parsed-fields texts) (λ e. tt)
 
--- and says what it is
+-- and is parsed as what it is
 parse-holding : (texts : List (List ℕ)) (row : Row) (price : ℕ) → IsHolding texts row price → parse (formed texts) ≡ Holding row price
 parse-holding [] row price h = absurd h
 parse-holding (letter ∷ texts) row price h = parse-values letter texts 0 _ (record { inside = omega arith; here = h .0 }) (h .1)

@@ -1,4 +1,4 @@
--- No refusal of a file holds exactly when it is short and its records say holdings, then lines, not too many of either. Assumes nothing.
+-- No refusal of a file holds exactly when it is short and its records are holdings, then lines, not too many of either. Assumes nothing.
 use mathlib.Core.Path.{_≡_, sym}
 use mathlib.Core.Logic.{_↔_, _≢_}
 use mathlib.Core.Bool.{false≢true}
@@ -13,25 +13,25 @@ use Rattle.layout.specs.declared.Parsed.{Parsed}
 use Rattle.layout.specs.declared.Parsed.the-variants.{Holding, Line as Lined, Refused}
 use Rattle.reader.specs.File.{parsedIn, parsedRows, parsedLines, faultsOf, atRecord, fileFaults}
 
--- how many holdings and how many lines are said
+-- how many holdings and how many lines are parsed
 abbrev pub holdingsIn : List Parsed → ℕ
 holdingsIn parsed = length (parsedRows parsed)
 
 abbrev pub linesIn : List Parsed → ℕ
 linesIn parsed = length (parsedLines parsed)
 
--- what may be said after h holdings and l lines: a holding, before any line and not the 257th; a line, not the 513th
+-- what may come after h holdings and l lines: a holding, before any line and not the 257th; a line, not the 513th
 abbrev pub Fits : ℕ → ℕ → Parsed → Type 0
 Fits h l (Holding row price) = (l ≡ 0) × (h ≢ 256)
 Fits h l (Lined line) = l ≢ 512
 Fits h l (Refused number) = ⊥
 
--- and all that is said, in turn
+-- and all that is parsed, in turn
 abbrev pub InOrder : ℕ → ℕ → List Parsed → Type 0
 InOrder h l [] = Unit {0}
 InOrder h l (s ∷ parsed) = Fits h l s × InOrder (h + holdingsIn (s ∷ [])) (l + linesIn (s ∷ [])) parsed
 
--- a record has no refusal exactly when it may be said
+-- a record has no refusal exactly when it may come
 fits-exactly : (n h l : ℕ) (s : Parsed) → None (faultsOf n h l s) ↔ Fits h l s
 fits-exactly n h l (Holding row price) = (
   λ c.
@@ -42,7 +42,7 @@ fits-exactly n h l (Holding row price) = (
 fits-exactly n h l (Lined line) = (λ c. eqb-false l 512 (c .0), λ f. (ne-eqb l 512 f, tt))
 fits-exactly n h l (Refused number) = (λ c. false≢true (sym (c .0)), λ f. absurd f)
 
--- the first of what is said, and the rest
+-- the first of what is parsed, and the rest
 holdings-then : (s : Parsed) (parsed : List Parsed) → holdingsIn (s ∷ parsed) ≡ holdingsIn (s ∷ []) + holdingsIn parsed
 unfolding parsedRows
 holdings-then (Holding row price) parsed = omega arith

@@ -1,4 +1,4 @@
--- Records that are read say holdings, then lines, exactly when they are good H, then good P, with the rows, prices and lines that are said.
+-- Records that are read are holdings, then lines, exactly when they are good H, then good P, with the rows, prices and lines that are parsed.
 -- Assumes nothing.
 use mathlib.Core.Path.{_≡_, refl, ap}
 use mathlib.Core.List.{List, [], _∷_, _++_, map}
@@ -17,7 +17,7 @@ use Rattle.readable.specs.Readable.{AreHoldings, no-holdings, holding-an
 use Rattle.readable.proofs.Layouts.{ParsedAs, parsed-as, holding-exactly, line-exactly}
 use Rattle.readable.proofs.Orders.{holdingsIn, linesIn, Fits, InOrder}
 
--- records that are read, after h holdings and l lines: good H with the rows and prices that are said, then good P with the lines
+-- records that are read, after h holdings and l lines: good H with the rows and prices that are parsed, then good P with the lines
 pub record Parted (h l : ℕ) (reads : List Read) (parsed : List Parsed) : Type 0 where
   pub holdings : List (List (List ℕ))
   pub lines : List (List (List ℕ))
@@ -63,7 +63,7 @@ few h l (Holding row price) fits a b = (omega (arith, fits .1), omega arith)
 few h l (Lined line) fits a b = (omega arith, omega arith)
 few h l (Refused number) fits a b = absurd fits
 
--- records that say holdings, then lines, are good H, then good P
+-- records parsed as holdings, then lines, are good H, then good P
 pub parted : (reads : List Read) (h l : ℕ) → h ≤ 256 → l ≤ 512 → InOrder h l (map parse reads) → Parted h l reads (map parse reads)
 unfolding parse parsedRows parsedPrices parsedLines
 parted [] h l a b o = record {
@@ -82,7 +82,7 @@ parted (formed texts ∷ reads) h l a b o =
     let (c, d) = few h l s (o .0) a b in
     one-more texts h l reads (map parse reads) s (parsed-as texts) (o .0) (parted reads _ _ c d (o .1))
 
--- good records, after h holdings and l lines, say in order what they are
+-- good records, after h holdings and l lines, are parsed in order as what they are
 abbrev pub Gives : ℕ → ℕ → List (List (List ℕ)) → Submission → Type 0
 Gives h l records s = InOrder h l (map parse (map formed records)) × (submissionOf (map parse (map formed records)) ≡ s)
 

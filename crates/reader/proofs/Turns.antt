@@ -23,7 +23,7 @@ use Rattle.layout.specs.declared.Parsed.the-variants.{Holding, Line as Lined, R
 use Rattle.reader.specs.File.{parsedIn, parsedRows, parsedPrices, parsedLines, faultsOf, atRecord, fileFaults, fileFault}
 use Rattle.reader.proofs.Listed.{firsts, firsts-more}
 
--- what was said, and one more
+-- what was parsed, and one more
 rows-parsed : (xs ys : List Parsed) → parsedRows (xs ++ ys) ≡ parsedRows xs ++ parsedRows ys
 unfolding parsedRows
 rows-parsed [] ys = refl
@@ -45,7 +45,7 @@ lines-parsed (Holding row price ∷ xs) ys = lines-parsed xs ys
 lines-parsed (Lined line ∷ xs) ys = ap (λ (l : List Line). line ∷ l) (lines-parsed xs ys)
 lines-parsed (Refused number ∷ xs) ys = lines-parsed xs ys
 
--- n records are read, up to place i: none is refused, and the arrays begin with what they say
+-- n records are read, up to place i: none is refused, and the arrays begin with what they are
 pub record Reading (text : List ℕ) (rows : List Row) (prices : List ℕ) (lines : List Line) (holdings pairs n i : ℕ) : Type 0 where
   pub few : n ≤ i
   pub rest : map parse (recordsAt text i) ≡ drop n (parsedIn text)
@@ -144,7 +144,7 @@ module _ {text : List ℕ} {rows : List Row} {prices : List ℕ} {lines : List L
           record { rest = rw (on, add-one) (sym (l .then)); ahead = rw on a; within = rw on w }
       by malformed q = absurd (s 19 (rw (at, q)))
 
-  -- one that says a holding, or a line, is not refused
+  -- one that is a holding, or a line, is not refused
   pub followed-holding : (row : Row) (price : ℕ) → e .parsed ≡ Holding row price → Followed
   followed-holding row price s = followed (λ number w. let z : _≡_ {A = ℕ} 0 1 = cc in absurd (omega arith))
 

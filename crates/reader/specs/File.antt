@@ -16,7 +16,7 @@ use Rattle.layout.specs.Layout.{parse}
 use Rattle.layout.specs.declared.Parsed.{Parsed}
 use Rattle.layout.specs.declared.Parsed.the-variants.{Holding, Line as Lined, Refused}
 
--- what the records of a text say, up to the first that is outside the grammar
+-- the records of a text, parsed, up to the first that is outside the grammar
 unfoldable pub parsedIn : List ℕ → List Parsed
 parsedIn text = map parse (recordsOf text)
 

@@ -28,7 +28,7 @@ nothing = record { rows = []; prices = []; lines = [] }
 pub record ReadsFile (text : List ℕ) (r : Contents) : Type 0 where
   -- the first refusal in the reader's order, number 0 for none
   pub fault : answer (r .number) (r .place) 0 ≡ fileFault text
-  -- the rows, the prices and the lines that the records say; what the arrays hold past the counts is nobody's, and free
+  -- the rows, the prices and the lines of the records; what the arrays hold past the counts is nobody's, and free
   pub submits : submitted (r .book) (r .proposal) ≡ cond (eqb (r .number) 0) (submissionOf (parsedIn text)) nothing
   pub few-holdings : r .book .count ≤ 256
   pub few-lines : r .proposal .count ≤ 512

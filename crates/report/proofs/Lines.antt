@@ -1,4 +1,4 @@
--- The parts of a line and of a report, written one behind another, make it whole. Assumes nothing.
+-- The parts of a line and of a report, written one after another, make it whole. Assumes nothing.
 use mathlib.Core.Path.{_≡_, sym, _∙_}
 use mathlib.Core.List.{List, [], _∷_, flatMap}
 use Prim.Native.Nat.{ℕ, _+_, _≤_, _<_, _^_}
@@ -22,7 +22,7 @@ unfolding afterComma
 number-written {x} l h p q =
     (written-then h p (record { ends = q .ends; bytes = q .bytes }), omega (arith, p .ends, q .ends, digits-word x l))
 
--- a letter, numbers behind it, and CRLF
+-- a letter, numbers after it, and CRLF
 pub line-written : (numbers : List ℕ) {letter at a b c next : ℕ} {old x y z now : List ℕ} → at ≤ length old → a ≤ length x → b ≤ length y
     → Written (letter ∷ []) at a old x → Written (flatMap afterComma numbers) a b x y → Written (ascii "\r") b c y z → Written (ascii "\n") c next z now
     → Written (lineOf (letter ∷ []) numbers) at next old now

@@ -1,4 +1,4 @@
--- Texts written one behind another, and what is printed at the front. Assumes nothing.
+-- Texts written one after another, and what is printed at the front. Assumes nothing.
 use mathlib.Core.Path.{_≡_, refl, sym, _∙_}
 use mathlib.Core.List.{List, [], _∷_, _++_, flatMap, append-assoc, append-nil}
 use Prim.Native.Nat.{ℕ, _+_, _≤_, _<_}
@@ -22,7 +22,7 @@ written-none at old = record { ends = omega arith; bytes = sym (overwrite-none a
 pub written-one : (at x : ℕ) (old : List ℕ) → at < length old → Written (x ∷ []) at (at + 1) old (set old at x)
 written-one at x old h = record { ends = refl; bytes = overwrite-one at x old h }
 
--- one text behind another
+-- one text after another
 pub written-then : {xs ys : List ℕ} {at middle next : ℕ} {old mid now : List ℕ} → at ≤ length old → Written xs at middle old mid → Written ys middle next mid now
     → Written (xs ++ ys) at next old now
 written-then {xs} {ys} {at} {middle} {next} {old} {mid} {now} h p q = record {

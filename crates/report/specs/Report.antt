@@ -13,7 +13,7 @@ use Rattle.proposal.specs.Figures.{remainder, margin, ranked}
 use Rattle.verdict.specs.Judges.{answerOf}
 use Rattle.verdict.specs.declared.Judgement.{Judgement}
 
--- a number behind a comma
+-- a number after a comma
 unfoldable pub afterComma : ℕ → List ℕ
 afterComma x = ascii "," ++ digits x
 
@@ -37,7 +37,7 @@ marginLine a = lineOf (ascii "M") (a .first ∷ a .second ∷ [])
 unfoldable pub remainderLine : ℕ → ℕ → ℕ → List ℕ
 remainderLine holding cents units = lineOf (ascii "R") (holding ∷ cents ∷ units ∷ [])
 
--- accepted, the M line and behind it an R line for each holding in an order; a refusal prints one line
+-- accepted, the M line and after it an R line for each holding in an order; a refusal prints one line
 unfoldable pub printedLines : Answer → (ℕ → List ℕ) → List ℕ → List ℕ
 printedLines a line order = cond (eqb (a .number) 0) (marginLine a ++ flatMap line order) (refusalLine a)
 

@@ -7,7 +7,7 @@ use lib.Dec.{leb}
 use lib.ListN.{length}
 use Rattle.lists.specs.Tables.{front, overwrite}
 
--- a text stands from a place on, and the next place is behind it
+-- a text stands from a place on, and the next place is after it
 pub record Written (text : List ℕ) (at next : ℕ) (old now : List ℕ) : Type 0 where
   pub ends : next ≡ at + length text
   pub bytes : now ≡ overwrite at text old

@@ -13,7 +13,7 @@ ghost use Rattle.report.specs.Report.{afterComma, lineOf, numbersOf, ref
 // Room for 257 lines of at most 66 bytes.
 pub const ROOM: usize = 16962;
 
-// Writes a byte into out at `at`, and returns the place behind it.
+// Writes a byte into out at `at`, and returns the place after it.
 fn put_byte(byte: u8, at: usize, out: &mut [u8]) -> usize
     requires { ⌜ at < length (now out) ⌝ }
     ensures { λ r. ⌜ Written (byte ∷ []) at r (now (out .entry)) (now (out .exit)) ⌝ }
@@ -22,7 +22,7 @@ fn put_byte(byte: u8, at: usize, out: &mut [u8]) -> usize
     at + 1
 }
 
-// Writes a comma and the numeral of x from `at` on, and returns the place behind them.
+// Writes a comma and the numeral of x from `at` on, and returns the place after them.
 fn put_number(x: u64, at: usize, out: &mut [u8]) -> usize
     requires { ⌜ at + 21 ≤ length (now out) ⌝ }
     ensures { λ r. ⌜ Written (afterComma x) at r (now (out .entry)) (now (out .exit)) × (r ≤ at + 21) ⌝ }
@@ -31,7 +31,7 @@ fn put_number(x: u64, at: usize, out: &mut [u8]) -> usize
     numerals::put_digits(x, next, out)
 }
 
-// Writes a line from `at` on: the letter, `count` of the numbers, CRLF. Returns the place behind it.
+// Writes a line from `at` on: the letter, `count` of the numbers, CRLF. Returns the place after it.
 fn put_line(letter: u8, numbers: [u64; 3], count: usize, at: usize, out: &mut [u8]) -> usize
     requires { ⌜ (count ≤ 3) × (at + 66 ≤ length (now out)) ⌝ }
     ensures { λ r. ⌜ Written (lineOf (letter ∷ []) (take count numbers)) at r (now (out .entry)) (now (out .exit)) × (r ≤ at + 66) ⌝ }
@@ -71,7 +71,7 @@ fn entry(list: &[u64], k: u64) -> u64
     0
 }
 
-// Writes the R lines of the first `count` holdings of the ranking from `at` on, and returns the place behind them.
+// Writes the R lines of the first `count` holdings of the ranking from `at` on, and returns the place after them.
 fn put_remainders(judgement: Judgement, count: usize, at: usize, out: &mut [u8]) -> usize
     requires { ⌜ at + 66 * 256 ≤ length (now out) ⌝ }
     ensures { λ r. ⌜ Written (flatMap (judgedLine judgement) (take count (judgement .ranking))) at r (now (out .entry)) (now (out .exit)) ⌝ }

@@ -22,7 +22,7 @@ abbrev pub answerOf : Verdict → Answer
 answerOf (Accepted units cents) = answer 0 units cents
 answerOf (Refused number place second) = answer number place second
 
--- the case that an answer is told by: accepted for the number 0 and for no other
+-- the case of an answer: accepted for the number 0 and for no other
 unfoldable pub verdictOf : Answer → Verdict
 verdictOf a = cond (eqb (a .number) 0) (Accepted (a .first) (a .second)) (Refused (a .number) (a .first) (a .second))
 

@@ -1,4 +1,4 @@
--- Numbers laid at the front of a list of bytes, one after another. Assumes nothing.
+-- Numbers written at the front of a list of bytes, one after another. Assumes nothing.
 use mathlib.Core.Path.{_≡_, refl, sym, _∙_}
 use mathlib.Core.List.{List, [], _∷_, _++_, append-assoc, append-nil}
 use Prim.Native.Nat.{ℕ, zero, suc, _+_, _*_, _/_, _<_}
@@ -24,7 +24,7 @@ unfolding encode
 encode-snoc [] v = append-nil (littleEndian 8 v)
 encode-snoc (x ∷ xs) v = rw (encode-snoc xs v) (sym (append-assoc (littleEndian 8 x) (encode xs) (littleEndian 8 v)))
 
--- one more number after those laid down
+-- one more number after those written
 pub word-more : (xs old : List ℕ) (v : ℕ) → withWord (front (encode xs) old) (length xs) v ≡ front (encode (xs ++ v ∷ [])) old
 unfolding withWord front
 word-more xs old v =
@@ -32,7 +32,7 @@ word-more xs old v =
     let long : length (encode xs ++ littleEndian 8 v) ≡ n + 8 = omega (arith, length-append (encode xs) (littleEndian 8 v), length-little-endian 8 v) in
     rw (← length-encode xs, encode-snoc xs v, long, take-at (encode xs) (drop n old) n refl, drop-append-add (encode xs) (drop n old) 8, drop-drop 8 n old)
 
--- the first i + 1 numbers, when the first i are laid down
+-- the first i + 1 numbers, when the first i are written
 pub encoded-more : (numbers old so-far after : List ℕ) (i : ℕ) → i < length numbers → so-far ≡ front (encode (take i numbers)) old
     → after ≡ withWord so-far i (getD numbers i 0) → after ≡ front (encode (take (i + 1) numbers)) old
 encoded-more numbers old so-far after i h e w =

@@ -27,7 +27,7 @@ eight-at (x ∷ xs) rest (suc i) h =
     let next : 8 * suc i ≡ length (littleEndian 8 x) + 8 * i = omega (arith, length-little-endian 8 x) in
     rw (append-assoc, next, drop-append-add (littleEndian 8 x) (encode xs ++ rest) (8 * i)) (eight-at xs rest i (omega arith))
 
--- a list laid at the front is read back number by number
+-- a list written at the front is read back number by number
 pub read-back : (xs old : List ℕ) → Each (λ x. x < 2 ^ 64) xs → (i : ℕ) → i < length xs → wordAt (front (encode xs) old) i ≡ getD xs i 0
 unfolding wordAt front
 read-back xs old e i h = rw (eight-at xs (drop (length (encode xs)) old) i h) (number-little-endian 8 (getD xs i 0) (each-at _ 0 xs e i h))

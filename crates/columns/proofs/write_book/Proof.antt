@@ -1,4 +1,4 @@
--- `lay_book` lays each column at the front of its list. Assumes nothing.
+-- `write_book` writes each column at the front of its list. Assumes nothing.
 use mathlib.Core.Path.{_≡_}
 use lib.ListN.{length}
 use borrow.Author.Needs.{needs}

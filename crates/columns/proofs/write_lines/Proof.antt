@@ -1,4 +1,4 @@
--- `lay_lines` lays a column: the first i numbers are there, and then what the bytes held. Assumes nothing.
+-- `write_lines` writes a column: the first i numbers are there, and then what the bytes held. Assumes nothing.
 use mathlib.Core.Path.{_≡_}
 use Prim.Native.Nat.{_-_, _≤_}
 use native.Mathlib.Omega.{arith}

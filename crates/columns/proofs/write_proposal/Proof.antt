@@ -1,4 +1,4 @@
--- `lay_proposal` lays each column at the front of its list. Assumes nothing.
+-- `write_proposal` writes each column at the front of its list. Assumes nothing.
 use borrow.Author.Needs.{needs}
 use Rattle.columns.proofs.Encoded.{lines-written}
 use Rattle.columns.proofs.write_proposal.Statement.{statement}

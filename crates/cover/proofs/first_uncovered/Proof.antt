@@ -1,5 +1,5 @@
--- `first_gap` finds the first gap: each turn of the inner loop passes a short, each of the outer a long; one that repeats an earlier one has
--- no gap where that one has none. Assumes nothing.
+-- `first_uncovered` finds the first uncovered pair: each turn of the inner loop passes a short, each of the outer a long; one that repeats an earlier one has
+-- no uncovered pair where that one has none. Assumes nothing.
 use mathlib.Core.Logic.{⊎-elim}
 use Prim.Native.Nat.{_-_}
 use native.Mathlib.Omega.{arith}

@@ -1,4 +1,4 @@
--- `entry_at` judges a record: its form, the count of its fields, its letter, the values behind it. Assumes nothing.
+-- `entry_at` judges a record: its form, the count of its fields, its letter, the values after it. Assumes nothing.
 use mathlib.Core.Path.{_≡_, refl, sym, ap, _∙_}
 use mathlib.Core.Bool.{true}
 use lib.ListN.{length}

@@ -1,4 +1,4 @@
--- `sort_at` is the sort of the field: behind H, behind P, and none past the last. Assumes nothing.
+-- `sort_at` is the sort of the field: after H, after P, and none past the last. Assumes nothing.
 use native.Mathlib.Omega.{arith}
 use borrow.Author.Needs.{needs}
 use Rattle.layout.proofs.Letters.{sorts-other, past-sorts, past-line}

@@ -1,4 +1,4 @@
--- `publish` lays the lists, of no entry on a refusal, and tells the answer. Assumes nothing.
+-- `publish` writes the lists, of no entry on a refusal, and puts the answer. Assumes nothing.
 use mathlib.Core.Path.{_≡_}
 use lib.ListN.{length}
 use borrow.Author.Needs.{needs}

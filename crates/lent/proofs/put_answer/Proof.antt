@@ -1,4 +1,4 @@
--- `tell` writes both numbers, or neither into fewer than 16 bytes. Assumes nothing.
+-- `put_answer` writes both numbers, or neither into fewer than 16 bytes. Assumes nothing.
 use borrow.Author.Needs.{needs}
 use Rattle.lent.proofs.Answers.{two-answered, none-answered}
 use Rattle.lent.proofs.put_answer.Statement.{statement}

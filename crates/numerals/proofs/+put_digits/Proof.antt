@@ -1,4 +1,4 @@
--- `put_digits` calls itself for the tenth part, which is smaller, and puts the last digit behind it. Assumes nothing.
+-- `put_digits` calls itself for the tenth part, which is smaller, and puts the last digit after it. Assumes nothing.
 use Prim.Native.Nat.{ℕ, _<_}
 use native.Mathlib.Omega.{arith}
 use borrow.Author.Needs.{needs}

@@ -1,4 +1,4 @@
--- `open` opens a book: each turn passes a holding without fault and lays its leg, value and price. Assumes nothing.
+-- `open` opens a book: each turn passes a holding without fault and writes its leg, value and price. Assumes nothing.
 use mathlib.Core.Path.{refl, ap, _∙_}
 use Prim.Native.Nat.{_-_}
 use native.Mathlib.Omega.{arith}

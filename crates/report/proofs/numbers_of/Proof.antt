@@ -1,4 +1,4 @@
--- `numbers_of` tells a verdict in the paper's numbers. Assumes nothing.
+-- `numbers_of` gives a verdict in the paper's numbers. Assumes nothing.
 use mathlib.Core.Path.{sym, ap}
 use borrow.Author.Needs.{needs}
 use Rattle.verdict.specs.Judges.{answerOf}

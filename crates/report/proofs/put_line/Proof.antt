@@ -1,4 +1,4 @@
--- `put_line` writes a line: the numbers before the i-th stand behind the letter, each in at most 21 bytes. Assumes nothing.
+-- `put_line` writes a line: the numbers before the i-th stand after the letter, each in at most 21 bytes. Assumes nothing.
 use mathlib.Core.Path.{_≡_}
 use mathlib.Core.List.{flatMap}
 use Prim.Native.Nat.{_+_, _-_, _*_, _≤_}

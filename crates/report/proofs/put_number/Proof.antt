@@ -1,4 +1,4 @@
--- `put_number` writes a number behind a comma. Assumes nothing.
+-- `put_number` writes a number after a comma. Assumes nothing.
 use native.Mathlib.Omega.{arith}
 use borrow.Author.Needs.{needs}
 use Rattle.numerals.proofs.Digits.{digits-word}

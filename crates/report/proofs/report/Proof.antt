@@ -5,7 +5,7 @@ use Rattle.report.proofs.Lines.{refused-written, accepted-written}
 use Rattle.report.proofs.report.Statement.{statement}
 use Rattle.report.proofs.report.Tie as tie
 
--- from where the M line was written back to where the verdict was told
+-- from where the M line was written back to where the numbers of the verdict were taken
 abbrev numbered : tie.After-put-line2 → tie.After-numbers-of
 numbered c = c .before .before .before
 

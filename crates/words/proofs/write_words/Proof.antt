@@ -1,4 +1,4 @@
--- `lay` lays numbers at the front: the first i are there, and then what the bytes held. Assumes nothing.
+-- `write_words` writes numbers at the front: the first i are there, and then what the bytes held. Assumes nothing.
 use mathlib.Core.Path.{_≡_}
 use Prim.Native.Nat.{_-_, _≤_}
 use lib.ListN.{length, take}

@@ -1,4 +1,4 @@
--- `pair_legs` tells what `pairOf` says: it refuses at the first test that fails, and else has the rule's rate and its saving. Assumes nothing.
+-- `pair_legs` answers what `pairOf` says: it refuses at the first test that fails, and else has the rule's rate and its saving. Assumes nothing.
 use mathlib.Core.Path.{_≡_, ap, sym, _∙_}
 use mathlib.Core.Bool.{Bool, true, false}
 use Prim.Native.Nat.{ℕ, _+_, _-_}
