@@ -51,9 +51,13 @@ faultsOf n holdings lines (Lined line) = (eqb lines 512, answer 9 0 0) ∷ []
 unfoldable pub atRecord : List Said → ℕ → List (Bool × Answer)
 atRecord said n = faultsOf n (length (rowsSaid (take n said))) (length (linesSaid (take n said))) (getD said n (Refused 0))
 
+-- the most bytes that a file may have
+abbrev pub fileLimit : ℕ
+fileLimit = 65536
+
 -- 18 longer than 65,536 bytes; each record in turn
 unfoldable pub fileFaults : List ℕ → List (Bool × Answer)
-fileFaults text = (ltb 65536 (length text), answer 18 0 0) ∷ inTurn (length (saidIn text)) (atRecord (saidIn text))
+fileFaults text = (ltb fileLimit (length text), answer 18 0 0) ∷ inTurn (length (saidIn text)) (atRecord (saidIn text))
 
 -- the first of them that holds, number 0 for none
 unfoldable pub fileFault : List ℕ → Answer
