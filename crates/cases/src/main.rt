@@ -1,21 +1,23 @@
 // Runs the cases on standard input: for each its title after `# `, and what `margin` prints of its text.
 // A case is two eight-byte little-endian numbers, the bytes of the title and of the text, then the title, then the text.
 ghost use mathlib.Core.Path.{_≡_};
+ghost use Prim.Native.Nat.{_+_};
 ghost use lib.ListN.{length};
+ghost use Rattle.reader.specs.File.{fileLimit};
 ghost use Rattle.printing.specs.Within.{Within};
 
-// Room for a text, and for a title.
-fn text_buffer() -> [u8; 65537]
-    ensures { λ r. ⌜ 65537 ≡ length r ⌝ }
+// Room for a text of one byte more than a file may have, and for a title.
+fn text_buffer() -> [u8; reader::LIMIT + 1]
+    ensures { λ r. ⌜ fileLimit + 1 ≡ length r ⌝ }
 {
-    [0; 65537]
+    [0; reader::LIMIT + 1]
 }
 
 // Room for what is printed.
-fn print_buffer() -> [u8; 16962]
+fn print_buffer() -> [u8; report::ROOM]
     ensures { λ r. ⌜ 16962 ≡ length r ⌝ }
 {
-    [0; 16962]
+    [0; report::ROOM]
 }
 
 // Reads so many bytes into the front of the buffer, as many as it has room for, and returns how many there were.

@@ -55,9 +55,13 @@ faultsOf n holdings lines (Lined line) = (eqb lines 512, answer 9 0 0) ∷ []
 unfoldable pub atRecord : List Parsed → ℕ → List (Bool × Answer)
 atRecord parsed n = faultsOf n (length (parsedRows (take n parsed))) (length (parsedLines (take n parsed))) (getD parsed n (Refused 0))
 
+-- the most bytes that a file may have
+abbrev pub fileLimit : ℕ
+fileLimit = 65536
+
 -- 18 longer than 65,536 bytes; each record in turn
 unfoldable pub fileFaults : List ℕ → List (Bool × Answer)
-fileFaults text = (ltb 65536 (length text), answer 18 0 0) ∷ inTurn (length (parsedIn text)) (atRecord (parsedIn text))
+fileFaults text = (ltb fileLimit (length text), answer 18 0 0) ∷ inTurn (length (parsedIn text)) (atRecord (parsedIn text))
 
 -- the first of them that holds, number 0 for none
 unfoldable pub fileFault : List ℕ → Answer

@@ -5,6 +5,9 @@ use proposal::Proposal;
 ghost use Rattle.reader.specs.ReadsFile.{ReadsFile, refusedAt};
 ghost use mathlib.Core.Path.{_≡_};
 
+// The most bytes that a file may have.
+pub const LIMIT: usize = 65536;
+
 // A file that was read: the book and the proposal that it submits, or a refusal, 0 for none, with its place and both empty.
 pub struct Contents {
     pub number: u64,
@@ -36,7 +39,7 @@ fn refused(number: u64, place: u64) -> Contents
 pub fn read(text: &[u8]) -> Contents
     ensures { λ r. ⌜ ReadsFile (now (text .entry)) r ⌝ }
 {
-    if text.len() > 65536 {
+    if text.len() > LIMIT {
         return refused(18, 0);
     }
     let mut rows = proposal::no_rows();

@@ -1,0 +1,11 @@
+-- What the program's read of its input promises of the buffer. Assumes nothing.
+use mathlib.Core.List.{List}
+use Prim.Native.Nat.{ℕ, _≤_}
+use lib.ListN.{length}
+use Rattle.margin.specs.declared.Input.{Input}
+use Rattle.margin.specs.declared.Input.the-variants.{File, Failed}
+
+-- the bytes of a file are the first of the buffer; of a read that failed nothing is promised
+abbrev pub Holds : Input → List ℕ → Type 0
+Holds (File n) buffer = n ≤ length buffer
+Holds Failed buffer = Unit {0}
