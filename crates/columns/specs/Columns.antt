@@ -1,13 +1,14 @@
 -- Document 01, "The reader fills lent columns, or leaves them untouched": the columns of a book and of a proposal as bytes, and those columns
 -- filled. Assumes nothing.
+use mathlib.Core.Path.{_≡_}
 use mathlib.Core.List.{List, map}
-use Prim.Native.Nat.{ℕ, zero, suc, _*_, _≤_}
+use Prim.Native.Nat.{ℕ, zero, suc, _*_, _^_, _≤_, _<_}
 use lib.ListN.{length, getD}
 use Rattle.lists.specs.Tables.{front}
 use Rattle.holding.specs.declared.Row.{Row}
 use Rattle.pairing.specs.declared.Line.{Line}
 use Rattle.proposal.specs.Submission.{noRow, noLine}
-use Rattle.words.specs.Words.{encode}
+use Rattle.words.specs.Words.{wordAt, encode}
 
 -- the columns of a book's holdings, with their prices, and of a proposal's lines
 pub record BookColumns : Type 0 where
@@ -49,6 +50,36 @@ filledLines lines old = record {
   short = column (map (λ l. l .short) lines) (old .short);
   amount = column (map (λ l. l .amount) lines) (old .amount);
 }
+
+-- the numbers of a holding and its price, and of a line, stand at an entry of the columns
+pub record HoldingWritten (c : BookColumns) (k : ℕ) (row : Row) (price : ℕ) : Type 0 where
+  pub at-side : wordAt (c .side) k ≡ row .side
+  pub at-kind : wordAt (c .kind) k ≡ row .kind
+  pub at-issuer : wordAt (c .issuer) k ≡ row .issuer
+  pub at-days : wordAt (c .days) k ≡ row .days
+  pub at-value : wordAt (c .value) k ≡ row .value
+  pub at-price : wordAt (c .price) k ≡ price
+
+pub record LineWritten (c : LineColumns) (k : ℕ) (line : Line) : Type 0 where
+  pub at-long : wordAt (c .long) k ≡ line .long
+  pub at-short : wordAt (c .short) k ≡ line .short
+  pub at-amount : wordAt (c .amount) k ≡ line .amount
+
+-- numbers that eight bytes hold
+abbrev pub Fits : ℕ → Type 0
+Fits x = x < 2 ^ 64
+
+pub record RowFits (r : Row) : Type 0 where
+  pub fit-side : Fits (r .side)
+  pub fit-kind : Fits (r .kind)
+  pub fit-issuer : Fits (r .issuer)
+  pub fit-days : Fits (r .days)
+  pub fit-value : Fits (r .value)
+
+pub record LineFits (l : Line) : Type 0 where
+  pub fit-long : Fits (l .long)
+  pub fit-short : Fits (l .short)
+  pub fit-amount : Fits (l .amount)
 
 -- the columns by number: side, kind, issuer, days, value; long, short, amount
 abbrev pub rowNumber : ℕ → Row → ℕ

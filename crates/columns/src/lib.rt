@@ -35,7 +35,7 @@ fn line_number(line: Line, j: usize) -> u64
     }
 }
 
-// Lays column j of the first n rows at the front; the bytes past them are kept.
+// Writes column j of the first n rows at the front; the bytes past them are kept.
 fn write_rows(rows: [Row; 256], n: usize, j: usize, bytes: &mut [u8])
     requires { ⌜ (n ≤ 256) × (8 * n ≤ length (now bytes)) ⌝ }
     ensures { λ _. ⌜ now (bytes .exit) ≡ front (encode (listTo n (rowColumn j rows))) (now (bytes .entry)) ⌝ }
@@ -48,7 +48,7 @@ fn write_rows(rows: [Row; 256], n: usize, j: usize, bytes: &mut [u8])
     }
 }
 
-// Lays column j of the first n lines in the same way.
+// Writes column j of the first n lines in the same way.
 fn write_lines(lines: [Line; 512], n: usize, j: usize, bytes: &mut [u8])
     requires { ⌜ (n ≤ 512) × (8 * n ≤ length (now bytes)) ⌝ }
     ensures { λ _. ⌜ now (bytes .exit) ≡ front (encode (listTo n (lineColumn j lines))) (now (bytes .entry)) ⌝ }
@@ -61,7 +61,7 @@ fn write_lines(lines: [Line; 512], n: usize, j: usize, bytes: &mut [u8])
     }
 }
 
-// Lays a book and the prices on its holdings into their columns.
+// Writes a book and the prices on its holdings into their columns.
 pub fn write_book(
     book: Book,
     proposal: Proposal,
@@ -86,7 +86,7 @@ pub fn write_book(
     write_rows(rows, n, 4, value);
 }
 
-// Lays the lines of a proposal into their columns.
+// Writes the lines of a proposal into their columns.
 pub fn write_proposal(proposal: Proposal, long: &mut [u8], short: &mut [u8], amount: &mut [u8])
     requires { ⌜ LinesRoom (proposal .count) (makeLineColumns (now long) (now short) (now amount)) ⌝ }
     ensures { λ _. ⌜ makeLineColumns (now (long .exit)) (now (short .exit)) (now (amount .exit)) ≡ filledLines (linesOf proposal) (makeLineColumns (now (long .entry)) (now (short .entry)) (now (amount .entry))) ⌝ }

@@ -1,3 +1,4 @@
 pub mod Returned
 pub mod Checked
+pub mod Fitting
 pub mod Received

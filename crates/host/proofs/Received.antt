@@ -27,6 +27,8 @@ use Rattle.reader.specs.declared.Contents.{Contents}
 use Rattle.readable.specs.Readable.{Submits}
 use Rattle.readable.proofs.Numbers.{none-exactly}
 use Rattle.readable.proofs.Exactly.{read-exactly}
+use Rattle.columns.proofs.ReadBack.{holding-written, line-written}
+use Rattle.host.proofs.Fitting.{holdings-fit, lines-fit}
 use Rattle.host.specs.Reading.{roomOf, readingAnswer, filling, Reads}
 
 -- nothing goes into the columns
@@ -95,6 +97,8 @@ module _ (text : List ℕ) (book : BookColumns) (lines : LineColumns) (out : Lis
         returned = rw e t;
         filled-book = rw none (none-filled book);
         filled-lines = rw none (no-lines-filled lines);
+        holding = λ z. absurd (h (sym (t .number) ∙ z));
+        line = λ z. absurd (h (sym (t .number) ∙ z));
         exactly = rw (t .number ∙ sym (ap number e)) read-when;
         only = read-exactly text .only;
       }
@@ -137,10 +141,16 @@ module _ (text : List ℕ) (book : BookColumns) (lines : LineColumns) (out : Lis
         all-read book′ lines′ out′ r e b l answered =
             let whole : readingAnswer text given ≡ answer 0 (d .book .count) (d .proposal .count) = answer-none text short no-fault ∙ rw (sym same-test ∙ e, holdings, pairs) in
             let zero : filling text given ≡ submissionIn text = filling-by {t = true} (rw whole) in
+            let in-book : book′ ≡ filledBook (submissionIn text .rows) (submissionIn text .prices) book = b ∙ ap (λ (s : Submission). filledBook (s .rows) (s .prices) book) read in
+            let in-lines : lines′ ≡ filledLines (submissionIn text .lines) lines = l ∙ ap (λ (s : Submission). filledLines (s .lines) lines) read in
+            let file = read-exactly text .read .0 no-fault in
+            let fit = holdings-fit (file .each-holding) in
             record {
               returned = rw whole answered;
-              filled-book = rw zero (b ∙ ap (λ (s : Submission). filledBook (s .rows) (s .prices) book) read);
-              filled-lines = rw zero (l ∙ ap (λ (s : Submission). filledLines (s .lines) lines) read);
+              filled-book = rw zero in-book;
+              filled-lines = rw zero in-lines;
+              holding = λ _ k h. rw in-book (holding-written _ _ book (fit .each-row) (fit .each-price) (fit .as-many) k h);
+              line = λ _ k h. rw in-lines (line-written _ lines (lines-fit (file .each-line)) k h);
               exactly = rw (answered .number ∙ sym (ap number whole)) read-when;
               only = read-exactly text .only;
             }

@@ -4,12 +4,12 @@ use mathlib.Core.Path.{_≡_}
 use mathlib.Core.Logic.{_↔_}
 use mathlib.Core.Bool.{cond}
 use mathlib.Core.List.{List}
-use Prim.Native.Nat.{ℕ}
+use Prim.Native.Nat.{ℕ, _<_}
 use lib.Dec.{eqb}
-use lib.ListN.{length}
+use lib.ListN.{length, getD}
 use Rattle.article.specs.Answer.{Answer}
-use Rattle.proposal.specs.Submission.{Submission}
-use Rattle.columns.specs.Columns.{BookColumns, LineColumns, filledBook, filledLines}
+use Rattle.proposal.specs.Submission.{Submission, noRow, noLine}
+use Rattle.columns.specs.Columns.{BookColumns, LineColumns, filledBook, filledLines, HoldingWritten, LineWritten}
 use Rattle.sizes.specs.Room.{Room, makeRoom, Holds, columnsTooShort}
 use Rattle.lent.specs.Lists.{Answers}
 use Rattle.reader.specs.File.{submissionIn, readAnswer}
@@ -38,6 +38,9 @@ module _ (text : List ℕ) (book book′ : BookColumns) (lines lines′ : LineCo
     -- the columns of the holdings, and of the lines; a refusal leaves them untouched, and entries past what they are to hold keep what they held
     pub filled-book : book′ ≡ filledBook (filling text (roomOf book lines answer) .rows) (filling text (roomOf book lines answer) .prices) book
     pub filled-lines : lines′ ≡ filledLines (filling text (roomOf book lines answer) .lines) lines
+    -- of a file that is read, each holding's numbers with its price, and each line's, stand at their entries
+    pub holding : r ≡ 0 → (k : ℕ) → k < length (submissionIn text .rows) → HoldingWritten book′ k (getD (submissionIn text .rows) k noRow) (getD (submissionIn text .prices) k 0)
+    pub line : r ≡ 0 → (k : ℕ) → k < length (submissionIn text .lines) → LineWritten lines′ k (getD (submissionIn text .lines) k noLine)
     -- read exactly when it is a file that submits a book and a proposal, and the lists hold them
     pub exactly : (r ≡ 0) ↔ (Submits text (submissionIn text) × Holds (length (submissionIn text .rows)) (length (submissionIn text .lines)) (roomOf book lines answer))
     -- what a text submits is one submission

@@ -4,3 +4,4 @@ pub mod Orders
 pub mod Numbers
 pub mod Submitted
 pub mod Exactly
+pub mod Below

@@ -68,7 +68,7 @@ pub fn put_word(bytes: &mut [u8], i: usize, v: u64)
     split(bytes, o7, v7);
 }
 
-// Lays the first n numbers of a list at the front; the bytes past them are kept.
+// Writes the first n numbers of a list at the front; the bytes past them are kept.
 pub fn write_words(numbers: &[u64], n: usize, bytes: &mut [u8])
     requires { ⌜ (n ≤ length (now numbers)) × (8 * n ≤ length (now bytes)) ⌝ }
     ensures { λ _. ⌜ now (bytes .exit) ≡ front (encode (take n (now (numbers .entry)))) (now (bytes .entry)) ⌝ }

@@ -1,0 +1,47 @@
+-- The numbers of what a text submits fit in eight bytes. Assumes nothing.
+use mathlib.Core.Path.{_≡_, refl, ap}
+use mathlib.Core.List.{List, [], _∷_}
+use Prim.Native.Nat.{ℕ, suc, _^_, _<_}
+use native.Mathlib.Omega.{arith}
+use lib.ListN.{length}
+use Rattle.lists.specs.Each.{Each}
+use Rattle.lists.proofs.Entries.{each-so}
+use Rattle.holding.specs.declared.Row.{Row}
+use Rattle.pairing.specs.declared.Line.{Line}
+use Rattle.layout.specs.Sorts.{AreValues}
+use Rattle.layout.specs.Layout.{IsHolding, IsLine}
+use Rattle.layout.specs.declared.Sort.{Sort}
+use Rattle.readable.specs.Readable.{AreHoldings, no-holdings, holding-and, AreLines, no-lines, line-and}
+use Rattle.readable.proofs.Below.{values-below}
+use Rattle.columns.specs.Columns.{Fits, RowFits, LineFits}
+
+values-fit : {ss : List Sort} {ts : List (List ℕ)} {vs : List ℕ} → AreValues ss ts vs → Each Fits vs
+values-fit {vs = vs} h = each-so (λ (v : ℕ). v < 10 ^ 12) Fits (λ v l. omega (arith, l)) vs (values-below h)
+
+holding-fits : (r : List (List ℕ)) (row : Row) (price : ℕ) → IsHolding r row price → RowFits row × Fits price
+holding-fits [] row price h = absurd h
+holding-fits (letter ∷ texts) row price (_, h) =
+    let (side, (kind, (issuer, (days, (value, (price, _)))))) = values-fit h in
+    (record { fit-side = side; fit-kind = kind; fit-issuer = issuer; fit-days = days; fit-value = value }, price)
+
+line-fits : (r : List (List ℕ)) (line : Line) → IsLine r line → LineFits line
+line-fits [] line h = absurd h
+line-fits (letter ∷ texts) line (_, h) =
+    let (long, (short, (amount, _))) = values-fit h in
+    record { fit-long = long; fit-short = short; fit-amount = amount }
+
+pub record HoldingsFit (rows : List Row) (prices : List ℕ) : Type 0 where
+  pub each-row : Each RowFits rows
+  pub each-price : Each Fits prices
+  pub as-many : length prices ≡ length rows
+
+pub holdings-fit : {rs : List (List (List ℕ))} {rows : List Row} {prices : List ℕ} → AreHoldings rs rows prices → HoldingsFit rows prices
+holdings-fit no-holdings = record { each-row = tt; each-price = tt; as-many = refl }
+holdings-fit (holding-and {r} {row} {price} is rest) =
+    let (fits, dear) = holding-fits r row price is in
+    let more = holdings-fit rest in
+    record { each-row = (fits, more .each-row); each-price = (dear, more .each-price); as-many = ap suc (more .as-many) }
+
+pub lines-fit : {rs : List (List (List ℕ))} {lines : List Line} → AreLines rs lines → Each LineFits lines
+lines-fit no-lines = tt
+lines-fit (line-and {r} {line} is rest) = (line-fits r line is, lines-fit rest)
