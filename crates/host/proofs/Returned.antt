@@ -21,7 +21,7 @@ same-demands s one two a r x y e f d = record {
   count = d .count;
   terms = d .terms;
   remainders = d .remainders;
-  remains = d .remains;
+  each-remainder = d .each-remainder;
 }
 
 -- where a slice below 16 bytes is refused, what is accepted is read

@@ -116,7 +116,7 @@ module _ (text : List ℕ) where
   promised : {before after : List ℕ} {r : ℕ} → Prints (printed text) before after r → PrintsFile text before after r × Within r after
   promised p = (
     record {
-      prints = p;
+      stands = p;
       exactly = (λ b. accepted-when .0 (begins-exactly .0 b), λ h. begins-exactly .1 (accepted-when .1 h));
       figures = λ b. figures-printed (begins-exactly .0 b);
       order = all-ranked s;

@@ -42,7 +42,7 @@ pub record PrintsFigures (s : Submission) (bytes : List ℕ) : Type 0 where
 module _ (text before after : List ℕ) (r : ℕ) where
   pub record PrintsFile : Type 0 where
     -- the bytes stand at the front of the list, all others are kept, and r is how many they are; a list without room is left alone
-    pub prints : Prints (printed text) before after r
+    pub stands : Prints (printed text) before after r
     -- they begin with M exactly when the file submits a book and a proposal in the paper's words, and they are acceptable
     pub exactly : (take 1 (printed text) ≡ ascii "M") ↔ (Submits text (submissionIn text) × Acceptable (submissionIn text))
     -- the units and cents that they then print are the least margin of what is submitted, rounded once

@@ -19,7 +19,7 @@ use Rattle.pairing.proofs.Least.{least}
 use Rattle.proposal.specs.Submission.{Submission, PricedBook, bookOf, termsOf, priced, noLine, holdingAt}
 use Rattle.proposal.specs.Figures.{remainder, margin, unitsOf, remaindersOf}
 use Rattle.proposal.specs.Outcome.{uncovered, totalsDiffer, faults, accepted, outcome}
-use Rattle.proposal.specs.Demands.{Limits, Acceptable, TermsOf, Remains, Demands}
+use Rattle.proposal.specs.Demands.{Limits, Acceptable, PairTerms, RemainderOf, Demands}
 use Rattle.proposal.proofs.PricedBooks.{leg-at, value-at, book-in, holding-in-range, fair}
 use Rattle.proposal.proofs.Clear.{Clear, none-clear, clear-none, numbered}
 use Rattle.proposal.proofs.Limits.{limits, ranges-none}
@@ -58,7 +58,7 @@ module _ (s : Submission) where
       rw (← units-sum (priced s) (s .lines)) (least (termsOf (priced s)) (priced s .price) (s .lines) (fair (priced s)) (a .covered) (lines-pair a) (a .totals))
 
   -- the terms are the article's
-  terms : Limits s → (i j : ℕ) → i < length (s .rows) → j < length (s .rows) → TermsOf s i j
+  terms : Limits s → (i j : ℕ) → i < length (s .rows) → j < length (s .rows) → PairTerms s i j
   unfolding termsOf legOf
   terms l i j p q = record {
     numbers = unfold holdingAt in row-kept _ (l .ranges i p);
@@ -70,7 +70,7 @@ module _ (s : Submission) where
     pair = article .pairs (holdingAt s i) (holdingAt s j) (holding-in-range s l i p) (holding-in-range s l j q);
   }
 
-  remains : (k : ℕ) → k < length (s .rows) → Remains s k
+  remains : (k : ℕ) → k < length (s .rows) → RemainderOf s k
   unfolding remaindersOf margin legOf
   remains k h =
       let left = getD-to (priced s .count) (remainder (priced s) (s .lines)) k 0 (book-in s k h) in
@@ -127,6 +127,6 @@ module _ (one two : Bool) (s : Submission) where
     count = unfold termsOf priced bookOf in refl;
     terms = terms s;
     remainders = unfold remaindersOf priced bookOf in length-to (priced s .count) _;
-    remains = remains s;
+    each-remainder = remains s;
     rounding = λ e. rw (as-accepted e) (unfold accepted in rounded (unitsOf (priced s) (s .lines)));
   }

@@ -44,7 +44,7 @@ module _ (s : Submission) where
     pub totals : pricedTotal (termsOf (priced s)) (priced s .price) ≡ saving (termsOf (priced s)) (s .lines)
 
   -- the terms of two holdings of the book, and what the article says of them as a pair
-  pub record TermsOf (i j : ℕ) : Type 0 where
+  pub record PairTerms (i j : ℕ) : Type 0 where
     -- the holding of a number has the numbers of its row, and its price stands at that number
     pub numbers : rowOf (holdingAt s i) ≡ getD (s .rows) i noRow
     pub value : termsOf (priced s) .value i ≡ getD (s .rows) i noRow .value
@@ -56,7 +56,7 @@ module _ (s : Submission) where
     pub pair : Pairing (holdingAt s i) (holdingAt s j)
 
   -- a holding's remainder is its value less its amounts over all lines, and its margin the rate times that
-  pub record Remains (k : ℕ) : Type 0 where
+  pub record RemainderOf (k : ℕ) : Type 0 where
     pub left : getD (remaindersOf (priced s) (s .lines)) k 0 ≡ getD (s .rows) k noRow .value - used (s .lines) k
     pub units : margin (priced s) (s .lines) k ≡ rateOf (holdingAt s k) * getD (remaindersOf (priced s) (s .lines)) k 0
 
@@ -70,7 +70,7 @@ module _ (s : Submission) where
     pub rounding : a .number ≡ 0 → RoundedUp (a .first) (a .second)
     -- the terms that all this speaks of are the book's own, by the article
     pub count : termsOf (priced s) .count ≡ length (s .rows)
-    pub terms : Limits → (i j : ℕ) → i < length (s .rows) → j < length (s .rows) → TermsOf i j
+    pub terms : Limits → (i j : ℕ) → i < length (s .rows) → j < length (s .rows) → PairTerms i j
     -- there is a remainder for each holding
     pub remainders : length (remaindersOf (priced s) (s .lines)) ≡ length (s .rows)
-    pub remains : (k : ℕ) → k < length (s .rows) → Remains k
+    pub each-remainder : (k : ℕ) → k < length (s .rows) → RemainderOf k
