@@ -4,7 +4,7 @@ use std::error::Error;
 use std::fmt;
 use std::str::FromStr;
 
-/// Defines an enum by its values and their texts, numbered from 0 in this order. The value behind `such
+/// Defines an enum by its values and their texts, numbered from 0 in this order. The value after `such
 /// as` stands in the examples, with its number and its text.
 macro_rules! coded {
     (

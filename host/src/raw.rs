@@ -117,7 +117,7 @@ pub fn margin_check(
 /// Calls the reader and returns the refusal number, 0 for a file that was read.
 ///
 /// A file that is read goes to the front of the lists, six with an entry for each holding and three with
-/// one for each line; what is behind is kept, and a refusal keeps all nine. An answer slice of 16 bytes or
+/// one for each line; what comes after is kept, and a refusal keeps all nine. An answer slice of 16 bytes or
 /// more gets the number of holdings and the number of lines, or the place and 0; a shorter one is kept.
 ///
 /// The call needs less than 70 KB of stack: when tried, the tests on threads of 50,000 bytes aborted, and

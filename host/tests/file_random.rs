@@ -7,7 +7,7 @@ use support::file::{File, Files};
 
 /// Fields at which something changes in the paper, and some that are none.
 #[rustfmt::skip]
-const TELLING: [&str; 46] = [
+const PROBES: [&str; 46] = [
     "", "0", "00", "007", "+1", "-1", " 1", "1 ", "1", "9", "12", "255", "256", "365", "36500", "43801",
     "999999", "1000000", "0000000", "999999999999", "1000000000000", "18446744073709551616",
     "H", "P", "h", "p", "L", "S", "l", "B", "C", "R", "CA", "ON", "SK", "YT", "NU", "on",
@@ -18,7 +18,7 @@ const TELLING: [&str; 46] = [
 const BYTES: &[u8] = b"\"\"\"\",,,,\r\n\r\n\r\n01 9HPLSCA\t\x00\x1F\x7E\x7F\x80\xFF\xEF!#+-";
 
 /// A file as records of fields.
-type Draft = Vec<Vec<String>>;
+type Records = Vec<Vec<String>>;
 
 fn numeral(random: &mut Random, most: u32) -> String {
     let digits = 1 + random.below(u64::from(most)) as u32;
@@ -52,51 +52,51 @@ fn line(random: &mut Random) -> Vec<String> {
     fields
 }
 
-fn draft(random: &mut Random, holdings: usize, lines: usize) -> Draft {
-    let mut records: Draft = (0..holdings).map(|_| holding(random)).collect();
+fn random_records(random: &mut Random, holdings: usize, lines: usize) -> Records {
+    let mut records: Records = (0..holdings).map(|_| holding(random)).collect();
     records.extend((0..lines).map(|_| line(random)));
     records
 }
 
-fn small_draft(random: &mut Random) -> Draft {
+fn small_records(random: &mut Random) -> Records {
     let (holdings, lines) = (random.place(6), random.place(6));
-    draft(random, holdings, lines)
+    random_records(random, holdings, lines)
 }
 
-/// Changes a draft in one place.
-fn change(random: &mut Random, draft: &mut Draft) {
-    if draft.is_empty() {
-        draft.push(vec![random.pick(&TELLING).to_string()]);
+/// Changes records in one place.
+fn change(random: &mut Random, records: &mut Records) {
+    if records.is_empty() {
+        records.push(vec![random.pick(&PROBES).to_string()]);
         return;
     }
-    let (at, other) = (random.place(draft.len()), random.place(draft.len()));
-    let field = random.place(draft[at].len());
+    let (at, other) = (random.place(records.len()), random.place(records.len()));
+    let field = random.place(records[at].len());
     match random.below(10) {
-        0..4 => draft[at][field] = random.pick(&TELLING).to_string(),
-        4 => draft[at].insert(field, random.pick(&TELLING).to_string()),
-        5 => draft[at].truncate(field.max(1)),
-        6 => draft.swap(at, other),
-        7 => draft.insert(at, draft[other].clone()),
+        0..4 => records[at][field] = random.pick(&PROBES).to_string(),
+        4 => records[at].insert(field, random.pick(&PROBES).to_string()),
+        5 => records[at].truncate(field.max(1)),
+        6 => records.swap(at, other),
+        7 => records.insert(at, records[other].clone()),
         8 => {
             let record = if random.below(2) == 0 {
                 holding(random)
             } else {
                 line(random)
             };
-            draft.insert(at, record);
+            records.insert(at, record);
         }
         _ => {
-            let from = random.place(draft[other].len());
-            draft[at][field] = draft[other][from].clone();
+            let from = random.place(records[other].len());
+            records[at][field] = records[other][from].clone();
         }
     }
 }
 
-/// Writes a draft with quotes on none, some or all fields, with or without the last CRLF.
-fn written(random: &mut Random, draft: &Draft) -> Vec<u8> {
+/// Writes records with quotes on none, some or all fields, with or without the last CRLF.
+fn written(random: &mut Random, records: &Records) -> Vec<u8> {
     let quotes = random.pick(&[0, 0, 1, 4]);
     let mut text = Vec::new();
-    for (at, record) in draft.iter().enumerate() {
+    for (at, record) in records.iter().enumerate() {
         if at > 0 {
             text.extend(b"\r\n");
         }
@@ -111,7 +111,7 @@ fn written(random: &mut Random, draft: &Draft) -> Vec<u8> {
             text.extend(quote.then_some(b'"'));
         }
     }
-    if random.below(2) == 0 && !draft.is_empty() {
+    if random.below(2) == 0 && !records.is_empty() {
         text.extend(b"\r\n");
     }
     text
@@ -141,8 +141,8 @@ fn damage(random: &mut Random, text: &mut Vec<u8>) {
 }
 
 /// Lists that fit, are longer, or, now and then, shorter.
-fn lend(random: &mut Random, text: &[u8], draft: &Draft) -> File {
-    let count = |letter| draft.iter().filter(|record| record[0] == letter).count();
+fn lend(random: &mut Random, text: &[u8], records: &Records) -> File {
+    let count = |letter| records.iter().filter(|record| record[0] == letter).count();
     let mut file = File::exact(text, count("H"), count("P"));
     for length in &mut file.lists {
         if random.below(4) == 0 {
@@ -165,16 +165,16 @@ fn random_files() {
     let mut files = Files::new("random files", 0x0A01);
     for round in 0..25_000 {
         let random = &mut files.random;
-        let draft = small_draft(random);
-        let text = written(random, &draft);
-        let file = lend(random, &text, &draft);
+        let records = small_records(random);
+        let text = written(random, &records);
+        let file = lend(random, &text, &records);
         let roomy = File::of(&text);
         files.compare(&file, format_args!("round {round}"));
         if round % 4 == 0 {
             let read = files.compare(&roomy, format_args!("round {round}"));
             assert_eq!(read.number, 0, "every random file is read");
             let counted = read.figures().map(|(holdings, lines)| holdings + lines);
-            assert_eq!(counted, Some(draft.len() as u64));
+            assert_eq!(counted, Some(records.len() as u64));
         }
     }
     files.has_seen(&[0], 15_000);
@@ -186,10 +186,10 @@ fn random_files_with_changed_fields() {
     let mut files = Files::new("changed fields", 0x0A02);
     for round in 0..20_000 {
         let random = &mut files.random;
-        let draft = small_draft(random);
+        let records = small_records(random);
         for changes in [1, 1, 2, 3] {
             let random = &mut files.random;
-            let mut changed = draft.clone();
+            let mut changed = records.clone();
             for _ in 0..changes {
                 change(random, &mut changed);
             }
@@ -206,15 +206,15 @@ fn random_files_with_changed_bytes() {
     let mut files = Files::new("changed bytes", 0x0A03);
     for round in 0..20_000 {
         let random = &mut files.random;
-        let draft = small_draft(random);
-        let text = written(random, &draft);
+        let records = small_records(random);
+        let text = written(random, &records);
         for changes in [1, 1, 1, 2, 3] {
             let random = &mut files.random;
             let mut changed = text.clone();
             for _ in 0..changes {
                 damage(random, &mut changed);
             }
-            let file = lend(random, &changed, &draft);
+            let file = lend(random, &changed, &records);
             files.compare(&file, format_args!("round {round}, {changes} changes"));
         }
     }
@@ -228,18 +228,18 @@ fn large_random_files_with_changes() {
         let random = &mut files.random;
         let holdings = random.pick(&[3, 255, 256, 256, 257]);
         let lines = random.pick(&[3, 510, 511, 512, 512, 513]);
-        let mut draft = draft(random, holdings, lines);
+        let mut records = random_records(random, holdings, lines);
         for _ in 0..random.below(3) {
-            change(random, &mut draft);
+            change(random, &mut records);
         }
-        let text = written(random, &draft);
+        let text = written(random, &records);
         for damages in [0, 0, 1] {
             let random = &mut files.random;
             let mut damaged = text.clone();
             for _ in 0..damages {
                 damage(random, &mut damaged);
             }
-            let file = lend(random, &damaged, &draft);
+            let file = lend(random, &damaged, &records);
             files.compare(&file, format_args!("round {round}, {damages} damages"));
         }
     }
@@ -279,7 +279,7 @@ fn long_random_texts() {
     let mut files = Files::new("long random texts", 0x0A05);
     for round in 0..600 {
         let random = &mut files.random;
-        let mut whole = small_draft(random);
+        let mut whole = small_records(random);
         let length = 65_530 + random.place(12);
         let filler = random.pick(&[
             ",",

@@ -368,7 +368,7 @@ fn cover_is_asked_of_pairs_in_no_line() {
 #[test]
 fn cover_is_not_asked_across_a_period_end() {
     // The rates are equal on both sides of 4,015 days, so only the period tells the two alike apart.
-    let mut run = Run::fixed("an uncovered pair behind an equal rate");
+    let mut run = Run::fixed("an uncovered pair after an equal rate");
     let coupon = |side, days| (holding(side, COUPON, CA, days, 1_000), 0);
     for (single, alike) in [(SHORT, LONG), (LONG, SHORT)] {
         for (days, partner) in [(4_015, 0), (4_016, 1)] {

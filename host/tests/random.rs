@@ -8,7 +8,7 @@ use support::lent::Lent;
 use support::{Run, column};
 
 /// Numbers at which something changes in the paper, and a few far away.
-const TELLING: [u64; 30] = [
+const PROBES: [u64; 30] = [
     0,
     1,
     2,
@@ -53,7 +53,7 @@ fn change(random: &mut Random, sheet: &mut Sheet) {
         2 => random.pick(column),
         3 => random.below(20),
         4 => column[at] ^ 1 << random.below(64),
-        _ => random.pick(&TELLING),
+        _ => random.pick(&PROBES),
     };
 }
 

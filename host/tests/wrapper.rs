@@ -150,8 +150,8 @@ fn the_wrapper_is_the_raw_call() {
                     assert_eq!(ranking, Left::entries(&left.ranking));
                 }
                 Err(refusal) => {
-                    let said = (refusal.number(), refusal.place(), refusal.second());
-                    assert_eq!(said, parts(&left), "{sheet:?}");
+                    let found = (refusal.number(), refusal.place(), refusal.second());
+                    assert_eq!(found, parts(&left), "{sheet:?}");
                 }
             }
         }

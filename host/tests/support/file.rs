@@ -34,7 +34,7 @@ pub struct File {
     pub answer: usize,
 }
 
-/// Text, lists and answer one behind the other with guards between them, and where each lies.
+/// Text, lists and answer one after the other with guards between them, and where each lies.
 #[derive(Clone, PartialEq, Eq)]
 struct Memory {
     bytes: Vec<u8>,
