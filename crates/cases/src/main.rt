@@ -4,6 +4,7 @@ ghost use mathlib.Core.Path.{_≡_};
 ghost use Prim.Native.Nat.{_+_};
 ghost use lib.ListN.{length};
 ghost use Rattle.reader.specs.File.{fileLimit};
+ghost use Rattle.report.specs.Written.{reportRoom};
 ghost use Rattle.printing.specs.Within.{Within};
 
 // Room for a text of one byte more than a file may have, and for a title.
@@ -15,7 +16,7 @@ fn text_buffer() -> [u8; reader::LIMIT + 1]
 
 // Room for what is printed.
 fn print_buffer() -> [u8; report::ROOM]
-    ensures { λ r. ⌜ 16962 ≡ length r ⌝ }
+    ensures { λ r. ⌜ reportRoom ≡ length r ⌝ }
 {
     [0; report::ROOM]
 }

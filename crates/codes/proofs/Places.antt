@@ -23,8 +23,8 @@ Absent text ts = (k : ℕ) → k < length ts → text ≢ getD ts k []
 
 module _ (text : List ℕ) where
   -- a place in a list, and in the list with a text in front
-  behind : (t : List ℕ) (ts : List (List ℕ)) (n : ℕ) → Named text ts n → Named text (t ∷ ts) (suc n)
-  behind t ts n p = record { inside = omega (arith, p .inside); here = p .here }
+  later-named : (t : List ℕ) (ts : List (List ℕ)) (n : ℕ) → Named text ts n → Named text (t ∷ ts) (suc n)
+  later-named t ts n p = record { inside = omega (arith, p .inside); here = p .here }
 
   ahead : (t : List ℕ) (ts : List (List ℕ)) (n : ℕ) → Named text (t ∷ ts) (suc n) → Named text ts n
   ahead t ts n p = record { inside = omega (arith, p .inside); here = p .here }
@@ -59,7 +59,7 @@ module _ (text : List ℕ) where
       (λ e. p 0 (record { named = record { inside = omega arith; here = e }; before = λ k l. absurd (omega arith) }))
       (λ n.
       either ts
-      (λ m f. p (suc m) (record { named = behind t ts m (f .named); before = later t ts n m (f .before) }))
+      (λ m f. p (suc m) (record { named = later-named t ts m (f .named); before = later t ts n m (f .before) }))
       (λ a. q (later t ts n (length ts) a)))
     where
       later : (t : List ℕ) (ts : List (List ℕ)) → text ≢ t → (m : ℕ) → ((k : ℕ) → k < m → text ≢ getD ts k []) → (k : ℕ) → k < suc m → text ≢ getD (t ∷ ts) k []

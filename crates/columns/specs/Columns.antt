@@ -101,7 +101,7 @@ rowColumn j rows k = rowNumber j (getD rows k noRow)
 abbrev pub lineColumn : ℕ → List Line → ℕ → ℕ
 lineColumn j lines k = lineNumber j (getD lines k noLine)
 
--- what laying n holdings, or n lines, asks of the columns
+-- what writing n holdings, or n lines, asks of the columns
 pub record BookRoom (n : ℕ) (c : BookColumns) : Type 0 where
   pub few : n ≤ 256
   pub room-side : 8 * n ≤ length (c .side)

@@ -43,14 +43,14 @@ filled row n malformed = fieldsOf malformed
 
 -- what the loop keeps when it comes to place i with n fields in the row: the record from there on completes the one that is asked for
 pub record Filling (text : List ℕ) (at : ℕ) (row : List Span) (n i : ℕ) : Type 0 where
-  pub behind : n ≤ i
+  pub not-past : n ≤ i
   pub few : n ≤ length text
   pub seven : length row ≡ 7
   pub completes : filled row n (recordAt text i) ≡ fieldsOf (recordAt text at)
 
 pub filling-none : (text : List ℕ) (at : ℕ) → Filling text at noSpans 0 at
 unfolding fieldsOf
-filling-none text at = record { behind = omega arith; few = omega arith; seven = refl; completes = go (recordAt text at) }
+filling-none text at = record { not-past = omega arith; few = omega arith; seven = refl; completes = go (recordAt text at) }
   where
     go : (p : Split) → filled noSpans 0 p ≡ fieldsOf p
     go (fields ss next) =
@@ -99,8 +99,8 @@ module _ {text : List ℕ} {at : ℕ} {row : List Span} {n i : ℕ} (t : Filling
       filling-more l =
           let (far, near) = filling-on l in
           record {
-            behind = omega (arith, t .behind);
-            few = omega (arith, t .behind);
+            not-past = omega (arith, t .not-past);
+            few = omega (arith, t .not-past);
             seven = ap length in-place ∙ length-set row n s ∙ t .seven;
             completes = rw in-place (sym (filled-push row n s (recordAt text next)) ∙ turned {p = Field s false next} (rw (← l) (sym b ∙ e)));
           }

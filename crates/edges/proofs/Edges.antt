@@ -1,4 +1,4 @@
--- Every case of the table holds: one test, computed from the definitions over the whole table. Assumes nothing.
+-- Every case of the table agrees: one test, computed from the definitions over each group. Assumes nothing.
 use mathlib.Core.Path.{_≡_, refl, ap}
 use mathlib.Core.Bool.{Bool, true, false, cond}
 use mathlib.Core.List.{List, [], _∷_, flatMap}
@@ -30,7 +30,7 @@ use Rattle.layout.specs.Layout.{valuesOf, parsedOf, parse}
 use Rattle.reader.specs.File.{parsedIn, parsedRows, parsedPrices, parsedLines, submissionOf, atRecord, fileFaults, fileFault}
 use Rattle.report.specs.Report.{afterComma, lineOf, numbersOf, refusalLine, marginLine, remainderLine, printedLines, bookLine, printedOf}
 use Rattle.printing.specs.Printed.{fileAnswer, printed}
-use Rattle.edges.specs.Cases.{Case, Holds, failing, alone, together, judged, worked}
+use Rattle.edges.specs.Cases.{Case, Agrees, failing, alone, together, judged, worked}
 use Rattle.edges.specs.Starred.{starred, starredFile}
 use Rattle.edges.specs.Others.{single, thirdPrice, firstPrice, firstAmount, tooLong, files, tooMany, texts, proposals, refusals}
 use Rattle.edges.specs.Edges.{table}
@@ -40,15 +40,15 @@ none-fails : Each (λ cs. failing cs ≡ []) table
 unfolding starred starredFile single thirdPrice firstPrice firstAmount tooLong files tooMany texts proposals refusals failing alone together judged worked within firstOf count same insert ordered sumTo sumOf only listTo turns inTurn rowFaults faultOf holdingOf sideOf kindOf issuerOf rowOf longerThan atLeast periodOf percents flatRate bondRate stripRate kindRate rateAt rateOf legOf isLong isShort isBond isStrip isCanada isProvince kindsPair sameClass mixedClass classRule ruleOf ruleRate allowed pairRateOf savingRateOf pairOf used theory.savingRate saving pairUnits pricedTotal ranksBefore rankingOf bookOf termsOf priced remainder margin unitsOf remaindersOf ranked centsOf atPlace holdingFaults pairFaults lineFaults atHolding bookFaults atLine linesFaults uncovered atPair atLong uncoveredPairs totalsDiffer totalsFaults sizeFaults faults accepted outcome lead digits valueFrom numeralOf placeFrom placeOf isText isQuotable part textFrom textEnd closeFrom closeAt followedBy followed begins opens enclosed fieldAt fieldsFrom recordAt recordsFrom recordsAt recordsOf valueOf valuesOf parsedOf parse parsedIn parsedRows parsedPrices parsedLines submissionOf atRecord fileFaults fileFault afterComma lineOf numbersOf refusalLine marginLine remainderLine printedLines bookLine printedOf fileAnswer printed flatMap number littleEndian wordAt entries decode encode
 none-fails = (refl, (refl, (refl, (refl, (refl, (refl, (refl, (refl, (refl, (refl, (refl, (refl, tt))))))))))))
 
--- cases of which none fails hold
-none-each : (cs : List Case) → failing cs ≡ [] → Each Holds cs
+-- cases of which none fails agree
+none-each : (cs : List Case) → failing cs ≡ [] → Each Agrees cs
 unfolding failing
 none-each [] e = tt
 none-each (c ∷ cs) e = by (none-each cs) (same (c .computed) (c .stated)) refl e
   where
-    by : (failing cs ≡ [] → Each Holds cs) → (t : Bool) → same (c .computed) (c .stated) ≡ t → cond t (failing cs) (c .name ∷ failing cs) ≡ [] → Holds c × Each Holds cs
+    by : (failing cs ≡ [] → Each Agrees cs) → (t : Bool) → same (c .computed) (c .stated) ≡ t → cond t (failing cs) (c .name ∷ failing cs) ≡ [] → Agrees c × Each Agrees cs
     by rest true h f = (same-true (c .computed) (c .stated) h, rest f)
     by rest false h f = absurd (omega (arith, ap (λ (l : List String). length l) f))
 
-pub edges : Each (Each Holds) table
-edges = each-so (λ cs. failing cs ≡ []) (Each Holds) none-each table none-fails
+pub edges : Each (Each Agrees) table
+edges = each-so (λ cs. failing cs ≡ []) (Each Agrees) none-each table none-fails

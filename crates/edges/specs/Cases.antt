@@ -10,7 +10,7 @@ use Rattle.lists.specs.Texts.{ascii}
 use Rattle.words.specs.Words.{decode, encode}
 use Rattle.holding.specs.Holding.{faultOf, holdingOf}
 use Rattle.holding.specs.declared.Row.{Row}
-use Rattle.article.specs.Answer.{Answer, answer}
+use Rattle.article.specs.Answer.{answer}
 use Rattle.article.specs.Rate.{rateOf}
 use Rattle.article.specs.Pair.{legOf, pairOf}
 use Rattle.pairing.specs.declared.Line.{Line}
@@ -26,6 +26,7 @@ use Rattle.layout.specs.declared.Value.{Value}
 use Rattle.layout.specs.declared.Value.the-variants.{Of, Wrong}
 use Rattle.layout.specs.declared.Parsed.{Parsed}
 use Rattle.reader.specs.File.{atRecord}
+use Rattle.report.specs.Report.{numbersOf}
 use Rattle.printing.specs.Printed.{printed}
 
 -- a case: its name, what is computed, and what is stated of it
@@ -34,8 +35,8 @@ pub record Case : Type 0 where
   pub computed : List ℕ
   pub stated : List ℕ
 
-abbrev pub Holds : Case → Type 0
-Holds c = c .computed ≡ c .stated
+abbrev pub Agrees : Case → Type 0
+Agrees c = c .computed ≡ c .stated
 
 -- the names of the cases that do not hold
 unfoldable pub failing : List Case → List String
@@ -56,10 +57,6 @@ together l s =
     ∷ (not (eqb (found .number) 0), found .number ∷ [])
     ∷ [])
     (0 ∷ found .first ∷ found .second ∷ [])
-
--- an answer's number and values
-abbrev numbersOf : Answer → List ℕ
-numbersOf a = a .number ∷ a .first ∷ a .second ∷ []
 
 -- a book with its prices and lines, and whether 1 and 2 hold of what is lent: the answer, and after an accepted one the remainders and the
 -- ranking

@@ -6,6 +6,6 @@ use Rattle.margin.specs.declared.Input.{Input}
 use Rattle.margin.specs.declared.Input.the-variants.{File, Failed}
 
 -- the bytes of a file are the first of the buffer; of a read that failed nothing is promised
-abbrev pub Holds : Input → List ℕ → Type 0
-Holds (File n) buffer = n ≤ length buffer
-Holds Failed buffer = Unit {0}
+abbrev pub ReadInto : Input → List ℕ → Type 0
+ReadInto (File n) buffer = n ≤ length buffer
+ReadInto Failed buffer = Unit {0}

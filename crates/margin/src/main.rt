@@ -3,7 +3,8 @@ ghost use mathlib.Core.Path.{_≡_};
 ghost use Prim.Native.Nat.{_+_};
 ghost use lib.ListN.{length};
 ghost use Rattle.reader.specs.File.{fileLimit};
-ghost use Rattle.margin.specs.Input.{Holds};
+ghost use Rattle.report.specs.Written.{reportRoom};
+ghost use Rattle.margin.specs.Input.{ReadInto};
 
 // What the input is: a file of so many bytes, or none, where a read failed.
 enum Input {
@@ -20,7 +21,7 @@ fn file_buffer() -> [u8; reader::LIMIT + 1]
 
 // Room for what is printed.
 fn print_buffer() -> [u8; report::ROOM]
-    ensures { λ r. ⌜ 16962 ≡ length r ⌝ }
+    ensures { λ r. ⌜ reportRoom ≡ length r ⌝ }
 {
     [0; report::ROOM]
 }
@@ -28,7 +29,7 @@ fn print_buffer() -> [u8; report::ROOM]
 // Reads standard input into the front of the buffer, to its end or until the buffer is full. A pipe hands over its bytes in pieces, so that one
 // read is not enough. A read that fails, the first or a later one, leaves no file; one that a signal interrupts counts as failed.
 fn read_input(buffer: &mut [u8]) -> Input
-    ensures { λ r. ⌜ Holds r (now (buffer .exit)) ⌝ }
+    ensures { λ r. ⌜ ReadInto r (now (buffer .exit)) ⌝ }
 {
     let mut n: usize = 0;
     while n < buffer.len() {

@@ -25,7 +25,7 @@ use Rattle.layout.specs.Layout.{letters, sortsBy, Values, values, wrong, values
 use Rattle.layout.specs.declared.Parsed.{Parsed}
 use Rattle.layout.specs.declared.Parsed.the-variants.{Holding, Line as Lined, Refused}
 use Rattle.reader.specs.File.{parsedIn, parsedRows, parsedPrices, parsedLines, submissionOf, atRecord, fileFaults, fileFault}
-use Rattle.reader.specs.ReadsFile.{refusedAt, ReadsFile}
+use Rattle.reader.specs.ReadsFile.{refusedContents, ReadsFile}
 use Rattle.reader.specs.declared.Contents.{Contents}
 use Rattle.reader.proofs.Turns.{Reading}
 
@@ -82,8 +82,8 @@ reading-none text = record {
 }
 
 -- a refusal
-pub contents-refused : (text : List ℕ) {number place : ℕ} {d : Contents} → fileFault text ≡ answer number place 0 → (number ≡ 0 → ⊥) → d ≡ refusedAt number place → ReadsFile text d
-unfolding refusedAt submitted rowsOf pricesOf linesOf listTo
+pub contents-refused : (text : List ℕ) {number place : ℕ} {d : Contents} → fileFault text ≡ answer number place 0 → (number ≡ 0 → ⊥) → d ≡ refusedContents number place → ReadsFile text d
+unfolding refusedContents submitted rowsOf pricesOf linesOf listTo
 contents-refused text {number} f other e = rw e (record {
   fault = sym f;
   submits = rw (ne-eqb number 0 other);

@@ -12,8 +12,8 @@ use Rattle.reader.specs.File.{parsedIn, submissionOf, fileFault}
 use Rattle.reader.specs.declared.Contents.{Contents}
 
 -- a refusal: its number and place, an empty book and an empty proposal
-unfoldable pub refusedAt : ℕ → ℕ → Contents
-refusedAt number place = record {
+unfoldable pub refusedContents : ℕ → ℕ → Contents
+refusedContents number place = record {
   number = number;
   place = place;
   book = record { rows = replicate 256 noRow; count = 0 };

@@ -2,7 +2,7 @@
 use layout::Parsed;
 use proposal::Book;
 use proposal::Proposal;
-ghost use Rattle.reader.specs.ReadsFile.{ReadsFile, refusedAt};
+ghost use Rattle.reader.specs.ReadsFile.{ReadsFile, refusedContents};
 ghost use mathlib.Core.Path.{_≡_};
 
 // The most bytes that a file may have.
@@ -18,7 +18,7 @@ pub struct Contents {
 
 // A refusal, with nothing submitted.
 fn refused(number: u64, place: u64) -> Contents
-    ensures { λ r. ⌜ r ≡ refusedAt number place ⌝ }
+    ensures { λ r. ⌜ r ≡ refusedContents number place ⌝ }
 {
     Contents {
         number,

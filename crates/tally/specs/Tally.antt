@@ -43,7 +43,7 @@ keptAt number t = record { number = number; tally = t }
 unfoldable pub stoppedAt : ℕ → ℕ → Tally → Walked
 stoppedAt number place t = record { fault = record { number = number; place = place; second = 0 }; tally = t }
 
--- a tally of at most 511 lines, a line on two numbers below 256, and the legs of those numbers
+-- a tally of at most 511 lines, a line on two numbers below 256, and two legs of the article's rates, which are one where the numbers are
 pub record Ready (t : Tally) (l : Line) (long short : Leg) : Type 0 where
   pub first : l .long < 256
   pub second : l .short < 256

@@ -1,4 +1,4 @@
--- `ended` tells what follows a field. Assumes nothing.
+-- `ended` reads what follows a field. Assumes nothing.
 use borrow.Author.Needs.{needs}
 use Rattle.csv.proofs.Scan.{ends-past, ends-comma, ends-line, ends-half, ends-alone, ends-other}
 use Rattle.csv.proofs.ended.Statement.{statement}

@@ -1,4 +1,4 @@
--- `opens` tells whether a quote stands at a place. Assumes nothing.
+-- `opens` decides whether a quote stands at a place. Assumes nothing.
 use borrow.Author.Needs.{needs}
 use Rattle.csv.proofs.Scan.{opens-here, opens-past}
 use Rattle.csv.proofs.opens.Statement.{statement}

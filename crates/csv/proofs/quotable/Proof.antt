@@ -1,4 +1,4 @@
--- `quotable` tells what may stand in quotes beside doubled quotes. Assumes nothing.
+-- `quotable` decides what may stand in quotes beside doubled quotes. Assumes nothing.
 use borrow.Author.Needs.{needs}
 use Rattle.lists.proofs.Tests.{tests}
 use Rattle.csv.specs.Bytes.{isQuotable}

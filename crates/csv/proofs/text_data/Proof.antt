@@ -1,4 +1,4 @@
--- `text_data` tells TEXTDATA. Assumes nothing.
+-- `text_data` decides TEXTDATA. Assumes nothing.
 use borrow.Author.Needs.{needs}
 use Rattle.csv.proofs.Text.{text-quote, text-comma, text-printable, text-under, text-over}
 use Rattle.csv.proofs.text_data.Statement.{statement}

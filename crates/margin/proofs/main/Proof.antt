@@ -2,7 +2,7 @@
 use mathlib.Core.Path.{sym, subst}
 use lib.Seq.{length-take-le}
 use borrow.Author.Needs.{needs}
-use Rattle.margin.specs.Input.{Holds}
+use Rattle.margin.specs.Input.{ReadInto}
 use Rattle.margin.specs.declared.Input.{Input}
 use Rattle.margin.proofs.main.Statement.{statement}
 use Rattle.margin.proofs.main.Tie as tie
@@ -11,7 +11,7 @@ use Rattle.margin.proofs.main.Tie as tie
 within : tie.Need-array-share-prefix-buffer
 within c =
     let read = c .before .before .before .before in
-    subst (λ (input : Input). Holds input (read .read-input .last .0)) (c .before .input .given .1) (read .read-input .ensures)
+    subst (λ (input : Input). ReadInto input (read .read-input .last .0)) (c .before .input .given .1) (read .read-input .ensures)
 
 pub main-spec : {M : Type 1} → statement M
 main-spec =

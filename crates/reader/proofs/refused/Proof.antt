@@ -1,11 +1,11 @@
 -- `refused` is the refusal with an empty book and an empty proposal. Assumes nothing.
 use borrow.Author.Needs.{needs}
-use Rattle.reader.specs.ReadsFile.{refusedAt}
+use Rattle.reader.specs.ReadsFile.{refusedContents}
 use Rattle.reader.proofs.refused.Statement.{statement}
 use Rattle.reader.proofs.refused.Tie as tie
 
 pub refused-spec : {M : Type 1} → statement M
-unfolding refusedAt
+unfolding refusedContents
 refused-spec =
     tie.close
     (tie.spec
