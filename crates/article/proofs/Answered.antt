@@ -3,19 +3,19 @@ use mathlib.Core.Path.{_≡_, refl, ap}
 use mathlib.Core.Bool.{Bool, true, false, cond}
 use Prim.Native.Nat.{ℕ, _≤_}
 use native.Mathlib.Omega.{arith}
-use Rattle.article.specs.Answer.{Answer, answer}
+use Rattle.article.specs.Answer.{Answer, makeAnswer}
 use Rattle.article.specs.Pair.{allowed, pairRateOf, savingRateOf, pairAnswer, pairOf, Pairs}
 use Rattle.article.specs.declared.pair.Leg.{Leg}
 use Rattle.article.specs.declared.pair.Pair.{Pair}
 use Rattle.article.specs.declared.pair.Pair.the-variants.{Allowed, NotAllowed}
 
 -- a test's value from the number of the answer that it picked
-refused-by : (t : Bool) (rate saving : ℕ) → answer 13 0 0 ≡ cond t (answer 0 rate saving) (answer 13 0 0) → t ≡ false
+refused-by : (t : Bool) (rate saving : ℕ) → makeAnswer 13 0 0 ≡ cond t (makeAnswer 0 rate saving) (makeAnswer 13 0 0) → t ≡ false
 refused-by true rate saving e = absurd (omega (arith, ap (λ (a : Answer). a .number) e))
 refused-by false rate saving e = refl
 
 -- and the rates that stand in it
-given-by : (t : Bool) (rate saving rate′ saving′ : ℕ) → answer 0 rate′ saving′ ≡ cond t (answer 0 rate saving) (answer 13 0 0)
+given-by : (t : Bool) (rate saving rate′ saving′ : ℕ) → makeAnswer 0 rate′ saving′ ≡ cond t (makeAnswer 0 rate saving) (makeAnswer 13 0 0)
     → (t ≡ true) × (rate′ ≡ rate) × (saving′ ≡ saving)
 given-by true rate saving rate′ saving′ e = (refl, ap (λ (a : Answer). a .first) e, ap (λ (a : Answer). a .second) e)
 given-by false rate saving rate′ saving′ e = absurd (omega (arith, ap (λ (a : Answer). a .number) e))

@@ -5,7 +5,7 @@ use mathlib.Core.List.{[], _∷_}
 use Prim.Native.Nat.{ℕ, _+_, _-_, _/_, _≤_, min, max}
 use lib.Dec.{eqb}
 use Rattle.lists.specs.Choice.{firstOf, within}
-use Rattle.article.specs.Answer.{Answer, answer}
+use Rattle.article.specs.Answer.{Answer, makeAnswer}
 use Rattle.holding.specs.Holding.{rowOf}
 use Rattle.article.specs.Rate.{periodOf, rateOf}
 use Rattle.holding.specs.declared.Holding.{Holding}
@@ -90,12 +90,12 @@ savingRateOf l s = l .rate + s .rate - pairRateOf l s
 
 -- the paper's number and values of each answer: 0 with the pair's rate and the saving rate, or 13
 unfoldable pub pairAnswer : Pair → Answer
-pairAnswer (pairs.Allowed rate saving) = answer 0 rate saving
-pairAnswer pairs.NotAllowed = answer 13 0 0
+pairAnswer (pairs.Allowed rate saving) = makeAnswer 0 rate saving
+pairAnswer pairs.NotAllowed = makeAnswer 13 0 0
 
 -- the answer on two legs as a pair
 unfoldable pub pairOf : Leg → Leg → Answer
-pairOf l s = cond (allowed l s) (answer 0 (pairRateOf l s) (savingRateOf l s)) (answer 13 0 0)
+pairOf l s = cond (allowed l s) (makeAnswer 0 (pairRateOf l s) (savingRateOf l s)) (makeAnswer 13 0 0)
 
 -- a leg's rate is at most the article's highest
 abbrev pub RateInRange : Leg → Type 0

@@ -8,7 +8,7 @@ use lib.ListN.{getD}
 use borrow.Author.Tests.{lt-ltb, le-ltb, ltb-false, ne-eqb}
 use Rattle.lists.specs.Choice.{firstOf}
 use Rattle.lists.proofs.Firsts.{None, first-of-none, none-in-turn}
-use Rattle.article.specs.Answer.{answer}
+use Rattle.article.specs.Answer.{makeAnswer}
 use Rattle.article.specs.Pair.{isLong, allowed, savingRateOf}
 use Rattle.savings.specs.Savings.{savingOf}
 use Rattle.article.specs.declared.pair.Leg.{Leg}
@@ -52,9 +52,9 @@ module _ (p : Positions) where
 
   -- the lower longs are passed, and at i the lower shorts
   pub first-uncovered : {i j : ℕ} → Passed (p .count) (atLong (heldBook p)) i → i < p .count → Passed (p .count) (atPair (heldBook p) i) j → j < p .count
-      → uncovered (heldBook p) i j ≡ true → answer 16 i j ≡ firstOf (uncoveredPairs (heldBook p)) (answer 0 0 0)
+      → uncovered (heldBook p) i j ≡ true → makeAnswer 16 i j ≡ firstOf (uncoveredPairs (heldBook p)) (makeAnswer 0 0 0)
   unfolding uncoveredPairs atLong atPair heldBook firstOf
-  first-uncovered longs h shorts g e = sym (passed-first longs (answer 0 0 0) h (λ w. passed-first shorts w g (λ v. rw e)))
+  first-uncovered longs h shorts g e = sym (passed-first longs (makeAnswer 0 0 0) h (λ w. passed-first shorts w g (λ v. rw e)))
 
   -- a long is passed with its last short
   pub long-passed : (i : ℕ) {j : ℕ} → Passed (p .count) (atPair (heldBook p) i) j → p .count ≤ j → None (atLong (heldBook p) i)
@@ -71,6 +71,6 @@ module _ (p : Positions) where
   not-long i h = none-in-turn _ _ (λ j l. covered-none i j (saves-nothing i j h) (omega arith))
 
   -- every long is passed
-  pub all-covered : {i : ℕ} → Passed (p .count) (atLong (heldBook p)) i → p .count ≤ i → answer 0 0 0 ≡ firstOf (uncoveredPairs (heldBook p)) (answer 0 0 0)
+  pub all-covered : {i : ℕ} → Passed (p .count) (atLong (heldBook p)) i → p .count ≤ i → makeAnswer 0 0 0 ≡ firstOf (uncoveredPairs (heldBook p)) (makeAnswer 0 0 0)
   unfolding uncoveredPairs heldBook
-  all-covered longs h = sym (first-of-none (uncoveredPairs (heldBook p)) (answer 0 0 0) (passed-all longs h))
+  all-covered longs h = sym (first-of-none (uncoveredPairs (heldBook p)) (makeAnswer 0 0 0) (passed-all longs h))

@@ -10,7 +10,7 @@ use Rattle.lists.specs.Texts.{ascii}
 use Rattle.words.specs.Words.{decode, encode}
 use Rattle.holding.specs.Holding.{faultOf, holdingOf}
 use Rattle.holding.specs.declared.Row.{Row}
-use Rattle.article.specs.Answer.{answer}
+use Rattle.article.specs.Answer.{makeAnswer}
 use Rattle.article.specs.Rate.{rateOf}
 use Rattle.article.specs.Pair.{legOf, pairOf}
 use Rattle.pairing.specs.declared.Line.{Line}
@@ -111,7 +111,7 @@ prints-bytes name text expected = record { name = name; computed = printed text;
 
 -- the refusal of a record among those that are parsed, with its place
 abbrev pub record-at : String → List Parsed → ℕ → List ℕ → Case
-record-at name parsed n expected = record { name = name; computed = numbersOf (firstOf (atRecord parsed n) (answer 0 0 0)); stated = expected }
+record-at name parsed n expected = record { name = name; computed = numbersOf (firstOf (atRecord parsed n) (makeAnswer 0 0 0)); stated = expected }
 
 -- the number of a text of a sort, or none
 abbrev pub code : String → Sort → String → List ℕ → Case

@@ -8,7 +8,7 @@ use lib.ListN.{length, take, drop}
 use lib.Seq.{take-at}
 use Rattle.lists.specs.Tables.{front, zeros}
 use Rattle.lists.proofs.Tables.{length-to}
-use Rattle.article.specs.Answer.{Answer, answer}
+use Rattle.article.specs.Answer.{Answer, makeAnswer}
 use Rattle.proposal.specs.Submission.{bookOf, submitted, priced}
 use Rattle.proposal.specs.Figures.{remainder, remaindersOf, ranked}
 use Rattle.proposal.specs.Outcome.{outcome}
@@ -73,10 +73,10 @@ module _ (c : Columns) where
 
     -- refused by the lengths
     pub refused-checks : (number r : ℕ) (out′ : List ℕ) → number ≡ lengthFault (sizesOf c before) → (number ≡ 0 → ⊥)
-        → Answers (answer number 0 0) (before .answer) out′ r → Checks c before (makeLent (before .remainder) (before .ranking) out′) r
+        → Answers (makeAnswer number 0 0) (before .answer) out′ r → Checks c before (makeLent (before .remainder) (before .ranking) out′) r
     unfolding outcomeOf
     refused-checks number r out′ e h returned =
-        let o : outcomeOf c before ≡ answer number 0 0 = unfold sizesOf in sizes-refused (sizesOf c before) (submission c) number (holdings-read c) (lines-read c) e h in
+        let o : outcomeOf c before ≡ makeAnswer number 0 0 = unfold sizesOf in sizes-refused (sizesOf c before) (submission c) number (holdings-read c) (lines-read c) e h in
         let none : outcomeOf c before .number ≡ 0 → ⊥ = λ z. h (sym (ap (λ (a : Answer). a .number) o) ∙ z) in
         checks-all _ _ _ r (rw o returned) (nothing-written _ _ _ none) (nothing-written _ _ _ none)
 

@@ -13,7 +13,7 @@ use Rattle.lists.specs.Tables.{front}
 use Rattle.lists.proofs.Tables.{length-to}
 use Rattle.lists.proofs.Tests.{same-or-not}
 use Rattle.lists.proofs.Firsts.{first-append, first-refused, first-of-none}
-use Rattle.article.specs.Answer.{Answer, answer}
+use Rattle.article.specs.Answer.{Answer, makeAnswer}
 use Rattle.proposal.specs.Submission.{Submission, rowsOf, pricesOf, linesOf, submitted}
 use Rattle.proposal.proofs.Clear.{number}
 use Rattle.words.specs.Words.{encode}
@@ -43,17 +43,17 @@ no-lines-filled l = refl
 -- what the reader answers by the refusals of the file and by the lengths of the lists
 module _ (text : List ℕ) (two : Bool) where
   counts : Answer
-  counts = answer 0 (length (submissionIn text .rows)) (length (submissionIn text .lines))
+  counts = makeAnswer 0 (length (submissionIn text .rows)) (length (submissionIn text .lines))
 
   answer-refused : fileFault text .number ≢ 0 → readAnswer two text ≡ fileFault text
   unfolding readAnswer fileFault
   answer-refused h =
-      first-append (fileFaults text) ((two, answer 2 0 0) ∷ []) _
-      ∙ first-refused number (fileFaults text) (answer 0 0 0) _ refl h
+      first-append (fileFaults text) ((two, makeAnswer 2 0 0) ∷ []) _
+      ∙ first-refused number (fileFaults text) (makeAnswer 0 0 0) _ refl h
 
-  answer-none : fileFault text .number ≡ 0 → readAnswer two text ≡ cond two (answer 2 0 0) counts
+  answer-none : fileFault text .number ≡ 0 → readAnswer two text ≡ cond two (makeAnswer 2 0 0) counts
   unfolding readAnswer firstOf submissionOf counts
-  answer-none e = first-append (fileFaults text) ((two, answer 2 0 0) ∷ []) _ ∙ first-of-none (fileFaults text) _ (none-exactly text .0 e)
+  answer-none e = first-append (fileFaults text) ((two, makeAnswer 2 0 0) ∷ []) _ ∙ first-of-none (fileFaults text) _ (none-exactly text .0 e)
 
   answer-exactly : (readAnswer two text .number ≡ 0) ↔ ((fileFault text .number ≡ 0) × (two ≡ false))
   unfolding counts
@@ -65,7 +65,7 @@ module _ (text : List ℕ) (two : Bool) where
     λ h. ap number (answer-none (h .0)) ∙ rw (h .1),
   )
     where
-      by : (t : Bool) → number (cond t (answer 2 0 0) counts) ≡ 0 → t ≡ false
+      by : (t : Bool) → number (cond t (makeAnswer 2 0 0) counts) ≡ 0 → t ≡ false
       by true e = absurd (omega arith)
       by false e = refl
 
@@ -104,11 +104,11 @@ module _ (text : List ℕ) (book : BookColumns) (lines : LineColumns) (out : Lis
       }
 
   module _ {d : Contents} (from-file : ReadsFile text d) where
-    pub record-refused : (out′ : List ℕ) (r : ℕ) → d .number ≢ 0 → Answers (answer (d .number) (d .place) 0) out out′ r → Reads text book book lines lines out out′ r
+    pub record-refused : (out′ : List ℕ) (r : ℕ) → d .number ≢ 0 → Answers (makeAnswer (d .number) (d .place) 0) out out′ r → Reads text book book lines lines out out′ r
     unfolding readingAnswer
     record-refused out′ r h t =
         let fault : fileFault text .number ≢ 0 = λ z. h (ap number (from-file .fault) ∙ z) in
-        refused (answer (d .number) (d .place) 0) out′ r (answer-refused text short fault ∙ sym (from-file .fault)) h t
+        refused (makeAnswer (d .number) (d .place) 0) out′ r (answer-refused text short fault ∙ sym (from-file .fault)) h t
 
     -- nothing is refused: what was read is what is submitted
     module _ (z : d .number ≡ 0) where
@@ -130,16 +130,16 @@ module _ (text : List ℕ) (book : BookColumns) (lines : LineColumns) (out : Lis
         same-test : two ≡ short
         same-test = t ∙ rw (holdings, pairs)
 
-        pub list-refused : (out′ : List ℕ) (r : ℕ) → two ≡ true → Answers (answer 2 0 0) out out′ r → Reads text book book lines lines out out′ r
+        pub list-refused : (out′ : List ℕ) (r : ℕ) → two ≡ true → Answers (makeAnswer 2 0 0) out out′ r → Reads text book book lines lines out out′ r
         unfolding readingAnswer
         list-refused out′ r e answered =
-            refused (answer 2 0 0) out′ r (answer-none text short no-fault ∙ rw (sym same-test ∙ e)) (λ w. omega arith) answered
+            refused (makeAnswer 2 0 0) out′ r (answer-none text short no-fault ∙ rw (sym same-test ∙ e)) (λ w. omega arith) answered
 
         pub all-read : (book′ : BookColumns) (lines′ : LineColumns) (out′ : List ℕ) (r : ℕ) → two ≡ false → book′ ≡ filledBook (rowsOf (d .book)) (pricesOf (d .book) (d .proposal .prices)) book
-            → lines′ ≡ filledLines (linesOf (d .proposal)) lines → Answers (answer 0 (d .book .count) (d .proposal .count)) out out′ r → Reads text book book′ lines lines′ out out′ r
+            → lines′ ≡ filledLines (linesOf (d .proposal)) lines → Answers (makeAnswer 0 (d .book .count) (d .proposal .count)) out out′ r → Reads text book book′ lines lines′ out out′ r
         unfolding readingAnswer submitted counts
         all-read book′ lines′ out′ r e b l answered =
-            let whole : readingAnswer text given ≡ answer 0 (d .book .count) (d .proposal .count) = answer-none text short no-fault ∙ rw (sym same-test ∙ e, holdings, pairs) in
+            let whole : readingAnswer text given ≡ makeAnswer 0 (d .book .count) (d .proposal .count) = answer-none text short no-fault ∙ rw (sym same-test ∙ e, holdings, pairs) in
             let zero : filling text given ≡ submissionIn text = filling-by {t = true} (rw whole) in
             let in-book : book′ ≡ filledBook (submissionIn text .rows) (submissionIn text .prices) book = b ∙ ap (λ (s : Submission). filledBook (s .rows) (s .prices) book) read in
             let in-lines : lines′ ≡ filledLines (submissionIn text .lines) lines = l ∙ ap (λ (s : Submission). filledLines (s .lines) lines) read in

@@ -4,7 +4,7 @@ use mathlib.Core.Bool.{Bool, false}
 use mathlib.Core.List.{List}
 use Prim.Native.Nat.{ℕ, _≤_}
 use lib.ListN.{length}
-use Rattle.article.specs.Answer.{Answer, answer}
+use Rattle.article.specs.Answer.{Answer, makeAnswer}
 use Rattle.proposal.specs.Submission.{Submission}
 use Rattle.proposal.specs.Outcome.{outcome}
 use Rattle.proposal.specs.Demands.{Demands}
@@ -13,7 +13,7 @@ use Rattle.lent.specs.Lists.{answerIn, Answers}
 
 -- demands on an answer are demands on one of the same number, with the same figures where it is accepted
 same-demands : (s : Submission) (one two : Bool) (a : Answer) (r x y : ℕ) → r ≡ a .number → (a .number ≡ 0 → (x ≡ a .first) × (y ≡ a .second))
-    → Demands s one two a → Demands s one two (answer r x y)
+    → Demands s one two a → Demands s one two (makeAnswer r x y)
 same-demands s one two a r x y e f d = record {
   exactly = rw e (d .exactly);
   cheapest = λ z. let n : a .number ≡ 0 = sym e ∙ z in rw (f n .0) (d .cheapest n);

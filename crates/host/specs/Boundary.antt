@@ -13,7 +13,7 @@ use Rattle.proposal.specs.Outcome.{outcome}
 use Rattle.proposal.specs.Demands.{Acceptable, Demands}
 use Rattle.verdict.specs.Judges.{written}
 use Rattle.words.specs.Words.{encode}
-use Rattle.lent.specs.Columns.{Columns, submission, Entries}
+use Rattle.lent.specs.Columns.{Columns, submission, ColumnEntries}
 use Rattle.sizes.specs.Sizes.{Sizes, makeSizes, Lengths, differ, tooShort}
 use Rattle.lent.specs.Lists.{Lent, answerIn, Answers}
 
@@ -31,7 +31,7 @@ outcomeOf c l = outcome (differ (sizesOf c l)) (tooShort (sizesOf c l)) (submiss
 module _ (c : Columns) (before after : Lent) (r : ℕ) where
   pub record Checks : Type 0 where
     -- a book or proposal has as many holdings or lines as its columns have entries, and of each the numbers that stand there
-    pub submitted : Entries c
+    pub submitted : ColumnEntries c
     -- the refusal number, 0 for accepted, is returned; units and cents, or the two places, stand in the answer slice, where the host reads them
     pub returned : Answers (outcomeOf c before) (before .answer) (after .answer) r
     -- each holding's remainder; on a refusal nothing is written, and entries past what the list is to hold keep what they held

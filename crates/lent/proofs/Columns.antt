@@ -12,7 +12,7 @@ use Rattle.proposal.specs.Submission.{noRow, noLine, rowsOf, pricesOf, linesOf,
 use Rattle.proposal.specs.declared.Book.{Book}
 use Rattle.proposal.specs.declared.Proposal.{Proposal}
 use Rattle.words.specs.Words.{wordAt, entries, decode}
-use Rattle.lent.specs.Columns.{Columns, rowIn, lineIn, rowsIn, linesIn, submission, Entries, HoldsRows, HoldsLines}
+use Rattle.lent.specs.Columns.{Columns, rowIn, lineIn, rowsIn, linesIn, submission, ColumnEntries, HoldsRows, HoldsLines}
 
 -- rows, and lines, of equal numbers
 pub row-eq : {s s′ k k′ i i′ d d′ v v′ : ℕ} → s ≡ s′ → k ≡ k′ → i ≡ i′ → d ≡ d′ → v ≡ v′
@@ -73,7 +73,7 @@ unfolding submission linesIn entries
 lines-read c = length-to (length (c .long) / 8) _
 
 -- what is submitted stands in the columns
-pub entries-read : (c : Columns) → Entries c
+pub entries-read : (c : Columns) → ColumnEntries c
 unfolding submission rowsIn linesIn decode entries
 entries-read c = record {
   holdings = holdings-read c;

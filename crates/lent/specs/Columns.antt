@@ -77,7 +77,7 @@ pub record LineAt (c : Columns) (k : ℕ) : Type 0 where
   pub amount : getD (submission c .lines) k noLine .amount ≡ wordAt (c .amount) k
 
 -- a book or proposal has as many holdings or lines as its columns have entries
-pub record Entries (c : Columns) : Type 0 where
+pub record ColumnEntries (c : Columns) : Type 0 where
   pub holdings : length (submission c .rows) ≡ length (c .side) / 8
   pub lines : length (submission c .lines) ≡ length (c .long) / 8
   pub holding : (k : ℕ) → k < length (c .side) / 8 → HoldingAt c k

@@ -6,7 +6,7 @@ use Prim.Native.Nat.{ℕ, _≤_}
 use lib.Dec.{ltb}
 use lib.ListN.{length, take}
 use Rattle.lists.specs.Tables.{front}
-use Rattle.article.specs.Answer.{Answer, answer}
+use Rattle.article.specs.Answer.{Answer, makeAnswer}
 use Rattle.verdict.specs.Judges.{answerOf}
 use Rattle.verdict.specs.declared.Verdict.{Verdict}
 use Rattle.verdict.specs.declared.Verdict.the-variants.{Accepted, Refused}
@@ -28,7 +28,7 @@ answered a old = cond (ltb (length old) 16) old (front (encode (a .first ∷ a .
 
 -- what the host reads: the number returned, and the two numbers in the answer slice
 abbrev pub answerIn : ℕ → List ℕ → Answer
-answerIn r bytes = answer r (wordAt bytes 0) (wordAt bytes 1)
+answerIn r bytes = makeAnswer r (wordAt bytes 0) (wordAt bytes 1)
 
 -- a number and two more are the answer: the number is returned, and the two stand in the answer slice, where the host reads them
 pub record Answers (a : Answer) (before after : List ℕ) (r : ℕ) : Type 0 where

@@ -9,7 +9,7 @@ ghost use mathlib.Core.Path.{_≡_};
 ghost use Prim.Native.Nat.{_/_, _≤_};
 ghost use lib.ListN.{length};
 ghost use Rattle.lists.specs.Tables.{front, zeros};
-ghost use Rattle.article.specs.Answer.{answer};
+ghost use Rattle.article.specs.Answer.{makeAnswer};
 ghost use Rattle.words.specs.Words.{decode};
 ghost use Rattle.sizes.specs.Sizes.{BookFits, ProposalFits, ListsFit};
 ghost use Rattle.lent.specs.Columns.{HoldsRows, HoldsLines};
@@ -76,7 +76,7 @@ pub fn proposal_of(price: &[u8], long: &[u8], short: &[u8], amount: &[u8]) -> Pr
 
 // Puts two numbers into an answer slice of 16 bytes or more, and returns the number.
 pub fn put_answer(number: u64, first: u64, second: u64, out: &mut [u8]) -> u64
-    ensures { λ r. ⌜ Answers (answer number first second) (now (out .entry)) (now (out .exit)) r ⌝ }
+    ensures { λ r. ⌜ Answers (makeAnswer number first second) (now (out .entry)) (now (out .exit)) r ⌝ }
 {
     if out.len() >= 16 {
         words::put_word(out, 0, first);

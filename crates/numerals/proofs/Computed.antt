@@ -10,9 +10,9 @@ unfolding digits lead
 written = refl
 
 -- `0`, and 999999999999
-pub taken : map (numeralOf 12) ((48 ∷ []) ∷ (57 ∷ 57 ∷ 57 ∷ 57 ∷ 57 ∷ 57 ∷ 57 ∷ 57 ∷ 57 ∷ 57 ∷ 57 ∷ 57 ∷ []) ∷ []) ≡ Number 0 ∷ Number 999999999999 ∷ []
+pub read : map (numeralOf 12) ((48 ∷ []) ∷ (57 ∷ 57 ∷ 57 ∷ 57 ∷ 57 ∷ 57 ∷ 57 ∷ 57 ∷ 57 ∷ 57 ∷ 57 ∷ 57 ∷ []) ∷ []) ≡ Number 0 ∷ Number 999999999999 ∷ []
 unfolding same digits lead valueFrom numeralOf
-taken = refl
+read = refl
 
 -- the empty text, `00`, `007`, `+1`, and 13 digits
 pub refused : map (numeralOf 12) ([] ∷ (48 ∷ 48 ∷ []) ∷ (48 ∷ 48 ∷ 55 ∷ []) ∷ (43 ∷ 49 ∷ []) ∷ (49 ∷ 48 ∷ 48 ∷ 48 ∷ 48 ∷ 48 ∷ 48 ∷ 48 ∷ 48 ∷ 48 ∷ 48 ∷ 48 ∷ 48 ∷ []) ∷ [])

@@ -13,7 +13,7 @@ use Rattle.lists.proofs.Tables.{getD-to, map-to, getD-same, getD-zeros}
 use Rattle.holding.specs.Holding.{Ranges, holdingOf, faultOf}
 use Rattle.holding.specs.declared.Row.{Row}
 use Rattle.holding.proofs.Ranges.{fault-none}
-use Rattle.article.specs.Answer.{Answer, answer}
+use Rattle.article.specs.Answer.{Answer, makeAnswer}
 use Rattle.article.specs.Pair.{legOf, RateInRange}
 use Rattle.article.proofs.Rates.{rate-high}
 use Rattle.article.specs.declared.pair.Leg.{Leg}
@@ -101,7 +101,7 @@ module _ {book : Book} {price : List ℕ} {ls : List Leg} {vs ps : List ℕ} whe
         → Opens (rowsOf book) (pricesOf book price) r
     unfolding refusedAt bookFaults faultAnswer
     opens-refused {n} h other e g = rw g (record {
-      fault = sym (passed-first passed-listed (answer 0 0 0) (rw (rows-count book) h) (λ w. rw (is-listed book price i h) (first-at i _ n e other w)));
+      fault = sym (passed-first passed-listed (makeAnswer 0 0 0) (rw (rows-count book) h) (λ w. rw (is-listed book price i h) (first-at i _ n e other w)));
       positions = rw (ne-eqb n 0 other) no-book;
       bounds = no-bounds;
     })
@@ -142,7 +142,7 @@ module _ {book : Book} {price : List ℕ} {ls : List Leg} {vs ps : List ℕ} whe
     pub opens-all : book .count ≤ i → book .count ≤ 256 → Opens (rowsOf book) (pricesOf book price) (record { fault = record { number = 0; place = 0; second = 0 }; positions = opened })
     unfolding bookFaults faultAnswer
     opens-all h few = record {
-      fault = sym (first-of-none (bookFaults (rowsOf book) (pricesOf book price)) (answer 0 0 0) (passed-all passed-listed (rw (rows-count book) h)));
+      fault = sym (first-of-none (bookFaults (rowsOf book) (pricesOf book price)) (makeAnswer 0 0 0) (passed-all passed-listed (rw (rows-count book) h)));
       positions = opened-book h;
       bounds = opened-in-bounds few;
     }

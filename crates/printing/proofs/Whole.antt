@@ -13,7 +13,7 @@ use Rattle.lists.specs.Tables.{front}
 use Rattle.lists.specs.Texts.{ascii}
 use Rattle.lists.proofs.Tables.{length-to, getD-every}
 use Rattle.lists.proofs.Tests.{same-or-not}
-use Rattle.article.specs.Answer.{Answer, answer}
+use Rattle.article.specs.Answer.{Answer, makeAnswer}
 use Rattle.proposal.specs.Submission.{Submission, priced, rowsOf, submitted}
 use Rattle.proposal.specs.Figures.{remainder, remaindersOf, ranked}
 use Rattle.proposal.specs.Outcome.{outcome}
@@ -107,7 +107,7 @@ module _ (text : List ℕ) where
   figures-printed e = record {
     units = fileAnswer text .first;
     cents = fileAnswer text .second;
-    keeps = subst (λ (n : ℕ). Demands s false false (answer n (fileAnswer text .first) (fileAnswer text .second))) e (accepted-least e);
+    keeps = subst (λ (n : ℕ). Demands s false false (makeAnswer n (fileAnswer text .first) (fileAnswer text .second))) e (accepted-least e);
     lines = accepted-lines (fileAnswer text) (bookLine (priced s) (s .lines)) (ranked (priced s) (s .lines)) e
         ∙ ap (λ (f : ℕ → List ℕ). marginLine (fileAnswer text) ++ flatMap f (ranked (priced s) (s .lines))) (λ i k. same-line s k i)
         ∙ (unfold marginLine in refl);
@@ -126,7 +126,7 @@ module _ (text : List ℕ) where
   )
 
   module _ {d : Contents} (from-file : ReadsFile text d) where
-    pub refused-printed : {before after : List ℕ} {r : ℕ} → d .number ≢ 0 → Prints (refusalLine (answer (d .number) (d .place) 0)) before after r → PrintsFile text before after r × Within r after
+    pub refused-printed : {before after : List ℕ} {r : ℕ} → d .number ≢ 0 → Prints (refusalLine (makeAnswer (d .number) (d .place) 0)) before after r → PrintsFile text before after r × Within r after
     unfolding printed printedOf printedLines
     refused-printed h p =
         let fault : fileFault text .number ≢ 0 = λ z. h (ap number (from-file .fault) ∙ z) in

@@ -8,7 +8,7 @@ use Prim.Native.Nat.{ℕ}
 use lib.Dec.{eqb}
 use lib.ListN.{getD, take}
 use Rattle.lists.specs.Texts.{ascii}
-use Rattle.article.specs.Answer.{Answer, answer}
+use Rattle.article.specs.Answer.{Answer, makeAnswer}
 use Rattle.ranking.specs.Ranking.{Ranks}
 use Rattle.proposal.specs.Submission.{Submission, priced}
 use Rattle.proposal.specs.Figures.{margin, remaindersOf, ranked}
@@ -35,7 +35,7 @@ holdingLine s k = lineOf (ascii "R") (k ∷ getD (remaindersOf (priced s) (s .li
 pub record PrintsFigures (s : Submission) (bytes : List ℕ) : Type 0 where
   pub units : ℕ
   pub cents : ℕ
-  pub keeps : Demands s false false (answer 0 units cents)
+  pub keeps : Demands s false false (makeAnswer 0 units cents)
   pub lines : bytes ≡ lineOf (ascii "M") (units ∷ cents ∷ []) ++ flatMap (holdingLine s) (ranked (priced s) (s .lines))
 
 -- what printing a file promises of the lent list, before and after, and of the count that is returned

@@ -8,7 +8,7 @@ use Rattle.lists.specs.Choice.{firstOf}
 use Rattle.lists.proofs.Firsts.{None, Numbered, Listed, none-first}
 use Rattle.holding.specs.Holding.{rowFaults}
 use Rattle.holding.specs.declared.Row.{Row}
-use Rattle.article.specs.Answer.{Answer, answer}
+use Rattle.article.specs.Answer.{Answer, makeAnswer}
 use Rattle.article.specs.declared.pair.Leg.{Leg}
 use Rattle.pairing.specs.declared.Line.{Line}
 use Rattle.proposal.specs.Submission.{PricedBook}
@@ -35,7 +35,7 @@ module _ (p : ℕ) where
   zero-at fs h e = none-at fs (none-first (λ (n : ℕ). n) fs 0 h e .0)
 
   -- a number is given: it is the answer at the place, whatever follows
-  pub first-at : (fs : List (Bool × ℕ)) (n : ℕ) → n ≡ firstOf fs 0 → (n ≡ 0 → ⊥) → (w : Answer) → firstOf (atPlace p fs) w ≡ answer n p 0
+  pub first-at : (fs : List (Bool × ℕ)) (n : ℕ) → n ≡ firstOf fs 0 → (n ≡ 0 → ⊥) → (w : Answer) → firstOf (atPlace p fs) w ≡ makeAnswer n p 0
   unfolding atPlace firstOf
   first-at [] n e h w = absurd (h e)
   first-at ((true, m) ∷ fs) n e h w = rw (← e)

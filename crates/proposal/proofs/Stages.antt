@@ -7,7 +7,7 @@ use lib.ListN.{length}
 use borrow.Author.Tests.{lt-ltb, le-ltb, eq-eqb, ne-eqb}
 use Rattle.lists.specs.Choice.{firstOf}
 use Rattle.lists.proofs.Firsts.{Numbered, first-append, none-first, first-refused, skip-none}
-use Rattle.article.specs.Answer.{Answer, answer}
+use Rattle.article.specs.Answer.{Answer, makeAnswer}
 use Rattle.pairing.specs.Pairing.{saving, pricedTotal}
 use Rattle.pairing.specs.declared.Line.{Line}
 use Rattle.proposal.specs.Submission.{Submission, PricedBook, termsOf, priced}
@@ -18,19 +18,19 @@ use Rattle.proposal.proofs.Clear.{number}
 module _ (o : Answer) (stage rest : List (Bool × Answer)) (z : Answer) (so : o ≡ firstOf (stage ++ rest) z) (f : Answer) (found : f ≡ firstFault stage) where
   pub refuses : (f .number ≡ 0 → ⊥) → o ≡ f
   refuses h =
-      so ∙ first-append stage rest z ∙ first-refused number stage (answer 0 0 0) (firstOf rest z) refl (λ e. h (ap number found ∙ e)) ∙ sym found
+      so ∙ first-append stage rest z ∙ first-refused number stage (makeAnswer 0 0 0) (firstOf rest z) refl (λ e. h (ap number found ∙ e)) ∙ sym found
 
   pub passes : Numbered number stage → f .number ≡ 0 → o ≡ firstOf rest z
-  passes n e = so ∙ skip-none stage rest z (none-first number stage (answer 0 0 0) n (sym (ap number found) ∙ e) .0)
+  passes n e = so ∙ skip-none stage rest z (none-first number stage (makeAnswer 0 0 0) n (sym (ap number found) ∙ e) .0)
 
 module _ (one two : Bool) (s : Submission) where
   -- 3: more than 256 holdings
-  pub many-holdings : one ≡ false → 256 < length (s .rows) → outcome one two s ≡ answer 3 0 0
+  pub many-holdings : one ≡ false → 256 < length (s .rows) → outcome one two s ≡ makeAnswer 3 0 0
   unfolding outcome faults sizeFaults atPlace firstOf
   many-holdings p h = rw (p, lt-ltb _ _ h)
 
   -- 9: more than 512 lines
-  pub many-lines : one ≡ false → length (s .rows) ≤ 256 → 512 < length (s .lines) → outcome one two s ≡ answer 9 0 0
+  pub many-lines : one ≡ false → length (s .rows) ≤ 256 → 512 < length (s .lines) → outcome one two s ≡ makeAnswer 9 0 0
   unfolding outcome faults sizeFaults atPlace firstOf
   many-lines p h m = rw (p, le-ltb _ _ h, lt-ltb _ _ m)
 
@@ -41,7 +41,7 @@ module _ (one two : Bool) (s : Submission) where
 
 -- 17 at the end
 module _ (b : PricedBook) (lines : List Line) (o z : Answer) (so : o ≡ firstOf (totalsFaults b lines) z) where
-  pub totals-differ : (pricedTotal (termsOf b) (b .price) ≡ saving (termsOf b) lines → ⊥) → o ≡ answer 17 0 0
+  pub totals-differ : (pricedTotal (termsOf b) (b .price) ≡ saving (termsOf b) lines → ⊥) → o ≡ makeAnswer 17 0 0
   unfolding firstOf totalsFaults totalsDiffer
   totals-differ h = so ∙ rw (ne-eqb _ _ h)
 

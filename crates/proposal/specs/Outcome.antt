@@ -9,7 +9,7 @@ use Rattle.lists.specs.Choice.{firstOf}
 use Rattle.lists.specs.Tables.{inTurn}
 use Rattle.holding.specs.Holding.{rowFaults}
 use Rattle.holding.specs.declared.Row.{Row}
-use Rattle.article.specs.Answer.{Answer, answer}
+use Rattle.article.specs.Answer.{Answer, makeAnswer}
 use Rattle.article.specs.Pair.{isLong, isShort, allowed}
 use Rattle.article.specs.declared.pair.Leg.{Leg}
 use Rattle.pairing.specs.Pairing.{savingRate, saving, pricedTotal}
@@ -20,11 +20,11 @@ use Rattle.proposal.specs.Figures.{remainder, unitsOf, centsOf}
 
 -- the paper's number and places of what is found: number 0 for no fault
 unfoldable pub faultAnswer : Fault → Answer
-faultAnswer f = answer (f .number) (f .place) (f .second)
+faultAnswer f = makeAnswer (f .number) (f .place) (f .second)
 
 -- refusals, each with its test, at one place
 unfoldable pub atPlace : ℕ → List (Bool × ℕ) → List (Bool × Answer)
-atPlace place faults = map (λ f. (f .0, answer (f .1) place 0)) faults
+atPlace place faults = map (λ f. (f .0, makeAnswer (f .1) place 0)) faults
 
 -- of a holding 4 to 8, then 10 price above 43,800
 unfoldable pub holdingFaults : Row → ℕ → List (Bool × ℕ)
@@ -66,7 +66,7 @@ uncovered b i j = allowed (b .leg i) (b .leg j) && ltb (b .price i + b .price j)
 
 -- 16 an allowed pair not covered, lowest long, then lowest short
 unfoldable pub atPair : PricedBook → ℕ → ℕ → List (Bool × Answer)
-atPair b i j = (uncovered b i j, answer 16 i j) ∷ []
+atPair b i j = (uncovered b i j, makeAnswer 16 i j) ∷ []
 
 unfoldable pub atLong : PricedBook → ℕ → List (Bool × Answer)
 atLong b i = inTurn (b .count) (atPair b i)
@@ -79,7 +79,7 @@ unfoldable pub totalsDiffer : PricedBook → List Line → Bool
 totalsDiffer b lines = not (eqb (pricedTotal (termsOf b) (b .price)) (saving (termsOf b) lines))
 
 unfoldable pub totalsFaults : PricedBook → List Line → List (Bool × Answer)
-totalsFaults b lines = (totalsDiffer b lines, answer 17 0 0) ∷ []
+totalsFaults b lines = (totalsDiffer b lines, makeAnswer 17 0 0) ∷ []
 
 -- of so many holdings and lines 1, 3 more than 256 holdings, 9 more than 512 lines, 2; `one` and `two` say whether 1 and 2 hold of what is lent
 unfoldable pub sizeFaults : Bool → Bool → ℕ → ℕ → List (Bool × ℕ)
@@ -100,11 +100,11 @@ faults one two s = atPlace 0 (sizeFaults one two (length (s .rows)) (length (s .
 
 -- the first that holds of a part of the list, number 0 for none
 abbrev pub firstFault : List (Bool × Answer) → Answer
-firstFault list = firstOf list (answer 0 0 0)
+firstFault list = firstOf list (makeAnswer 0 0 0)
 
 -- accepted: 0, total units and total cents
 unfoldable pub accepted : PricedBook → List Line → Answer
-accepted b lines = answer 0 (unitsOf b lines) (centsOf (unitsOf b lines))
+accepted b lines = makeAnswer 0 (unitsOf b lines) (centsOf (unitsOf b lines))
 
 -- the first refusal that holds, or the figures
 unfoldable pub outcome : Bool → Bool → Submission → Answer

@@ -10,7 +10,7 @@ use Rattle.lists.specs.Tables.{turns, inTurn}
 use Rattle.lists.proofs.Entries.{each-append}
 use Rattle.lists.proofs.Tables.{getD-map-in}
 use Rattle.lists.proofs.Firsts.{None, Numbered, none-first, first-of-none}
-use Rattle.article.specs.Answer.{answer}
+use Rattle.article.specs.Answer.{makeAnswer}
 use Rattle.proposal.proofs.Clear.{number}
 use Rattle.csv.specs.Reading.{Read, broken, recordsOf}
 use Rattle.layout.specs.Layout.{parse}
@@ -47,4 +47,4 @@ numbered text =
 pub none-exactly : (text : List ℕ) → (fileFault text .number ≡ 0) ↔ None (fileFaults text)
 unfolding fileFault
 none-exactly text =
-    (λ e. none-first number (fileFaults text) (answer 0 0 0) (numbered text) e .0, λ c. ap number (first-of-none (fileFaults text) (answer 0 0 0) c))
+    (λ e. none-first number (fileFaults text) (makeAnswer 0 0 0) (numbered text) e .0, λ c. ap number (first-of-none (fileFaults text) (makeAnswer 0 0 0) c))

@@ -13,7 +13,7 @@ use Rattle.lists.specs.Tables.{listTo, inTurn, zeros}
 use Rattle.lists.proofs.Firsts.{first-of-none}
 use Rattle.lists.proofs.Passed.{passed-none, passed-all}
 use Rattle.holding.specs.declared.Row.{Row}
-use Rattle.article.specs.Answer.{answer}
+use Rattle.article.specs.Answer.{makeAnswer}
 use Rattle.pairing.specs.declared.Line.{Line}
 use Rattle.proposal.specs.Submission.{noRow, noLine, rowsOf, pricesOf, linesOf, submitted}
 use Rattle.codes.specs.Codes.{placeOf}
@@ -82,7 +82,7 @@ reading-none text = record {
 }
 
 -- a refusal
-pub contents-refused : (text : List ℕ) {number place : ℕ} {d : Contents} → fileFault text ≡ answer number place 0 → (number ≡ 0 → ⊥) → d ≡ refusedContents number place → ReadsFile text d
+pub contents-refused : (text : List ℕ) {number place : ℕ} {d : Contents} → fileFault text ≡ makeAnswer number place 0 → (number ≡ 0 → ⊥) → d ≡ refusedContents number place → ReadsFile text d
 unfolding refusedContents submitted rowsOf pricesOf linesOf listTo
 contents-refused text {number} f other e = rw e (record {
   fault = sym f;
@@ -91,7 +91,7 @@ contents-refused text {number} f other e = rw e (record {
   few-lines = omega arith;
 })
 
-pub too-long : (text : List ℕ) → 65536 < length text → fileFault text ≡ answer 18 0 0
+pub too-long : (text : List ℕ) → 65536 < length text → fileFault text ≡ makeAnswer 18 0 0
 unfolding fileFault fileFaults firstOf
 too-long text h = rw (lt-ltb 65536 (length text) h)
 
@@ -114,7 +114,7 @@ module _ {text : List ℕ} {rows : List Row} {prices : List ℕ} {lines : List L
   contents-read short =
       let all : take n (parsedIn text) ≡ parsedIn text = take-all n (parsedIn text) none-left in
       record {
-        fault = rw (le-ltb 65536 (length text) short) (sym (first-of-none (inTurn (length (parsedIn text)) (atRecord (parsedIn text))) (answer 0 0 0) (passed-all (r .passed) none-left)));
+        fault = rw (le-ltb 65536 (length text) short) (sym (first-of-none (inTurn (length (parsedIn text)) (atRecord (parsedIn text))) (makeAnswer 0 0 0) (passed-all (r .passed) none-left)));
         submits = rw (r .same-rows, r .same-prices, r .same-lines, all);
         few-holdings = r .few-holdings;
         few-lines = r .few-pairs;

@@ -11,7 +11,7 @@ use Rattle.lists.specs.Choice.{firstOf}
 use Rattle.lists.proofs.Tables.{length-to}
 use Rattle.lists.proofs.Passed.{Passed, passed-more, passed-first}
 use Rattle.holding.specs.declared.Row.{Row}
-use Rattle.article.specs.Answer.{Answer, answer}
+use Rattle.article.specs.Answer.{Answer, makeAnswer}
 use Rattle.pairing.specs.declared.Line.{Line}
 use Rattle.proposal.specs.Submission.{noRow, noLine}
 use Rattle.csv.specs.Reading.{Split, fields, malformed, recordAt, fieldsOf, recordsAt}
@@ -107,22 +107,22 @@ module _ {text : List ℕ} {rows : List Row} {prices : List ℕ} {lines : List L
   unfolding fileFault fileFaults firstOf
   refusal short f = rw (le-ltb 65536 (length text) short) (passed-first (r .passed) _ (nth .1 .within) (λ w. rw faults-here (f w)))
 
-  pub turn-refused : (number : ℕ) → e .parsed ≡ Refused number → length text ≤ 65536 → fileFault text ≡ answer number n 0
+  pub turn-refused : (number : ℕ) → e .parsed ≡ Refused number → length text ≤ 65536 → fileFault text ≡ makeAnswer number n 0
   unfolding firstOf
   turn-refused number s short = refusal short (λ w. rw s)
 
-  pub turn-line-full : (line : Line) → e .parsed ≡ Lined line → pairs ≡ 512 → length text ≤ 65536 → fileFault text ≡ answer 9 0 0
+  pub turn-line-full : (line : Line) → e .parsed ≡ Lined line → pairs ≡ 512 → length text ≤ 65536 → fileFault text ≡ makeAnswer 9 0 0
   unfolding firstOf
   turn-line-full line s full short = refusal short (λ w. rw (s, eq-eqb pairs 512 full))
 
   module _ (row : Row) (price : ℕ) (s : e .parsed ≡ Holding row price) where
-    pub turn-late : (pairs ≡ 0 → ⊥) → length text ≤ 65536 → fileFault text ≡ answer 22 n 0
+    pub turn-late : (pairs ≡ 0 → ⊥) → length text ≤ 65536 → fileFault text ≡ makeAnswer 22 n 0
     unfolding firstOf
     turn-late some short =
         let late : 0 < pairs = omega arith in
         refusal short (λ w. rw (s, lt-ltb 0 pairs late))
 
-    pub turn-holding-full : pairs ≡ 0 → holdings ≡ 256 → length text ≤ 65536 → fileFault text ≡ answer 3 0 0
+    pub turn-holding-full : pairs ≡ 0 → holdings ≡ 256 → length text ≤ 65536 → fileFault text ≡ makeAnswer 3 0 0
     unfolding firstOf
     turn-holding-full none full short = refusal short (λ w. rw (s, none, eq-eqb holdings 256 full))
 

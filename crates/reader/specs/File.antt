@@ -8,7 +8,7 @@ use lib.ListN.{length, getD, take}
 use Rattle.lists.specs.Choice.{firstOf}
 use Rattle.lists.specs.Tables.{inTurn}
 use Rattle.holding.specs.declared.Row.{Row}
-use Rattle.article.specs.Answer.{Answer, answer}
+use Rattle.article.specs.Answer.{Answer, makeAnswer}
 use Rattle.pairing.specs.declared.Line.{Line}
 use Rattle.proposal.specs.Submission.{Submission}
 use Rattle.csv.specs.Reading.{recordsOf}
@@ -48,9 +48,9 @@ submissionIn text = submissionOf (parsedIn text)
 
 -- of record n after so many holdings and lines: 19 to 21, 22 H after P, 3 more than 256 holdings, 9 more than 512 lines
 abbrev pub faultsOf : ℕ → ℕ → ℕ → Parsed → List (Bool × Answer)
-faultsOf n holdings lines (Refused number) = (true, answer number n 0) ∷ []
-faultsOf n holdings lines (Holding row price) = (ltb 0 lines, answer 22 n 0) ∷ (eqb holdings 256, answer 3 0 0) ∷ []
-faultsOf n holdings lines (Lined line) = (eqb lines 512, answer 9 0 0) ∷ []
+faultsOf n holdings lines (Refused number) = (true, makeAnswer number n 0) ∷ []
+faultsOf n holdings lines (Holding row price) = (ltb 0 lines, makeAnswer 22 n 0) ∷ (eqb holdings 256, makeAnswer 3 0 0) ∷ []
+faultsOf n holdings lines (Lined line) = (eqb lines 512, makeAnswer 9 0 0) ∷ []
 
 unfoldable pub atRecord : List Parsed → ℕ → List (Bool × Answer)
 atRecord parsed n = faultsOf n (length (parsedRows (take n parsed))) (length (parsedLines (take n parsed))) (getD parsed n (Refused 0))
@@ -61,16 +61,16 @@ fileLimit = 65536
 
 -- 18 longer than 65,536 bytes; each record in turn
 unfoldable pub fileFaults : List ℕ → List (Bool × Answer)
-fileFaults text = (ltb fileLimit (length text), answer 18 0 0) ∷ inTurn (length (parsedIn text)) (atRecord (parsedIn text))
+fileFaults text = (ltb fileLimit (length text), makeAnswer 18 0 0) ∷ inTurn (length (parsedIn text)) (atRecord (parsedIn text))
 
 -- the first of them that holds, number 0 for none
 unfoldable pub fileFault : List ℕ → Answer
-fileFault text = firstOf (fileFaults text) (answer 0 0 0)
+fileFault text = firstOf (fileFaults text) (makeAnswer 0 0 0)
 
 -- what the reader answers: the first refusal, 2 in its turn, or the number of holdings and of lines; `two` says whether a lent list is
 -- shorter than what must be written
 unfoldable pub readAnswer : Bool → List ℕ → Answer
 readAnswer two text =
     firstOf
-    (fileFaults text ++ ((two, answer 2 0 0) ∷ []))
-    (answer 0 (length (parsedRows (parsedIn text))) (length (parsedLines (parsedIn text))))
+    (fileFaults text ++ ((two, makeAnswer 2 0 0) ∷ []))
+    (makeAnswer 0 (length (parsedRows (parsedIn text))) (length (parsedLines (parsedIn text))))

@@ -6,7 +6,7 @@ use Prim.Native.Nat.{ℕ, _≤_}
 use lib.Dec.{eqb}
 use lib.ListN.{replicate}
 use Rattle.lists.specs.Tables.{zeros}
-use Rattle.article.specs.Answer.{answer}
+use Rattle.article.specs.Answer.{makeAnswer}
 use Rattle.proposal.specs.Submission.{Submission, noRow, noLine, submitted}
 use Rattle.reader.specs.File.{parsedIn, submissionOf, fileFault}
 use Rattle.reader.specs.declared.Contents.{Contents}
@@ -27,7 +27,7 @@ nothing = record { rows = []; prices = []; lines = [] }
 -- what the file submits, or on a refusal nothing
 pub record ReadsFile (text : List ℕ) (r : Contents) : Type 0 where
   -- the first refusal in the reader's order, number 0 for none
-  pub fault : answer (r .number) (r .place) 0 ≡ fileFault text
+  pub fault : makeAnswer (r .number) (r .place) 0 ≡ fileFault text
   -- the rows, the prices and the lines of the records; what the arrays hold past the counts is nobody's, and free
   pub submits : submitted (r .book) (r .proposal) ≡ cond (eqb (r .number) 0) (submissionOf (parsedIn text)) nothing
   pub few-holdings : r .book .count ≤ 256

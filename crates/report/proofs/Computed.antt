@@ -2,7 +2,7 @@
 use mathlib.Core.Path.{_≡_, refl}
 use mathlib.Core.List.{[], _∷_, flatMap}
 use Rattle.lists.specs.Texts.{ascii}
-use Rattle.article.specs.Answer.{answer}
+use Rattle.article.specs.Answer.{makeAnswer}
 use Rattle.numerals.specs.Numerals.{lead, digits}
 use Rattle.verdict.specs.declared.Judgement.{Judgement}
 use Rattle.verdict.specs.declared.Verdict.the-variants.{Accepted}
@@ -16,7 +16,7 @@ pub the-file : reportOf found 3 ≡ ascii "M,3285000000,22500\r\nR,0,100000,4380
 unfolding reportOf printedLines marginLine judgedLine remainderLine lineOf afterComma digits lead flatMap
 the-file = refl
 
-pub a-refusal : refusalLine (answer 16 0 2) ≡ ascii "X,16,0,2\r\n"
+pub a-refusal : refusalLine (makeAnswer 16 0 2) ≡ ascii "X,16,0,2\r\n"
 unfolding refusalLine numbersOf lineOf afterComma digits lead flatMap
 a-refusal = refl
 

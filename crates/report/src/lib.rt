@@ -5,7 +5,7 @@ ghost use mathlib.Core.Path.{_≡_};
 ghost use mathlib.Core.List.{[], _∷_, flatMap};
 ghost use Prim.Native.Nat.{_+_, _*_, _≤_, _<_};
 ghost use lib.ListN.{length, getD, take};
-ghost use Rattle.article.specs.Answer.{answer};
+ghost use Rattle.article.specs.Answer.{makeAnswer};
 ghost use Rattle.verdict.specs.Judges.{answerOf};
 ghost use Rattle.report.specs.Written.{Written, Prints};
 ghost use Rattle.report.specs.Report.{afterComma, lineOf, numbersOf, refusalLine, judgedLine, reportOf};
@@ -113,7 +113,7 @@ pub fn report(judgement: Judgement, count: usize, out: &mut [u8]) -> usize
 
 // The line of a refusal at the front of out, and how many bytes it is. A list with less than ROOM is left alone, and 0 returned.
 pub fn refusal(number: u64, place: u64, second: u64, out: &mut [u8]) -> usize
-    ensures { λ r. ⌜ Prints (refusalLine (answer number place second)) (now (out .entry)) (now (out .exit)) r ⌝ }
+    ensures { λ r. ⌜ Prints (refusalLine (makeAnswer number place second)) (now (out .entry)) (now (out .exit)) r ⌝ }
 {
     if out.len() < ROOM {
         return 0;

@@ -12,7 +12,7 @@ use Rattle.lists.specs.Choice.{firstOf}
 use Rattle.lists.specs.Each.{Each}
 use Rattle.lists.proofs.Firsts.{none-first, first-append}
 use Rattle.lists.proofs.Tests.{neither}
-use Rattle.article.specs.Answer.{answer}
+use Rattle.article.specs.Answer.{makeAnswer}
 use Rattle.proposal.specs.Submission.{Submission, priced}
 use Rattle.proposal.specs.Outcome.{atPlace, sizeFaults, fromBook, faults, accepted, outcome}
 use Rattle.proposal.proofs.Places.{first-at}
@@ -129,7 +129,7 @@ sizes-passed z n f h =
 
 -- what the lengths are refused for is the outcome, whatever else there is
 pub sizes-refused : (z : Sizes) (s : Submission) (n : ℕ) → length (s .rows) ≡ holdings z → length (s .lines) ≡ lines z → n ≡ lengthFault z → (n ≡ 0 → ⊥)
-    → outcome (differ z) (tooShort z) s ≡ answer n 0 0
+    → outcome (differ z) (tooShort z) s ≡ makeAnswer n 0 0
 unfolding outcome faults lengthFault
 sizes-refused z s n p q e h =
     rw (p, q)

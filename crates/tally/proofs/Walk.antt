@@ -12,7 +12,7 @@ use Rattle.lists.proofs.Tests.{tests}
 use Rattle.lists.proofs.Tables.{length-to, getD-to, take-to}
 use Rattle.lists.proofs.Firsts.{first-of-none}
 use Rattle.lists.proofs.Passed.{Passed, passed-none, passed-more, passed-first, passed-all}
-use Rattle.article.specs.Answer.{answer}
+use Rattle.article.specs.Answer.{makeAnswer}
 use Rattle.article.specs.Pair.{RateInRange}
 use Rattle.pairing.specs.declared.Line.{Line}
 use Rattle.proposal.specs.Submission.{PricedBook, noLine}
@@ -69,7 +69,7 @@ unfolding stoppedAt faultAnswer linesFaults takenLines
 ends {b} {line} {m} {i} bounds walking h few e =
     let all : i ≡ m = omega (arith, walking .passed .few) in
     rw e (record {
-      fault = rw (length-to m line) (sym (first-of-none _ (answer 0 0 0) (passed-all (walking .passed) h)));
+      fault = rw (length-to m line) (sym (first-of-none _ (makeAnswer 0 0 0) (passed-all (walking .passed) h)));
       tally = rw (← all) (walking .tally);
       bounds = record { left = left-high bounds walking; units = omega (arith, walking .units) };
     })
@@ -92,7 +92,7 @@ module _ {b : PricedBook} {line : ℕ → Line} {m : ℕ} {t : Tally} {i : ℕ} 
   unfolding stoppedAt faultAnswer linesFaults takenLines
   stops {n} first some e = rw e (record {
     fault = rw (length-to m line)
-        (sym (passed-first (turn .walking .passed) (answer 0 0 0) (turn .more) (λ w. rw (at-line b line m i (turn .more)) (first-at i _ n first some w))));
+        (sym (passed-first (turn .walking .passed) (makeAnswer 0 0 0) (turn .more) (λ w. rw (at-line b line m i (turn .more)) (first-at i _ n first some w))));
     tally = rw (ne-eqb n 0 some, take-to m i line (omega (arith, turn .more))) (turn .walking .tally);
     bounds = record { left = left-high (turn .bounds) (turn .walking); units = omega (arith, turn .walking .units, turn .more, turn .few) };
   })

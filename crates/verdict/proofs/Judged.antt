@@ -9,7 +9,7 @@ use borrow.Author.Tests.{ne-eqb}
 use Rattle.lists.specs.Tables.{listTo, front, zeros}
 use Rattle.lists.proofs.Order.{ordered-length}
 use Rattle.lists.proofs.Tables.{length-to, getD-every, front-of-zeros}
-use Rattle.article.specs.Answer.{Answer, answer}
+use Rattle.article.specs.Answer.{Answer, makeAnswer}
 use Rattle.holding.specs.declared.Row.{Row}
 use Rattle.ranking.specs.Ranking.{Ranks, ranksBefore, rankingOf}
 use Rattle.ranking.proofs.Ranking.{ranking}
@@ -80,7 +80,7 @@ module _ (s : Submission) where
       → Judges s (record { verdict = Accepted units cents; remainders = left; ranking = ranking; margins = margins })
   unfolding accepted written verdictOf remaindersOf marginsOf
   figures-judged units cents left ranking margins few e u c l r m =
-      let answered : answer 0 units cents ≡ outcome false false s = rw (rounded-once units cents (centsOf units) c (rounded units), u) (sym e) in
+      let answered : makeAnswer 0 units cents ≡ outcome false false s = rw (rounded-once units cents (centsOf units) c (rounded units), u) (sym e) in
       record {
         answer = answered;
         verdict = rw (← answered);

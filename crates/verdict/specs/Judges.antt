@@ -6,7 +6,7 @@ use mathlib.Core.List.{List, []}
 use Prim.Native.Nat.{ℕ}
 use lib.Dec.{eqb}
 use Rattle.lists.specs.Tables.{front, zeros}
-use Rattle.article.specs.Answer.{Answer, answer}
+use Rattle.article.specs.Answer.{Answer, makeAnswer}
 use Rattle.ranking.specs.Ranking.{Ranks}
 use Rattle.proposal.specs.Submission.{Submission, priced}
 use Rattle.proposal.specs.Figures.{margin, remaindersOf, marginsOf, ranked}
@@ -19,8 +19,8 @@ use Rattle.verdict.specs.declared.Judgement.{Judgement}
 
 -- the paper's number and values of each answer: 0 with total units and cents, or the refusal's number with its two places
 abbrev pub answerOf : Verdict → Answer
-answerOf (Accepted units cents) = answer 0 units cents
-answerOf (Refused number place second) = answer number place second
+answerOf (Accepted units cents) = makeAnswer 0 units cents
+answerOf (Refused number place second) = makeAnswer number place second
 
 -- the case of an answer: accepted for the number 0 and for no other
 unfoldable pub verdictOf : Answer → Verdict
