@@ -9,7 +9,7 @@ use Rattle.lists.specs.Choice.{within, firstOf, count, same}
 use Rattle.lists.specs.Each.{Each}
 use Rattle.lists.specs.Order.{insert, ordered}
 use Rattle.lists.specs.Sums.{sumTo, sumOf, only}
-use Rattle.lists.specs.Tables.{listTo, turns, inTurn}
+use Rattle.lists.specs.Tables.{listTo, turns, inTurn, front}
 use Rattle.lists.proofs.Entries.{each-so, same-true}
 use Rattle.words.specs.Words.{number, littleEndian, wordAt, entries, decode, encode}
 use Rattle.holding.specs.Holding.{rowFaults, faultOf, holdingOf, sideOf, kindOf, issuerOf, rowOf}
@@ -27,18 +27,20 @@ use Rattle.csv.specs.Bytes.{isText, isQuotable}
 use Rattle.csv.specs.Reading.{part, textFrom, textEnd, closeFrom, closeAt, followedBy, followed, begins, opens, enclosed, fieldAt, fieldsFrom, recordAt, recordsFrom, recordsAt, recordsOf}
 use Rattle.layout.specs.Sorts.{valueOf}
 use Rattle.layout.specs.Layout.{valuesOf, parsedOf, parse}
-use Rattle.reader.specs.File.{parsedIn, parsedRows, parsedPrices, parsedLines, submissionOf, atRecord, fileFaults, fileFault}
+use Rattle.reader.specs.File.{parsedIn, parsedRows, parsedPrices, parsedLines, submissionOf, atRecord, fileFaults, fileFault, readAnswer}
+use Rattle.sizes.specs.Sizes.{differ, tooShort, lengthFault}
+use Rattle.lent.specs.Lists.{answered}
 use Rattle.report.specs.Report.{afterComma, lineOf, numbersOf, refusalLine, marginLine, remainderLine, printedLines, bookLine, printedOf}
 use Rattle.printing.specs.Printed.{fileAnswer, printed}
 use Rattle.edges.specs.Cases.{Case, Agrees, failing, alone, together, judged, worked}
 use Rattle.edges.specs.Starred.{starred, starredFile}
-use Rattle.edges.specs.Others.{single, thirdPrice, firstPrice, firstAmount, tooLong, files, tooMany, texts, proposals, refusals}
+use Rattle.edges.specs.Others.{single, thirdPrice, firstPrice, firstAmount, tooLong, files, recordFaults, tooMany, texts, lending, proposals, refusals}
 use Rattle.edges.specs.Edges.{table}
 
 -- no case of any group fails; where this is refused, the message names those that do
 none-fails : Each (λ cs. failing cs ≡ []) table
-unfolding starred starredFile single thirdPrice firstPrice firstAmount tooLong files tooMany texts proposals refusals failing alone together judged worked within firstOf count same insert ordered sumTo sumOf only listTo turns inTurn rowFaults faultOf holdingOf sideOf kindOf issuerOf rowOf longerThan atLeast periodOf percents flatRate bondRate stripRate kindRate rateAt rateOf legOf isLong isShort isBond isStrip isCanada isProvince kindsPair sameClass mixedClass classRule ruleOf ruleRate allowed pairRateOf savingRateOf pairOf used theory.savingRate saving pairUnits pricedTotal ranksBefore rankingOf bookOf termsOf priced remainder margin unitsOf remaindersOf ranked centsOf atPlace holdingFaults pairFaults lineFaults atHolding bookFaults atLine linesFaults uncovered atPair atLong uncoveredPairs totalsDiffer totalsFaults sizeFaults faults accepted outcome lead digits valueFrom numeralOf placeFrom placeOf isText isQuotable part textFrom textEnd closeFrom closeAt followedBy followed begins opens enclosed fieldAt fieldsFrom recordAt recordsFrom recordsAt recordsOf valueOf valuesOf parsedOf parse parsedIn parsedRows parsedPrices parsedLines submissionOf atRecord fileFaults fileFault afterComma lineOf numbersOf refusalLine marginLine remainderLine printedLines bookLine printedOf fileAnswer printed flatMap number littleEndian wordAt entries decode encode
-none-fails = (refl, (refl, (refl, (refl, (refl, (refl, (refl, (refl, (refl, (refl, (refl, (refl, tt))))))))))))
+unfolding starred starredFile single thirdPrice firstPrice firstAmount tooLong files recordFaults tooMany texts lending proposals refusals failing alone together judged worked within firstOf count same insert ordered sumTo sumOf only listTo turns inTurn front differ tooShort lengthFault answered readAnswer rowFaults faultOf holdingOf sideOf kindOf issuerOf rowOf longerThan atLeast periodOf percents flatRate bondRate stripRate kindRate rateAt rateOf legOf isLong isShort isBond isStrip isCanada isProvince kindsPair sameClass mixedClass classRule ruleOf ruleRate allowed pairRateOf savingRateOf pairOf used theory.savingRate saving pairUnits pricedTotal ranksBefore rankingOf bookOf termsOf priced remainder margin unitsOf remaindersOf ranked centsOf atPlace holdingFaults pairFaults lineFaults atHolding bookFaults atLine linesFaults uncovered atPair atLong uncoveredPairs totalsDiffer totalsFaults sizeFaults faults accepted outcome lead digits valueFrom numeralOf placeFrom placeOf isText isQuotable part textFrom textEnd closeFrom closeAt followedBy followed begins opens enclosed fieldAt fieldsFrom recordAt recordsFrom recordsAt recordsOf valueOf valuesOf parsedOf parse parsedIn parsedRows parsedPrices parsedLines submissionOf atRecord fileFaults fileFault afterComma lineOf numbersOf refusalLine marginLine remainderLine printedLines bookLine printedOf fileAnswer printed flatMap number littleEndian wordAt entries decode encode
+none-fails = (refl, (refl, (refl, (refl, (refl, (refl, (refl, (refl, (refl, (refl, (refl, (refl, (refl, (refl, tt))))))))))))))
 
 -- cases of which none fails agree
 none-each : (cs : List Case) → failing cs ≡ [] → Each Agrees cs

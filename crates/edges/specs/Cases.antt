@@ -25,7 +25,9 @@ use Rattle.layout.specs.declared.Sort.{Sort}
 use Rattle.layout.specs.declared.Value.{Value}
 use Rattle.layout.specs.declared.Value.the-variants.{Of, Wrong}
 use Rattle.layout.specs.declared.Parsed.{Parsed}
-use Rattle.reader.specs.File.{atRecord}
+use Rattle.sizes.specs.Sizes.{Sizes, lengthFault}
+use Rattle.lent.specs.Lists.{answered}
+use Rattle.reader.specs.File.{atRecord, readAnswer}
 use Rattle.report.specs.Report.{numbersOf}
 use Rattle.printing.specs.Printed.{printed}
 
@@ -131,6 +133,18 @@ decodes name bytes numbers = record { name = name; computed = decode bytes; stat
 
 abbrev pub encodes : String → List ℕ → List ℕ → Case
 encodes name numbers bytes = record { name = name; computed = encode numbers; stated = bytes }
+
+-- the refusal by the lengths of what a host lends, for two holdings and one line: the columns of the holdings, those of the lines, the two lists and the answer
+abbrev pub lengths : String → Sizes → ℕ → Case
+lengths name z n = record { name = name; computed = lengthFault z ∷ []; stated = n ∷ [] }
+
+-- an answer slice after 16 at long 1 and short 2 was put into it
+abbrev pub slice : String → List ℕ → List ℕ → Case
+slice name old expected = record { name = name; computed = answered (makeAnswer 16 1 2) old; stated = expected }
+
+-- what the reader answers to a text, by whether a lent list is too short
+abbrev pub answers : String → Bool → String → List ℕ → Case
+answers name two text expected = record { name = name; computed = numbersOf (readAnswer two (ascii text)); stated = expected }
 
 -- long, short, amount
 abbrev pub line : ℕ → ℕ → ℕ → Line

@@ -3,7 +3,7 @@
 use mathlib.Core.List.{List, [], _∷_}
 use Rattle.edges.specs.Cases.{Case}
 use Rattle.edges.specs.Starred.{starred, starredFile}
-use Rattle.edges.specs.Others.{single, thirdPrice, firstPrice, firstAmount, tooLong, files, tooMany, texts, proposals, refusals}
+use Rattle.edges.specs.Others.{single, thirdPrice, firstPrice, firstAmount, tooLong, files, recordFaults, tooMany, texts, lending, proposals, refusals}
 
 abbrev pub table : List (List Case)
-table = starred ∷ starredFile ∷ single ∷ thirdPrice ∷ firstPrice ∷ firstAmount ∷ tooLong ∷ files ∷ tooMany ∷ texts ∷ proposals ∷ refusals ∷ []
+table = starred ∷ starredFile ∷ single ∷ thirdPrice ∷ firstPrice ∷ firstAmount ∷ tooLong ∷ files ∷ recordFaults ∷ tooMany ∷ texts ∷ lending ∷ proposals ∷ refusals ∷ []

@@ -5,10 +5,11 @@ use mathlib.Core.List.{List, [], _∷_, _++_}
 use Prim.Native.Nat.{ℕ}
 use lib.ListN.{replicate}
 use Rattle.holding.specs.declared.Row.{Row}
+use Rattle.sizes.specs.Sizes.{makeSizes}
 use Rattle.layout.specs.declared.Sort.the-variants.{Side, Kind, Issuer}
 use Rattle.layout.specs.declared.Parsed.{Parsed}
 use Rattle.layout.specs.declared.Parsed.the-variants.{Holding, Line as Lined}
-use Rattle.edges.specs.Cases.{Case, rate, fault, pair, no-pair, proposal, lent, figures, prints, prints-bytes, record-at, code, letter, byte, decodes, encodes, line, row, L, S, B, C, R, CA, ON, QC, file, file-lines}
+use Rattle.edges.specs.Cases.{Case, rate, fault, pair, no-pair, proposal, lent, figures, prints, prints-bytes, record-at, code, letter, byte, decodes, encodes, lengths, slice, answers, line, row, L, S, B, C, R, CA, ON, QC, file, file-lines}
 
 -- the book of "Largest saving first", and prices that cover it
 abbrev four : List Row
@@ -122,6 +123,54 @@ files =
     ∷ prints "a bare line feed" "H,L,B,CA,1,1,0\r\nH,L,B,CA,1,1,0\n" "X,19,1,0\r\n"
     ∷ prints "a leading zero" "H,L,B,CA,1,1,0\r\nH,L,B,CA,01,1,0\r\n" "X,21,1,0\r\n"
     ∷ prints "H after P" "H,L,B,CA,1,1,0\r\nP,0,0,1,,,\r\nH,L,B,CA,1,1,0\r\n" "X,22,2,0\r\n"
+    -- R goes by the ranking
+    ∷ prints "R in ranking order" "H,L,B,CA,1,1,0\r\nH,L,B,CA,1,3,0\r\n" "M,16,1\r\nR,1,3,12\r\nR,0,1,4\r\n"
+    ∷ []
+
+-- one record at fault: how long a numeral may be, and 19, 20, 21 each at its record and before the next
+unfoldable pub recordFaults : List Case
+recordFaults =
+    prints "an unknown letter" "Q,L,B,CA,1,1,0\r\n" "X,21,0,0\r\n"
+    ∷ prints "eight fields, at record 1" "H,L,B,CA,1,1,0\r\nH,L,B,CA,1,1,0,\r\n" "X,20,1,0\r\n"
+    ∷ prints "days of seven digits" "H,L,B,CA,1000000,1,0\r\n" "X,21,0,0\r\n"
+    ∷ prints "days of six digits" "H,L,B,CA,999999,1,0\r\n" "X,7,0,0\r\n"
+    ∷ prints "a value of 13 digits" "H,L,B,CA,1,1000000000000,0\r\n" "X,21,0,0\r\n"
+    ∷ prints "a value of 12 digits" "H,L,B,CA,1,999999999999,0\r\n" "X,8,0,0\r\n"
+    ∷ prints "a price of seven digits" "H,L,B,CA,1,1,1000000\r\n" "X,21,0,0\r\n"
+    ∷ prints "a price of six digits, at holding 1" "H,L,B,CA,1,1,43800\r\nH,L,B,CA,1,1,999999\r\n" "X,10,1,0\r\n"
+    ∷ prints "an amount of 13 digits" "P,0,0,1000000000000,,,\r\n" "X,21,0,0\r\n"
+    ∷ prints "a number of seven digits" "P,0,1000000,1,,,\r\n" "X,21,0,0\r\n"
+    ∷ prints "a fifth field that is filled" "P,0,0,1,0,,\r\n" "X,21,0,0\r\n"
+    ∷ prints "a record is finished before the next" "H,L,B,CA,01,1,0\r\nH,L,B,CA,1,1,0\n" "X,21,0,0\r\n"
+    ∷ prints "19 before 20" "H,L,B,CA,1,1,0,,\n" "X,19,0,0\r\n"
+    ∷ prints "20 before 21" "Q,L,B,CA,1,1\r\n" "X,20,0,0\r\n"
+    ∷ []
+
+-- what a host lends: 1 for columns that differ or hold no whole numbers, 2 for lists that are too short; the answer slice; what the reader answers
+unfoldable pub lending : List Case
+lending =
+    lengths "all lengths right" (makeSizes 16 16 16 16 16 16 8 8 8 16 16 16) 0
+    ∷ lengths "one side" (makeSizes 8 16 16 16 16 16 8 8 8 16 16 16) 1
+    ∷ lengths "one kind" (makeSizes 16 8 16 16 16 16 8 8 8 16 16 16) 1
+    ∷ lengths "one issuer" (makeSizes 16 16 8 16 16 16 8 8 8 16 16 16) 1
+    ∷ lengths "one term" (makeSizes 16 16 16 8 16 16 8 8 8 16 16 16) 1
+    ∷ lengths "one value" (makeSizes 16 16 16 16 8 16 8 8 8 16 16 16) 1
+    ∷ lengths "one price" (makeSizes 16 16 16 16 16 8 8 8 8 16 16 16) 1
+    ∷ lengths "three prices" (makeSizes 16 16 16 16 16 24 8 8 8 16 16 16) 1
+    ∷ lengths "two longs" (makeSizes 16 16 16 16 16 16 16 8 8 16 16 16) 1
+    ∷ lengths "no short" (makeSizes 16 16 16 16 16 16 8 0 8 16 16 16) 1
+    ∷ lengths "two amounts" (makeSizes 16 16 16 16 16 16 8 8 16 16 16 16) 1
+    ∷ lengths "holdings of 21 bytes" (makeSizes 21 21 21 21 21 21 8 8 8 16 16 16) 1
+    ∷ lengths "lines of 13 bytes" (makeSizes 16 16 16 16 16 16 13 13 13 16 16 16) 1
+    ∷ lengths "one remainder" (makeSizes 16 16 16 16 16 16 8 8 8 15 16 16) 2
+    ∷ lengths "one rank" (makeSizes 16 16 16 16 16 16 8 8 8 16 15 16) 2
+    ∷ lengths "an answer of 15 bytes" (makeSizes 16 16 16 16 16 16 8 8 8 16 16 15) 2
+    ∷ lengths "lists of 21 bytes" (makeSizes 16 16 16 16 16 16 8 8 8 21 21 21) 0
+    ∷ slice "15 bytes stay as they were" (replicate 15 9) (replicate 15 9)
+    ∷ slice "20 bytes keep the last four" (replicate 20 9) (1 ∷ 0 ∷ 0 ∷ 0 ∷ 0 ∷ 0 ∷ 0 ∷ 0 ∷ 2 ∷ 0 ∷ 0 ∷ 0 ∷ 0 ∷ 0 ∷ 0 ∷ 0 ∷ 9 ∷ 9 ∷ 9 ∷ 9 ∷ [])
+    ∷ answers "read: two holdings, one line" false "H,L,B,CA,1,1,0\r\nH,L,B,CA,1,1,0\r\nP,0,0,1,,,\r\n" (0 ∷ 2 ∷ 1 ∷ [])
+    ∷ answers "read, and a list too short" true "H,L,B,CA,1,1,0\r\n" (2 ∷ 0 ∷ 0 ∷ [])
+    ∷ answers "a bad record before a list too short" true "H,L,B,CA,1,1,0\r\nH,L,B,CA,01,1,0\r\n" (21 ∷ 1 ∷ 0 ∷ [])
     ∷ []
 
 -- one record too many: the reader's 3 and 9 name no place, and 22 comes before 3
@@ -195,8 +244,8 @@ proposals =
     ∷ proposal "largest saving first: each coupon with the other side's bond" four four-prices (line 0 3 1000 ∷ line 1 2 1000 ∷ []) (0 ∷ 5840000 ∷ 40 ∷ 0 ∷ 0 ∷ 0 ∷ 0 ∷ 0 ∷ 1 ∷ 2 ∷ 3 ∷ [])
     ∷ figures "largest saving first: coupon with coupon gives 80 cents" four (line 0 2 1000 ∷ []) (11680000 ∷ 80 ∷ 0 ∷ 0 ∷ [])
     ∷ proposal "largest saving first: coupon with coupon is refused" four four-prices (line 0 2 1000 ∷ []) (17 ∷ 0 ∷ 0 ∷ [])
-    -- "Testing cover on the proposed lines only": the line is covered, the pair of 0 and 3 in no line is not
-    ∷ proposal "cover on the proposed lines only" four (8760 ∷ 0 ∷ 8760 ∷ 0 ∷ []) (line 0 2 1000 ∷ []) (16 ∷ 0 ∷ 3 ∷ [])
+    -- "Testing cover on the proposed lines only": the line is covered, the pairs of 0 and 3 and of 1 and 2 in no line are not; the lowest long comes first
+    ∷ proposal "cover on the proposed lines only, and the lowest long first" four (8760 ∷ 0 ∷ 8760 ∷ 0 ∷ []) (line 0 2 1000 ∷ []) (16 ∷ 0 ∷ 3 ∷ [])
     -- "Pairing across 4,015 days because the rates agree"
     ∷ proposal "pairing across 4,015 days" (row L C CA 4015 100 ∷ row S C CA 4016 100 ∷ []) (8760 ∷ 8760 ∷ []) (line 0 1 100 ∷ []) (13 ∷ 0 ∷ 0 ∷ [])
     -- "Rounding each line": two lines of 2 units are 4 units, 1 cent and not 2
@@ -204,8 +253,8 @@ proposals =
     -- each holding has its own price: prices of 8 and 0 cover, 0 and 8 cover at another total
     ∷ proposal "the prices exchanged" (two 2 1) (0 ∷ 8 ∷ []) (line 0 1 1 ∷ []) (0 ∷ 8 ∷ 1 ∷ 1 ∷ 0 ∷ 0 ∷ 1 ∷ [])
     ∷ proposal "the price on the larger holding" (two 2 1) (8 ∷ 0 ∷ []) (line 0 1 1 ∷ []) (17 ∷ 0 ∷ 0 ∷ [])
-    -- 16 goes by the lowest long, then by the lowest short
-    ∷ proposal "16 at the lowest long, then the lowest short" (row S C ON 2000 1000 ∷ row L C ON 2000 1000 ∷ row S C ON 2000 1000 ∷ row L C ON 2000 1000 ∷ []) (0 ∷ 0 ∷ 0 ∷ 0 ∷ []) [] (16 ∷ 1 ∷ 0 ∷ [])
+    -- of a long's uncovered pairs that of the lowest short
+    ∷ proposal "16 at the lowest short of a long" (row S C ON 2000 1000 ∷ row L C ON 2000 1000 ∷ row S C ON 2000 1000 ∷ row L C ON 2000 1000 ∷ []) (0 ∷ 0 ∷ 0 ∷ 0 ∷ []) [] (16 ∷ 1 ∷ 0 ∷ [])
     -- the ranking: larger margin first, a tie by lower number
     ∷ proposal "the ranking" (row L B CA 1 1 ∷ row L B CA 1 3 ∷ row L B CA 1 1 ∷ row L B CA 1 4 ∷ []) (0 ∷ 0 ∷ 0 ∷ 0 ∷ []) [] (0 ∷ 36 ∷ 1 ∷ 1 ∷ 3 ∷ 1 ∷ 4 ∷ 3 ∷ 1 ∷ 0 ∷ 2 ∷ [])
     ∷ []
@@ -226,8 +275,16 @@ refusals =
     ∷ proposal "13 before 15" bonds (0 ∷ 0 ∷ []) (line 0 1 5 ∷ []) (13 ∷ 0 ∷ 0 ∷ [])
     ∷ proposal "15 before 16" (two 2 2) (0 ∷ 0 ∷ []) (line 0 1 3 ∷ []) (15 ∷ 0 ∷ 0 ∷ [])
     ∷ proposal "16 before 17" (two 2 2) (0 ∷ 0 ∷ []) (line 0 1 1 ∷ []) (16 ∷ 0 ∷ 1 ∷ [])
+    -- one leg alone at fault, and the line after
+    ∷ proposal "12 by the second leg alone" (row L C CA 1 2 ∷ row L B CA 1 2 ∷ []) (0 ∷ 0 ∷ []) (line 0 1 1 ∷ []) (12 ∷ 0 ∷ 0 ∷ [])
+    ∷ proposal "12 by the first leg alone" (row S C CA 1 2 ∷ row S B CA 1 2 ∷ []) (0 ∷ 0 ∷ []) (line 0 1 1 ∷ []) (12 ∷ 0 ∷ 0 ∷ [])
+    ∷ proposal "15 by the long leg alone" (two 1 2) (8 ∷ 0 ∷ []) (line 0 1 2 ∷ []) (15 ∷ 0 ∷ 0 ∷ [])
+    ∷ proposal "15 by the short leg alone" (two 2 1) (8 ∷ 0 ∷ []) (line 0 1 2 ∷ []) (15 ∷ 0 ∷ 0 ∷ [])
+    ∷ proposal "13 at line 1" (row L C CA 1 2 ∷ row S B CA 1 2 ∷ row S C CA 366 2 ∷ []) (8 ∷ 0 ∷ 0 ∷ []) (line 0 1 1 ∷ line 0 2 1 ∷ []) (13 ∷ 1 ∷ 0 ∷ [])
+    ∷ proposal "a line is finished before the next" (two 2 2) (8 ∷ 0 ∷ []) (line 0 1 3 ∷ line 0 2 1 ∷ []) (15 ∷ 0 ∷ 0 ∷ [])
     -- a holding is finished before the next, its value before its price; holdings come before lines
     ∷ proposal "8 before 10, and holdings before lines" (two 2 0) (8 ∷ 43801 ∷ []) (line 0 2 1 ∷ []) (8 ∷ 1 ∷ 0 ∷ [])
+    ∷ proposal "10 at holding 1" (two 2 2) (43800 ∷ 43801 ∷ []) [] (10 ∷ 1 ∷ 0 ∷ [])
     ∷ proposal "a holding is finished before the next" (two 2 0) (43801 ∷ 0 ∷ []) (line 0 2 1 ∷ []) (10 ∷ 0 ∷ 0 ∷ [])
     -- 257 holdings: 3; 513 lines: 9; both: 3
     ∷ proposal "257 holdings" (replicate 257 (row L B CA 1 1)) [] [] (3 ∷ 0 ∷ 0 ∷ [])

@@ -66,6 +66,9 @@ module _ (c : Columns) where
           returned = returned;
           remainder = p;
           ranking = q;
+          untouched = λ h.
+              let none : outcomeOf c before .number ≡ 0 → ⊥ = λ e. h (returned .number ∙ e) in
+              (p ∙ sym (nothing-written _ _ _ none), q ∙ sym (nothing-written _ _ _ none));
           order = all-ranked (submission c);
           exactly = ((λ e. let (neither, rest) = d .exactly .0 e in (l .0 neither, rest)), (λ a. d .exactly .1 (l .1 (a .0), a .1)));
           keeps = d;

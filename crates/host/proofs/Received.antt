@@ -97,6 +97,7 @@ module _ (text : List ℕ) (book : BookColumns) (lines : LineColumns) (out : Lis
         returned = rw e t;
         filled-book = rw none (none-filled book);
         filled-lines = rw none (no-lines-filled lines);
+        untouched = λ _. (refl, refl);
         holding = λ z. absurd (h (sym (t .number) ∙ z));
         line = λ z. absurd (h (sym (t .number) ∙ z));
         exactly = rw (t .number ∙ sym (ap number e)) read-when;
@@ -149,6 +150,7 @@ module _ (text : List ℕ) (book : BookColumns) (lines : LineColumns) (out : Lis
               returned = rw whole answered;
               filled-book = rw zero in-book;
               filled-lines = rw zero in-lines;
+              untouched = λ h. absurd (h (answered .number));
               holding = λ _ k h. rw in-book (holding-written _ _ book (fit .each-row) (fit .each-price) (fit .as-many) k h);
               line = λ _ k h. rw in-lines (line-written _ lines (lines-fit (file .each-line)) k h);
               exactly = rw (answered .number ∙ sym (ap number whole)) read-when;

@@ -1,4 +1,4 @@
--- THE PAGE TO READ FIRST of the boundary. Document 01, "At the host's boundary a column or list is a byte slice of eight-byte little-endian
+-- THE PAGE OF THE EXPORTED CHECK. Document 01, "At the host's boundary a column or list is a byte slice of eight-byte little-endian
 -- numbers": what the exported check promises of what is lent. Assumes nothing.
 use mathlib.Core.Path.{_≡_}
 use mathlib.Core.Logic.{_↔_}
@@ -38,6 +38,8 @@ module _ (c : Columns) (before after : Lent) (r : ℕ) where
     pub remainder : after .remainder ≡ front (encode (written (outcomeOf c before) (remaindersOf (priced (submission c)) (submission c .lines)))) (before .remainder)
     -- the ranking, in the same way
     pub ranking : after .ranking ≡ front (encode (written (outcomeOf c before) (ranked (priced (submission c)) (submission c .lines)))) (before .ranking)
+    -- a refusal writes to neither
+    pub untouched : (r ≡ 0 → ⊥) → (after .remainder ≡ before .remainder) × (after .ranking ≡ before .ranking)
     -- what is called the ranking has every holding once, by margin of the remainder, largest first, ties by lower number
     pub order : Ranks (margin (priced (submission c)) (submission c .lines)) (priced (submission c) .count) (ranked (priced (submission c)) (submission c .lines))
     -- accepted exactly when what is lent has the lengths, and the proposal is within the limits, keeps the article, is covered and has equal totals

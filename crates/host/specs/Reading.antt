@@ -1,4 +1,4 @@
--- Document 01, "The reader fills lent columns, or leaves them untouched": what the exported reader promises of a text and of what is lent.
+-- THE PAGE OF THE EXPORTED READER. Document 01, "The reader fills lent columns, or leaves them untouched": what it promises of a text and of what is lent.
 -- Assumes nothing.
 use mathlib.Core.Path.{_≡_}
 use mathlib.Core.Logic.{_↔_}
@@ -38,6 +38,8 @@ module _ (text : List ℕ) (book book′ : BookColumns) (lines lines′ : LineCo
     -- the columns of the holdings, and of the lines; a refusal leaves them untouched, and entries past what they are to hold keep what they held
     pub filled-book : book′ ≡ filledBook (filling text (roomOf book lines answer) .rows) (filling text (roomOf book lines answer) .prices) book
     pub filled-lines : lines′ ≡ filledLines (filling text (roomOf book lines answer) .lines) lines
+    -- a refusal writes to none
+    pub untouched : (r ≡ 0 → ⊥) → (book′ ≡ book) × (lines′ ≡ lines)
     -- of a file that is read, each holding's numbers with its price, and each line's, stand at their entries
     pub holding : r ≡ 0 → (k : ℕ) → k < length (submissionIn text .rows) → HoldingWritten book′ k (getD (submissionIn text .rows) k noRow) (getD (submissionIn text .prices) k 0)
     pub line : r ≡ 0 → (k : ℕ) → k < length (submissionIn text .lines) → LineWritten lines′ k (getD (submissionIn text .lines) k noLine)

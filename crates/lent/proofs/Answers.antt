@@ -24,9 +24,10 @@ two-answered a old first second p q h e f =
       number = refl;
       slice = rw (le-ltb _ _ h) in-bytes;
       reads = λ _. rw (in-bytes, read 0 (omega arith), read 1 (omega arith));
+      unwritten = λ l. absurd (omega arith);
     }
 
 -- fewer: nothing is
 pub none-answered : (a : Answer) (old : List ℕ) → length old < 16 → Answers a old old (a .number)
 unfolding answered
-none-answered a old h = record { number = refl; slice = rw (lt-ltb _ _ h); reads = λ l. absurd (omega arith) }
+none-answered a old h = record { number = refl; slice = rw (lt-ltb _ _ h); reads = λ l. absurd (omega arith); unwritten = λ _. refl }

@@ -2,7 +2,7 @@
 use mathlib.Core.Path.{_≡_}
 use mathlib.Core.Bool.{cond}
 use mathlib.Core.List.{List, [], _∷_}
-use Prim.Native.Nat.{ℕ, _≤_}
+use Prim.Native.Nat.{ℕ, _≤_, _<_}
 use lib.Dec.{ltb}
 use lib.ListN.{length, take}
 use Rattle.lists.specs.Tables.{front}
@@ -30,11 +30,13 @@ answered a old = cond (ltb (length old) 16) old (front (encode (a .first ∷ a .
 abbrev pub answerIn : ℕ → List ℕ → Answer
 answerIn r bytes = makeAnswer r (wordAt bytes 0) (wordAt bytes 1)
 
--- a number and two more are the answer: the number is returned, and the two stand in the answer slice, where the host reads them
+-- a number and two more are the answer: the number is returned, and the two stand in the answer slice, where the host reads them;
+-- a slice below 16 bytes stays unwritten
 pub record Answers (a : Answer) (before after : List ℕ) (r : ℕ) : Type 0 where
   pub number : r ≡ a .number
   pub slice : after ≡ answered a before
   pub reads : 16 ≤ length before → answerIn r after ≡ a
+  pub unwritten : length before < 16 → after ≡ before
 
 -- how many entries of a list of n are written: on a refusal none
 abbrev pub countWritten : Verdict → ℕ → ℕ

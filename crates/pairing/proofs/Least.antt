@@ -8,8 +8,9 @@ use native.Mathlib.Omega.{arith}
 use Rattle.lists.specs.Each.{Each}
 use Rattle.lists.specs.Sums.{sumTo, sumOf, only}
 use Rattle.lists.proofs.Sums.{sumTo-le, sumTo-eq, sumTo-add, sumTo-times, sumTo-none, sumTo-only, sumTo-product-bound}
-use Rattle.pairing.specs.Pairing.{Terms, used, savingRate, AllowedPair, IsPairing, pairUnits, restUnits, sumAt, saving, Covers, pricedTotal, Fair, Least}
+use Rattle.pairing.specs.Pairing.{Terms, used, inParts, savingRate, AllowedPair, IsPairing, pairUnits, restUnits, sumAt, saving, Covers, pricedTotal, Fair, Least}
 use Rattle.pairing.specs.declared.Line.{Line}
+use Rattle.pairing.proofs.Parts.{saving-parts, pairing-parts}
 
 -- what is left of v and what is used of it, each at the rate r, make v at the rate r
 left-and-used : (r v u : ℕ) → u ≤ v → r * (v - u) + r * u ≡ r * v
@@ -105,6 +106,9 @@ module _ (T : Terms) where
           whole N other fair q,
           bounded price N other covers q,
         );
+    in-parts = λ N _.
+        let q = pairing-parts T N lines p in
+        (q, omega (arith, whole N (inParts N lines) fair q, ap (λ (x : ℕ). N * x) (whole 1 lines fair p), saving-parts T N lines));
   }
 
   -- two pairings that are the least have the same units

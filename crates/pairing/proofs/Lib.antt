@@ -1,2 +1,3 @@
 pub mod Used
 pub mod Least
+pub mod Parts

@@ -2,7 +2,7 @@
 -- holdings, and no definition knows what a holding is. Assumes nothing.
 use mathlib.Core.Path.{_≡_}
 use mathlib.Core.Bool.{Bool, true}
-use mathlib.Core.List.{List}
+use mathlib.Core.List.{List, [], _∷_}
 use Prim.Native.Nat.{ℕ, _+_, _-_, _*_, _≤_, _<_}
 use Rattle.lists.specs.Each.{Each}
 use Rattle.lists.specs.Sums.{sumTo, sumOf, only}
@@ -19,6 +19,11 @@ pub record Terms : Type 0 where
 -- a holding's amounts over all lines: lines on the same two holdings add up
 unfoldable pub used : List Line → ℕ → ℕ
 used lines k = sumOf lines (λ l. only (l .long) (l .amount) k + only (l .short) (l .amount) k)
+
+-- the same lines, their amounts counted in parts of 1/N cent
+unfoldable pub inParts : ℕ → List Line → List Line
+inParts N [] = []
+inParts N (l ∷ ls) = record { long = l .long; short = l .short; amount = N * l .amount } ∷ inParts N ls
 
 module _ (T : Terms) where
   -- the saving rate is the sum of the two rates less the pair's rate
@@ -67,8 +72,9 @@ module _ (T : Terms) where
   Fair = (i j : ℕ) → T .pairRate i j ≤ T .rate i + T .rate j
 
   -- units are the least: the lines are a pairing at 1, its sum is those units, and for every whole N from 1 the sum of every pairing at N
-  -- is at least N times the units
+  -- is at least N times the units, which the lines themselves come to
   pub record Least (lines : List Line) (units : ℕ) : Type 0 where
     pub pairing : IsPairing 1 lines
     pub sum : sumAt 1 lines ≡ units
     pub every : (N : ℕ) → 1 ≤ N → (other : List Line) → IsPairing N other → N * units ≤ sumAt N other
+    pub in-parts : (N : ℕ) → 1 ≤ N → IsPairing N (inParts N lines) × (sumAt N (inParts N lines) ≡ N * units)

@@ -7,8 +7,8 @@ use Prim.Native.Nat.{ℕ, _≤_}
 use native.Mathlib.Omega.{arith}
 use lib.Dec.{eqb}
 use lib.ListN.{length, getD, take, drop, length-append}
-use lib.Seq.{length-take-le}
-use borrow.Author.Tests.{eq-eqb, ne-eqb}
+use lib.Seq.{length-take-le, take-at}
+use borrow.Author.Tests.{le-leb, eq-eqb, ne-eqb}
 use Rattle.lists.specs.Tables.{front}
 use Rattle.lists.specs.Texts.{ascii}
 use Rattle.lists.proofs.Tables.{length-to, getD-every}
@@ -29,7 +29,7 @@ use Rattle.verdict.specs.Judges.{Judges}
 use Rattle.verdict.specs.declared.Judgement.{Judgement}
 use Rattle.verdict.proofs.Judged.{all-ranked, nothing-past}
 use Rattle.report.specs.Report.{lineOf, refusalLine, marginLine, remainderLine, printedLines, bookLine, printedOf, reportOf}
-use Rattle.report.specs.Written.{fitted, Prints}
+use Rattle.report.specs.Written.{reportRoom, fitted, Prints}
 use Rattle.report.proofs.Judged.{report-judged}
 use Rattle.printing.specs.Printed.{fileAnswer, printed, holdingLine, PrintsFigures, PrintsFile}
 use Rattle.printing.specs.Within.{Within}
@@ -41,6 +41,13 @@ prints-within {text} {old} {now} {count} p =
     let written = fitted (length old) text in
     let few : count ≤ length now = omega (arith, p .counted, ap (λ (l : List ℕ). length l) (p .bytes), length-append written (drop (length written) old)) in
     (few, sym (length-take-le count now few))
+
+-- and with room it is the first bytes there
+prints-first : {text old now : List ℕ} {count : ℕ} → Prints text old now count → reportRoom ≤ length old → take count now ≡ text
+unfolding front fitted
+prints-first {text} {old} p h =
+    let all = le-leb reportRoom (length old) h in
+    rw (p .bytes, p .counted, all) (take-at text _ (length text) refl)
 
 -- M is printed for the number 0, and X for any other
 module _ (a : Answer) (line : ℕ → List ℕ) (order : List ℕ) where
@@ -117,6 +124,7 @@ module _ (text : List ℕ) where
   promised p = (
     record {
       stands = p;
+      room = prints-first p;
       exactly = (λ b. accepted-when .0 (begins-exactly .0 b), λ h. begins-exactly .1 (accepted-when .1 h));
       figures = λ b. figures-printed (begins-exactly .0 b);
       order = all-ranked s;

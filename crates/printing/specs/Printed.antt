@@ -1,12 +1,12 @@
--- THE PAGE TO READ FIRST of the program. Document 01, "The program `margin` reads a file on standard input": what it prints, from the bytes of the
+-- THE PAGE OF THE PROGRAM. Document 01, "The program `margin` reads a file on standard input": what it prints, from the bytes of the
 -- file to the bytes that are printed. Assumes nothing.
 use mathlib.Core.Path.{_≡_}
 use mathlib.Core.Logic.{_↔_}
 use mathlib.Core.Bool.{cond, false}
 use mathlib.Core.List.{List, [], _∷_, _++_, flatMap}
-use Prim.Native.Nat.{ℕ}
+use Prim.Native.Nat.{ℕ, _*_, _≤_}
 use lib.Dec.{eqb}
-use lib.ListN.{getD, take}
+use lib.ListN.{length, getD, take}
 use Rattle.lists.specs.Texts.{ascii}
 use Rattle.article.specs.Answer.{Answer, makeAnswer}
 use Rattle.ranking.specs.Ranking.{Ranks}
@@ -43,6 +43,8 @@ module _ (text before after : List ℕ) (r : ℕ) where
   pub record PrintsFile : Type 0 where
     -- the bytes stand at the front of the list, all others are kept, and r is how many they are; a list without room is left alone
     pub stands : Prints (printed text) before after r
+    -- there is room in 257 lines of at most 66 bytes, and the first r bytes are then those that are printed
+    pub room : 257 * 66 ≤ length before → take r after ≡ printed text
     -- they begin with M exactly when the file submits a book and a proposal in the paper's words, and they are acceptable
     pub exactly : (take 1 (printed text) ≡ ascii "M") ↔ (Submits text (submissionIn text) × Acceptable (submissionIn text))
     -- the units and cents that they then print are the least margin of what is submitted, rounded once
