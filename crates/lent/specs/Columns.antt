@@ -63,7 +63,7 @@ submission c = record {
   lines = linesIn (c .long) (c .short) (c .amount);
 }
 
--- what is submitted at an entry of the columns: the numbers of a holding with its price, and of a line
+-- what is submitted at an entry of the columns: the numbers of a holding, and of a line
 pub record HoldingAt (c : Columns) (k : ℕ) : Type 0 where
   pub side : getD (submission c .rows) k noRow .side ≡ wordAt (c .side) k
   pub kind : getD (submission c .rows) k noRow .kind ≡ wordAt (c .kind) k
@@ -76,7 +76,7 @@ pub record LineAt (c : Columns) (k : ℕ) : Type 0 where
   pub short : getD (submission c .lines) k noLine .short ≡ wordAt (c .short) k
   pub amount : getD (submission c .lines) k noLine .amount ≡ wordAt (c .amount) k
 
--- a book or proposal has as many holdings or lines as its columns have entries
+-- a book or proposal has as many holdings or lines as its columns have entries, each with the numbers that stand there, and a price for each entry of its column
 pub record ColumnEntries (c : Columns) : Type 0 where
   pub holdings : length (submission c .rows) ≡ length (c .side) / 8
   pub lines : length (submission c .lines) ≡ length (c .long) / 8
