@@ -12,7 +12,7 @@ use Rattle.proposal.proofs.Demands.{lines-pair}
 
 module _ (s : Submission) where
   value-high : Limits s → (k : ℕ) → k < priced s .count → priced s .value k ≤ 100000000000
-  value-high l k h = rw (value-at s k) (l .ranges k (in-book s k h) .value-high)
+  value-high l k h = rw (value-at s k) (l .each-row k (in-book s k h) .value-high)
 
   price-high : Limits s → (k : ℕ) → k < priced s .count → priced s .price k ≤ 43800
   unfolding priced bookOf

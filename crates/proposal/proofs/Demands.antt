@@ -61,7 +61,7 @@ module _ (s : Submission) where
   terms : Limits s → (i j : ℕ) → i < length (s .rows) → j < length (s .rows) → PairTerms s i j
   unfolding termsOf legOf
   terms l i j p q = record {
-    numbers = unfold holdingAt in row-kept _ (l .ranges i p);
+    numbers = unfold holdingAt in row-kept _ (l .each-row i p);
     value = value-at s i;
     price = unfold priced bookOf in refl;
     rate = ap (λ (x : Leg). x .rate) (leg-at s i p);
@@ -98,7 +98,7 @@ module _ (one two : Bool) (s : Submission) where
     no-2 = q;
     no-3 = le-ltb _ _ (a .in-limits .holdings);
     no-9 = le-ltb _ _ (a .in-limits .lines);
-    holdings = λ k h. ranges-none _ _ (a .in-limits .ranges k h) (a .in-limits .prices k h);
+    holdings = λ k h. ranges-none _ _ (a .in-limits .each-row k h) (a .in-limits .prices k h);
     lines = λ k h. fits-none _ _ _ (keeps-fitting s (a .in-limits) (a .article) k h);
     pairs = covers-clear (priced s) (a .covered);
     totals = ap not (eq-eqb _ _ (a .totals));

@@ -44,6 +44,6 @@ pub limits : (one two : Bool) (s : Submission) → Clear one two s → Limits s
 limits one two s c = record {
   holdings = ltb-false _ _ (c .no-3);
   lines = ltb-false _ _ (c .no-9);
-  ranges = λ k q. none-ranges _ _ (c .holdings k q) .0;
+  each-row = λ k q. none-ranges _ _ (c .holdings k q) .0;
   prices = λ k q. none-ranges _ _ (c .holdings k q) .1;
 }

@@ -28,7 +28,7 @@ module _ (s : Submission) where
 
   pub holding-in-range : Limits s → (k : ℕ) → k < length (s .rows) → InRange (holdingAt s k)
   unfolding holdingAt
-  holding-in-range l k h = kept _ (none-fault _ (l .ranges k h)) .ranges
+  holding-in-range l k h = kept _ (none-fault _ (l .each-row k h)) .ranges
 
   pub leg-at : (k : ℕ) → k < length (s .rows) → priced s .leg k ≡ legOf (holdingAt s k)
   unfolding priced bookOf holdingAt

@@ -21,7 +21,7 @@ module _ (s : Submission) where
   pub record Limits : Type 0 where
     pub holdings : length (s .rows) ≤ 256
     pub lines : length (s .lines) ≤ 512
-    pub ranges : (k : ℕ) → k < length (s .rows) → Ranges (getD (s .rows) k noRow)
+    pub each-row : (k : ℕ) → k < length (s .rows) → Ranges (getD (s .rows) k noRow)
     pub prices : (k : ℕ) → k < length (s .rows) → getD (s .prices) k 0 ≤ 43800
 
   -- a line names a long of the book first and a short second, their pair is allowed, the amount is 1 cent or more
