@@ -9,7 +9,8 @@ use Rattle.article.specs.Rate.{longerThan, periodOf}
 
 module _ (d : ℕ) where
   -- one more than how many of the ends at 1, 3, 7 and 11 years the term is over
-  ends : {a b c e : Bool} → longerThan d 1 ≡ a → longerThan d 3 ≡ b → longerThan d 7 ≡ c → longerThan d 11 ≡ e → periodOf d ≡ 1 + (cond a 1 0 + (cond b 1 0 + (cond c 1 0 + (cond e 1 0 + 0))))
+  ends : {a b c e : Bool} → longerThan d 1 ≡ a → longerThan d 3 ≡ b → longerThan d 7 ≡ c → longerThan d 11 ≡ e
+      → periodOf d ≡ 1 + (cond a 1 0 + (cond b 1 0 + (cond c 1 0 + (cond e 1 0 + 0))))
   unfolding periodOf count
   ends p q r s = λ i. 1 + (cond (p i) 1 0 + (cond (q i) 1 0 + (cond (r i) 1 0 + (cond (s i) 1 0 + 0))))
 

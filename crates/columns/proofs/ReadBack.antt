@@ -19,13 +19,15 @@ each-map P f [] h = tt
 each-map P f (x ∷ xs) h = (h .0, each-map P f xs (h .1))
 
 -- one number of each entry of a list
-number-back : {A : Type 0} (f : A → ℕ) (xs : List A) (none : A) (old : List ℕ) → Each (λ x. Fits (f x)) xs → (k : ℕ) → k < length xs → wordAt (column (map f xs) old) k ≡ f (getD xs k none)
+number-back : {A : Type 0} (f : A → ℕ) (xs : List A) (none : A) (old : List ℕ) → Each (λ x. Fits (f x)) xs → (k : ℕ) → k < length xs
+    → wordAt (column (map f xs) old) k ≡ f (getD xs k none)
 unfolding column
 number-back f xs none old fit k h =
     read-back (map f xs) old (each-map Fits f xs fit) k (omega (arith, length-map xs f)) ∙ getD-map-in f xs k none 0 h
 
 module _ (rows : List Row) (prices : List ℕ) (old : BookColumns) where
-  pub holding-written : Each RowFits rows → Each Fits prices → length prices ≡ length rows → (k : ℕ) → k < length rows → HoldingWritten (filledBook rows prices old) k (getD rows k noRow) (getD prices k 0)
+  pub holding-written : Each RowFits rows → Each Fits prices → length prices ≡ length rows → (k : ℕ) → k < length rows
+      → HoldingWritten (filledBook rows prices old) k (getD rows k noRow) (getD prices k 0)
   unfolding filledBook
   holding-written fit dear same k h =
       let by : (f : Row → ℕ) → ((r : Row) → RowFits r → Fits (f r)) → (bytes : List ℕ) → wordAt (column (map f rows) bytes) k ≡ f (getD rows k noRow) =

@@ -153,7 +153,7 @@ lending =
     ∷ lengths "one side" (makeSizes 8 16 16 16 16 16 8 8 8 16 16 16) 1
     ∷ lengths "one kind" (makeSizes 16 8 16 16 16 16 8 8 8 16 16 16) 1
     ∷ lengths "one issuer" (makeSizes 16 16 8 16 16 16 8 8 8 16 16 16) 1
-    ∷ lengths "one term" (makeSizes 16 16 16 8 16 16 8 8 8 16 16 16) 1
+    ∷ lengths "days of one holding" (makeSizes 16 16 16 8 16 16 8 8 8 16 16 16) 1
     ∷ lengths "one value" (makeSizes 16 16 16 16 8 16 8 8 8 16 16 16) 1
     ∷ lengths "one price" (makeSizes 16 16 16 16 16 8 8 8 8 16 16 16) 1
     ∷ lengths "three prices" (makeSizes 16 16 16 16 16 24 8 8 8 16 16 16) 1
@@ -257,6 +257,7 @@ proposals =
     ∷ proposal "16 at the lowest short of a long" (row S C ON 2000 1000 ∷ row L C ON 2000 1000 ∷ row S C ON 2000 1000 ∷ row L C ON 2000 1000 ∷ []) (0 ∷ 0 ∷ 0 ∷ 0 ∷ []) [] (16 ∷ 1 ∷ 0 ∷ [])
     -- the ranking: larger margin first, a tie by lower number
     ∷ proposal "the ranking" (row L B CA 1 1 ∷ row L B CA 1 3 ∷ row L B CA 1 1 ∷ row L B CA 1 4 ∷ []) (0 ∷ 0 ∷ 0 ∷ 0 ∷ []) [] (0 ∷ 36 ∷ 1 ∷ 1 ∷ 3 ∷ 1 ∷ 4 ∷ 3 ∷ 1 ∷ 0 ∷ 2 ∷ [])
+    ∷ proposal "the ranking by margin and not by value" (row L B CA 1 3 ∷ row L C ON 1 2 ∷ []) (0 ∷ 0 ∷ []) [] (0 ∷ 36 ∷ 1 ∷ 3 ∷ 2 ∷ 1 ∷ 0 ∷ [])
     ∷ []
 
 -- the refusals of lines, each with its place, and the order of all refusals

@@ -6,9 +6,8 @@ use Prim.Native.Nat.{ℕ}
 use lib.ListN.{length}
 use Rattle.lists.specs.Tables.{front}
 use Rattle.article.specs.Answer.{Answer}
-use Rattle.ranking.specs.Ranking.{Ranks}
 use Rattle.proposal.specs.Submission.{priced}
-use Rattle.proposal.specs.Figures.{margin, remaindersOf, ranked}
+use Rattle.proposal.specs.Figures.{remaindersOf, ranked, InRankingOrder}
 use Rattle.proposal.specs.Outcome.{outcome}
 use Rattle.proposal.specs.Demands.{Acceptable, Demands}
 use Rattle.verdict.specs.Judges.{written}
@@ -41,7 +40,7 @@ module _ (c : Columns) (before after : Lent) (r : ℕ) where
     -- a refusal writes to neither
     pub untouched : (r ≡ 0 → ⊥) → (after .remainder ≡ before .remainder) × (after .ranking ≡ before .ranking)
     -- what is called the ranking has every holding once, by margin of the remainder, largest first, ties by lower number
-    pub order : Ranks (margin (priced (submission c)) (submission c .lines)) (priced (submission c) .count) (ranked (priced (submission c)) (submission c .lines))
+    pub order : InRankingOrder (priced (submission c)) (submission c .lines)
     -- accepted exactly when what is lent has the lengths, and the proposal is within the limits, keeps the article, is covered and has equal totals
     pub exactly : (r ≡ 0) ↔ (Lengths (sizesOf c before) × Acceptable (submission c))
     -- the least and the rounding, of what the host reads, and the terms that they speak of

@@ -9,9 +9,8 @@ use lib.Dec.{eqb}
 use lib.ListN.{length, getD, take}
 use Rattle.lists.specs.Texts.{ascii}
 use Rattle.article.specs.Answer.{Answer, makeAnswer}
-use Rattle.ranking.specs.Ranking.{Ranks}
 use Rattle.proposal.specs.Submission.{Submission, priced}
-use Rattle.proposal.specs.Figures.{margin, remaindersOf, ranked}
+use Rattle.proposal.specs.Figures.{margin, remaindersOf, ranked, InRankingOrder}
 use Rattle.proposal.specs.Outcome.{outcome}
 use Rattle.proposal.specs.Demands.{Acceptable, Demands}
 use Rattle.reader.specs.File.{submissionIn, fileFault}
@@ -50,6 +49,6 @@ module _ (text before after : List ℕ) (r : ℕ) where
     -- the units and cents that they then print are the least margin of what is submitted, rounded once
     pub figures : take 1 (printed text) ≡ ascii "M" → PrintsFigures (submissionIn text) (printed text)
     -- the ranking has every holding once, by margin of the remainder, largest first, ties by lower number
-    pub order : Ranks (margin (priced (submissionIn text)) (submissionIn text .lines)) (priced (submissionIn text) .count) (ranked (priced (submissionIn text)) (submissionIn text .lines))
+    pub order : InRankingOrder (priced (submissionIn text)) (submissionIn text .lines)
     -- what a text submits is one submission
     pub only : (s : Submission) → Submits text s → s ≡ submissionIn text

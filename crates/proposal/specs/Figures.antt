@@ -5,7 +5,7 @@ use Rattle.lists.specs.Sums.{sumTo}
 use Rattle.lists.specs.Tables.{listTo}
 use Rattle.pairing.specs.Pairing.{used, pairUnits}
 use Rattle.pairing.specs.declared.Line.{Line}
-use Rattle.ranking.specs.Ranking.{rankingOf}
+use Rattle.ranking.specs.Ranking.{rankingOf, Ranks}
 use Rattle.proposal.specs.Submission.{PricedBook, termsOf}
 
 -- the most that one holding's margin can be, and the most that one line can save or one holding's price times value be
@@ -39,6 +39,10 @@ module _ (b : PricedBook) (lines : List Line) where
   -- the ranking: holding numbers by margin of the remainder, largest first, ties by lower number
   unfoldable pub ranked : List ℕ
   ranked = rankingOf margin (b .count)
+
+  -- it has every holding once, in that order
+  abbrev pub InRankingOrder : Type 0
+  InRankingOrder = Ranks margin (b .count) ranked
 
 -- total cents, rounded up once
 unfoldable pub centsOf : ℕ → ℕ

@@ -11,10 +11,10 @@ use Rattle.lists.proofs.Order.{ordered-length}
 use Rattle.lists.proofs.Tables.{length-to, getD-every, front-of-zeros}
 use Rattle.article.specs.Answer.{Answer, makeAnswer}
 use Rattle.holding.specs.declared.Row.{Row}
-use Rattle.ranking.specs.Ranking.{Ranks, ranksBefore, rankingOf}
+use Rattle.ranking.specs.Ranking.{ranksBefore, rankingOf}
 use Rattle.ranking.proofs.Ranking.{ranking}
 use Rattle.proposal.specs.Submission.{Submission, bookOf, priced, noRow}
-use Rattle.proposal.specs.Figures.{remainder, margin, unitsOf, remaindersOf, marginsOf, ranked, centsOf, RoundedUp}
+use Rattle.proposal.specs.Figures.{remainder, margin, unitsOf, remaindersOf, marginsOf, ranked, InRankingOrder, centsOf, RoundedUp}
 use Rattle.proposal.specs.Outcome.{faultAnswer, accepted, outcome}
 use Rattle.proposal.specs.declared.Fault.{Fault}
 use Rattle.proposal.proofs.Demands.{demands}
@@ -38,7 +38,7 @@ module _ (s : Submission) where
   ranked-length = ordered-length (ranksBefore (margin (priced s) (s .lines))) (priced s .count)
 
   -- the ranking has every holding once, in order
-  pub all-ranked : Ranks (margin (priced s) (s .lines)) (priced s .count) (ranked (priced s) (s .lines))
+  pub all-ranked : InRankingOrder (priced s) (s .lines)
   unfolding ranked
   all-ranked = ranking (margin (priced s) (s .lines)) (priced s .count) .order
 

@@ -7,9 +7,8 @@ use Prim.Native.Nat.{ℕ}
 use lib.Dec.{eqb}
 use Rattle.lists.specs.Tables.{front, zeros}
 use Rattle.article.specs.Answer.{Answer, makeAnswer}
-use Rattle.ranking.specs.Ranking.{Ranks}
 use Rattle.proposal.specs.Submission.{Submission, priced}
-use Rattle.proposal.specs.Figures.{margin, remaindersOf, marginsOf, ranked}
+use Rattle.proposal.specs.Figures.{remaindersOf, marginsOf, ranked, InRankingOrder}
 use Rattle.proposal.specs.Outcome.{outcome}
 use Rattle.proposal.specs.Demands.{Demands}
 use Rattle.proposal.specs.declared.Fault.{Fault}
@@ -51,6 +50,6 @@ pub record Judges (s : Submission) (r : Judgement) : Type 0 where
   -- the ranking, at the front of zeros
   pub ranking : r .ranking ≡ front (written (outcome false false s) (ranked (priced s) (s .lines))) (zeros 256)
   -- it has every holding once, by margin of the remainder, largest first, ties by lower number
-  pub order : Ranks (margin (priced s) (s .lines)) (priced s .count) (ranked (priced s) (s .lines))
+  pub order : InRankingOrder (priced s) (s .lines)
   -- accepted exactly when, the least, and the rounding
   pub keeps : Demands s false false (answerOf (r .verdict))
