@@ -97,12 +97,19 @@ pairAnswer pairs.NotAllowed = makeAnswer 13 0 0
 unfoldable pub pairOf : Leg → Leg → Answer
 pairOf l s = cond (allowed l s) (makeAnswer 0 (pairRateOf l s) (savingRateOf l s)) (makeAnswer 13 0 0)
 
--- a leg's rate is at most the article's highest
+-- the article's highest rate, and the most that a pair can save
+abbrev pub rateLimit : ℕ
+rateLimit = 21900
+
+abbrev pub savingLimit : ℕ
+savingLimit = 43800
+
+-- a leg's rate is at most the highest
 abbrev pub RateInRange : Leg → Type 0
-RateInRange l = l .rate ≤ 21900
+RateInRange l = l .rate ≤ rateLimit
 
 -- what pairing two legs promises
 pub record Pairs (l s : Leg) (r : Pair) : Type 0 where
   pub answered : pairAnswer r ≡ pairOf l s
-  pub rate-high : pairAnswer r .first ≤ 21900
-  pub saving-high : pairAnswer r .second ≤ 43800
+  pub rate-high : pairAnswer r .first ≤ rateLimit
+  pub saving-high : pairAnswer r .second ≤ savingLimit

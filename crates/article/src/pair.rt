@@ -3,7 +3,8 @@ use crate::rate;
 use holding::Holding;
 ghost use mathlib.Core.Path.{_≡_};
 ghost use Prim.Native.Nat.{_+_, _≤_};
-ghost use Rattle.article.specs.Pair.{legOf, classRule, ruleOf, permits, ruleRate, RateInRange, Pairs};
+ghost use Rattle.article.specs.Pair.{legOf, classRule, ruleOf, permits, ruleRate, rateLimit, RateInRange, Pairs};
+ghost use Rattle.holding.specs.Holding.{InRange};
 
 // Which rule a pair has.
 pub enum Rule {
@@ -29,7 +30,7 @@ pub enum Pair {
 
 // What a pair asks of this holding, worked out once.
 pub fn leg_of(h: Holding) -> Leg
-    ensures { λ r. ⌜ (r ≡ legOf h) × RateInRange r ⌝ }
+    ensures { λ r. ⌜ (r ≡ legOf h) × (InRange h → RateInRange r) ⌝ }
 {
     let row = holding::row_of(h);
     Leg {
@@ -95,7 +96,7 @@ fn is_permitted(rule: Rule) -> bool
 
 // The rate that a rule makes of two rates.
 fn rule_rate(rule: Rule, long: u64, short: u64) -> u64
-    requires { ⌜ (long ≤ 21900) × (short ≤ 21900) ⌝ }
+    requires { ⌜ (long ≤ rateLimit) × (short ≤ rateLimit) ⌝ }
     ensures { λ r. ⌜ (r ≡ ruleRate rule long short) × (r ≤ long + short) ⌝ }
 {
     match rule {

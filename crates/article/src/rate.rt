@@ -60,7 +60,7 @@ fn strip_rate(bond: u64, days: u64) -> u64
 
 // The rate of a holding alone.
 pub fn rate(h: Holding) -> u64
-    ensures { λ r. ⌜ (r ≡ rateOf h) × (r ≤ 21900) ⌝ }
+    ensures { λ r. ⌜ r ≡ rateOf h ⌝ }
 {
     let kind = h.kind;
     let issuer = h.issuer;

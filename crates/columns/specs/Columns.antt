@@ -1,118 +1,87 @@
--- Document 01, "The reader fills lent columns, or leaves them untouched": the columns of a book and of a proposal as bytes, and those columns
--- filled. Assumes nothing.
+-- Document 01, "A book or proposal has as many holdings or lines as its columns have entries": columns of bytes, what they hold, and those columns
+-- filled by the reader. Assumes nothing.
 use mathlib.Core.Path.{_≡_}
-use mathlib.Core.List.{List, map}
-use Prim.Native.Nat.{ℕ, zero, suc, _*_, _^_, _≤_, _<_}
+use mathlib.Core.List.{List, [], _∷_, _++_, map}
+use Prim.Native.Nat.{ℕ, suc, _/_, _<_}
 use lib.ListN.{length, getD}
-use Rattle.lists.specs.Tables.{front}
+use Rattle.lists.specs.Tables.{listTo, front}
+use Rattle.holding.specs.Holding.{numbersOf, rowBy}
 use Rattle.holding.specs.declared.Row.{Row}
 use Rattle.pairing.specs.declared.Line.{Line}
-use Rattle.proposal.specs.Submission.{noRow, noLine}
-use Rattle.words.specs.Words.{wordAt, encode}
+use Rattle.proposal.specs.Submission.{Submission, noRow, noLine, lineNumbers, lineBy}
+use Rattle.words.specs.Words.{wordAt, entries, decode, encode}
 
--- the columns of a book's holdings, with their prices, and of a proposal's lines
-pub record BookColumns : Type 0 where
-  pub side : List ℕ
-  pub kind : List ℕ
-  pub issuer : List ℕ
-  pub days : List ℕ
-  pub value : List ℕ
+-- the columns of the holdings, side, kind, issuer, days, value; of their prices; and of the lines, long, short, amount
+pub record Columns : Type 0 where
+  pub holdings : List (List ℕ)
   pub price : List ℕ
+  pub lines : List (List ℕ)
 
-pub record LineColumns : Type 0 where
-  pub long : List ℕ
-  pub short : List ℕ
-  pub amount : List ℕ
+abbrev pub makeColumns : List (List ℕ) → List ℕ → List (List ℕ) → Columns
+makeColumns holdings price lines = record { holdings = holdings; price = price; lines = lines }
 
-abbrev pub makeBookColumns : List ℕ → List ℕ → List ℕ → List ℕ → List ℕ → List ℕ → BookColumns
-makeBookColumns side kind issuer days value price = record { side = side; kind = kind; issuer = issuer; days = days; value = value; price = price }
+-- one of several columns, and how many entries they have, by the first
+abbrev pub columnAt : List (List ℕ) → ℕ → List ℕ
+columnAt columns j = getD columns j []
 
-abbrev pub makeLineColumns : List ℕ → List ℕ → List ℕ → LineColumns
-makeLineColumns long short amount = record { long = long; short = short; amount = amount }
+unfoldable pub countIn : List (List ℕ) → ℕ
+countIn columns = entries (columnAt columns 0)
+
+-- the numbers at an entry, one of each column
+unfoldable pub numbersAt : List (List ℕ) → ℕ → List ℕ
+numbersAt columns k = map (λ c. wordAt c k) columns
+
+-- what the columns hold: as many holdings, or lines, as they have entries
+unfoldable pub rowsIn : List (List ℕ) → List Row
+rowsIn columns = listTo (countIn columns) (λ k. rowBy (numbersAt columns k))
+
+unfoldable pub linesIn : List (List ℕ) → List Line
+linesIn columns = listTo (countIn columns) (λ k. lineBy (numbersAt columns k))
+
+unfoldable pub submission : Columns → Submission
+submission c = record { rows = rowsIn (c .holdings); prices = decode (c .price); lines = linesIn (c .lines) }
+
+-- their byte lengths: of the holdings' columns and the price's, and of the lines'
+unfoldable pub holdingSizes : Columns → List ℕ
+holdingSizes c = map length (c .holdings ++ (c .price ∷ []))
+
+unfoldable pub lineSizes : Columns → List ℕ
+lineSizes c = map length (c .lines)
+
+-- the numbers of a holding, and of a line, are those at an entry of the columns
+pub record RowAt (columns : List (List ℕ)) (k : ℕ) (row : Row) : Type 0 where
+  pub side : row .side ≡ wordAt (columnAt columns 0) k
+  pub kind : row .kind ≡ wordAt (columnAt columns 1) k
+  pub issuer : row .issuer ≡ wordAt (columnAt columns 2) k
+  pub days : row .days ≡ wordAt (columnAt columns 3) k
+  pub value : row .value ≡ wordAt (columnAt columns 4) k
+
+pub record LineAt (columns : List (List ℕ)) (k : ℕ) (line : Line) : Type 0 where
+  pub long : line .long ≡ wordAt (columnAt columns 0) k
+  pub short : line .short ≡ wordAt (columnAt columns 1) k
+  pub amount : line .amount ≡ wordAt (columnAt columns 2) k
+
+-- a book or proposal has as many holdings or lines as its columns have entries, each with the numbers that stand there, and a price for each entry of its column
+pub record ColumnEntries (c : Columns) : Type 0 where
+  pub holdings : length (submission c .rows) ≡ length (columnAt (c .holdings) 0) / 8
+  pub lines : length (submission c .lines) ≡ length (columnAt (c .lines) 0) / 8
+  pub holding : (k : ℕ) → k < length (columnAt (c .holdings) 0) / 8 → RowAt (c .holdings) k (getD (submission c .rows) k noRow)
+  pub price : (k : ℕ) → k < length (c .price) / 8 → getD (submission c .prices) k 0 ≡ wordAt (c .price) k
+  pub line : (k : ℕ) → k < length (columnAt (c .lines) 0) / 8 → LineAt (c .lines) k (getD (submission c .lines) k noLine)
 
 -- numbers at the front of a column of bytes; what the column held past them is kept
 unfoldable pub column : List ℕ → List ℕ → List ℕ
 column numbers old = front (encode numbers) old
 
-unfoldable pub filledBook : List Row → List ℕ → BookColumns → BookColumns
-filledBook rows prices old = record {
-  side = column (map (λ r. r .side) rows) (old .side);
-  kind = column (map (λ r. r .kind) rows) (old .kind);
-  issuer = column (map (λ r. r .issuer) rows) (old .issuer);
-  days = column (map (λ r. r .days) rows) (old .days);
-  value = column (map (λ r. r .value) rows) (old .value);
-  price = column prices (old .price);
+-- the numbers of each entry, number j into column j
+unfoldable pub filledFrom : ℕ → List (List ℕ) → List (List ℕ) → List (List ℕ)
+filledFrom j numbers [] = []
+filledFrom j numbers (old ∷ olds) = column (map (λ ns. getD ns j 0) numbers) old ∷ filledFrom (suc j) numbers olds
+
+-- the columns when what is submitted was written into them
+unfoldable pub filled : Submission → Columns → Columns
+filled s old = record {
+  holdings = filledFrom 0 (map numbersOf (s .rows)) (old .holdings);
+  price = column (s .prices) (old .price);
+  lines = filledFrom 0 (map lineNumbers (s .lines)) (old .lines);
 }
-
-unfoldable pub filledLines : List Line → LineColumns → LineColumns
-filledLines lines old = record {
-  long = column (map (λ l. l .long) lines) (old .long);
-  short = column (map (λ l. l .short) lines) (old .short);
-  amount = column (map (λ l. l .amount) lines) (old .amount);
-}
-
--- the numbers of a holding and its price, and of a line, stand at an entry of the columns
-pub record HoldingWritten (c : BookColumns) (k : ℕ) (row : Row) (price : ℕ) : Type 0 where
-  pub at-side : wordAt (c .side) k ≡ row .side
-  pub at-kind : wordAt (c .kind) k ≡ row .kind
-  pub at-issuer : wordAt (c .issuer) k ≡ row .issuer
-  pub at-days : wordAt (c .days) k ≡ row .days
-  pub at-value : wordAt (c .value) k ≡ row .value
-  pub at-price : wordAt (c .price) k ≡ price
-
-pub record LineWritten (c : LineColumns) (k : ℕ) (line : Line) : Type 0 where
-  pub at-long : wordAt (c .long) k ≡ line .long
-  pub at-short : wordAt (c .short) k ≡ line .short
-  pub at-amount : wordAt (c .amount) k ≡ line .amount
-
--- numbers that eight bytes hold
-abbrev pub Fits : ℕ → Type 0
-Fits x = x < 2 ^ 64
-
-pub record RowFits (r : Row) : Type 0 where
-  pub fit-side : Fits (r .side)
-  pub fit-kind : Fits (r .kind)
-  pub fit-issuer : Fits (r .issuer)
-  pub fit-days : Fits (r .days)
-  pub fit-value : Fits (r .value)
-
-pub record LineFits (l : Line) : Type 0 where
-  pub fit-long : Fits (l .long)
-  pub fit-short : Fits (l .short)
-  pub fit-amount : Fits (l .amount)
-
--- the columns by number: side, kind, issuer, days, value; long, short, amount
-abbrev pub rowNumber : ℕ → Row → ℕ
-rowNumber zero row = row .side
-rowNumber (suc zero) row = row .kind
-rowNumber (suc (suc zero)) row = row .issuer
-rowNumber (suc (suc (suc zero))) row = row .days
-rowNumber (suc (suc (suc (suc j)))) row = row .value
-
-abbrev pub lineNumber : ℕ → Line → ℕ
-lineNumber zero line = line .long
-lineNumber (suc zero) line = line .short
-lineNumber (suc (suc j)) line = line .amount
-
--- column j of an array, by the entries' numbers
-abbrev pub rowColumn : ℕ → List Row → ℕ → ℕ
-rowColumn j rows k = rowNumber j (getD rows k noRow)
-
-abbrev pub lineColumn : ℕ → List Line → ℕ → ℕ
-lineColumn j lines k = lineNumber j (getD lines k noLine)
-
--- what writing n holdings, or n lines, asks of the columns
-pub record BookRoom (n : ℕ) (c : BookColumns) : Type 0 where
-  pub few : n ≤ 256
-  pub room-side : 8 * n ≤ length (c .side)
-  pub room-kind : 8 * n ≤ length (c .kind)
-  pub room-issuer : 8 * n ≤ length (c .issuer)
-  pub room-days : 8 * n ≤ length (c .days)
-  pub room-value : 8 * n ≤ length (c .value)
-  pub room-price : 8 * n ≤ length (c .price)
-
-pub record LinesRoom (n : ℕ) (c : LineColumns) : Type 0 where
-  pub few : n ≤ 512
-  pub room-long : 8 * n ≤ length (c .long)
-  pub room-short : 8 * n ≤ length (c .short)
-  pub room-amount : 8 * n ≤ length (c .amount)

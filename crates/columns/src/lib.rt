@@ -4,41 +4,45 @@ use pairing::Line;
 use proposal::Book;
 use proposal::Proposal;
 ghost use mathlib.Core.Path.{_≡_};
+ghost use mathlib.Core.List.{[], _∷_, map};
 ghost use Prim.Native.Nat.{_*_, _≤_};
-ghost use lib.ListN.{length};
-ghost use Rattle.lists.specs.Tables.{listTo, front};
-ghost use Rattle.words.specs.Words.{encode};
-ghost use Rattle.proposal.specs.Submission.{rowsOf, pricesOf, linesOf};
-ghost use Rattle.columns.specs.Columns.{rowNumber, lineNumber, rowColumn, lineColumn, makeBookColumns, makeLineColumns, filledBook, filledLines, BookRoom, LinesRoom};
+ghost use lib.ListN.{length, getD};
+ghost use Rattle.lists.specs.Tables.{listTo};
+ghost use Rattle.holding.specs.Holding.{numbersOf};
+ghost use Rattle.proposal.specs.Submission.{rowsOf, pricesOf, linesOf, lineNumbers};
+ghost use Rattle.columns.specs.Columns.{column, filledFrom};
+ghost use Rattle.columns.specs.Writing.{rowNumber, lineNumber, BookRoom, LinesRoom, BookWritten};
 
 // The number of a row in column j: side, kind, issuer, days, value.
 fn row_number(row: Row, j: usize) -> u64
-    ensures { λ r. ⌜ r ≡ rowNumber j row ⌝ }
+    ensures { λ r. ⌜ r ≡ getD (numbersOf row) j 0 ⌝ }
 {
     match j {
         0 => row.side,
         1 => row.kind,
         2 => row.issuer,
         3 => row.days,
-        _ => row.value,
+        4 => row.value,
+        _ => 0,
     }
 }
 
 // The number of a line in column j: long, short, amount.
 fn line_number(line: Line, j: usize) -> u64
-    ensures { λ r. ⌜ r ≡ lineNumber j line ⌝ }
+    ensures { λ r. ⌜ r ≡ getD (lineNumbers line) j 0 ⌝ }
 {
     match j {
         0 => line.long,
         1 => line.short,
-        _ => line.amount,
+        2 => line.amount,
+        _ => 0,
     }
 }
 
 // Writes column j of the first n rows at the front; the bytes past them are kept.
 fn write_rows(rows: [Row; 256], n: usize, j: usize, bytes: &mut [u8])
     requires { ⌜ (n ≤ 256) × (8 * n ≤ length (now bytes)) ⌝ }
-    ensures { λ _. ⌜ now (bytes .exit) ≡ front (encode (listTo n (rowColumn j rows))) (now (bytes .entry)) ⌝ }
+    ensures { λ _. ⌜ now (bytes .exit) ≡ column (listTo n (rowNumber j rows)) (now (bytes .entry)) ⌝ }
 {
     let mut i: usize = 0;
     while i < n {
@@ -51,7 +55,7 @@ fn write_rows(rows: [Row; 256], n: usize, j: usize, bytes: &mut [u8])
 // Writes column j of the first n lines in the same way.
 fn write_lines(lines: [Line; 512], n: usize, j: usize, bytes: &mut [u8])
     requires { ⌜ (n ≤ 512) × (8 * n ≤ length (now bytes)) ⌝ }
-    ensures { λ _. ⌜ now (bytes .exit) ≡ front (encode (listTo n (lineColumn j lines))) (now (bytes .entry)) ⌝ }
+    ensures { λ _. ⌜ now (bytes .exit) ≡ column (listTo n (lineNumber j lines)) (now (bytes .entry)) ⌝ }
 {
     let mut i: usize = 0;
     while i < n {
@@ -72,8 +76,8 @@ pub fn write_book(
     value: &mut [u8],
     price: &mut [u8],
 )
-    requires { ⌜ BookRoom (book .count) (makeBookColumns (now side) (now kind) (now issuer) (now days) (now value) (now price)) ⌝ }
-    ensures { λ _. ⌜ makeBookColumns (now (side .exit)) (now (kind .exit)) (now (issuer .exit)) (now (days .exit)) (now (value .exit)) (now (price .exit)) ≡ filledBook (rowsOf book) (pricesOf book (proposal .prices)) (makeBookColumns (now (side .entry)) (now (kind .entry)) (now (issuer .entry)) (now (days .entry)) (now (value .entry)) (now (price .entry))) ⌝ }
+    requires { ⌜ BookRoom (book .count) (now side ∷ now kind ∷ now issuer ∷ now days ∷ now value ∷ []) (now price) ⌝ }
+    ensures { λ _. ⌜ BookWritten book proposal (now (side .entry) ∷ now (kind .entry) ∷ now (issuer .entry) ∷ now (days .entry) ∷ now (value .entry) ∷ []) (now (price .entry)) (now (side .exit) ∷ now (kind .exit) ∷ now (issuer .exit) ∷ now (days .exit) ∷ now (value .exit) ∷ []) (now (price .exit)) ⌝ }
 {
     let n = book.count;
     let prices = proposal.prices;
@@ -88,8 +92,8 @@ pub fn write_book(
 
 // Writes the lines of a proposal into their columns.
 pub fn write_proposal(proposal: Proposal, long: &mut [u8], short: &mut [u8], amount: &mut [u8])
-    requires { ⌜ LinesRoom (proposal .count) (makeLineColumns (now long) (now short) (now amount)) ⌝ }
-    ensures { λ _. ⌜ makeLineColumns (now (long .exit)) (now (short .exit)) (now (amount .exit)) ≡ filledLines (linesOf proposal) (makeLineColumns (now (long .entry)) (now (short .entry)) (now (amount .entry))) ⌝ }
+    requires { ⌜ LinesRoom (proposal .count) (now long ∷ now short ∷ now amount ∷ []) ⌝ }
+    ensures { λ _. ⌜ (now (long .exit) ∷ now (short .exit) ∷ now (amount .exit) ∷ []) ≡ filledFrom 0 (map lineNumbers (linesOf proposal)) (now (long .entry) ∷ now (short .entry) ∷ now (amount .entry) ∷ []) ⌝ }
 {
     let n = proposal.count;
     let lines = proposal.lines;

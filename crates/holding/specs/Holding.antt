@@ -1,9 +1,10 @@
 -- Document 01, "A holding": the ranges of raw numbers, and the record that numbers within them make. Assumes nothing.
 use mathlib.Core.Path.{_≡_}
 use mathlib.Core.Bool.{Bool, cond, not}
-use mathlib.Core.List.{List, [], _∷_}
+use mathlib.Core.List.{List, [], _∷_, _++_}
 use Prim.Native.Nat.{ℕ, _≤_}
 use lib.Dec.{eqb}
+use lib.ListN.{getD}
 use Rattle.lists.specs.Choice.{firstOf, within}
 use Rattle.holding.specs.declared.Side.{Side}
 use Rattle.holding.specs.declared.Side.the-variants.{Long, Short}
@@ -16,6 +17,17 @@ use Rattle.holding.specs.declared.Row.{Row}
 use Rattle.holding.specs.declared.Built.{Built}
 use Rattle.holding.specs.declared.Built.the-variants.{Made, Refused}
 
+-- the most cents that a market value may be
+abbrev pub valueLimit : ℕ
+valueLimit = 100000000000
+
+-- the numbers of a row in the order of their columns, and the row of such a list
+unfoldable pub numbersOf : Row → List ℕ
+numbersOf r = r .side ∷ r .kind ∷ r .issuer ∷ r .days ∷ r .value ∷ []
+
+unfoldable pub rowBy : List ℕ → Row
+rowBy xs = record { side = getD xs 0 0; kind = getD xs 1 0; issuer = getD xs 2 0; days = getD xs 3 0; value = getD xs 4 0 }
+
 -- side 0 and 1, kind 0 to 2, issuer 0 to 10, days 1 to 36,500, market value 1 to 100,000,000,000 cents
 pub record Ranges (r : Row) : Type 0 where
   pub side : r .side ≤ 1
@@ -26,15 +38,22 @@ pub record Ranges (r : Row) : Type 0 where
   pub value-low : 1 ≤ r .value
   pub value-high : r .value ≤ 100000000000
 
--- the refusals of a row, each with its test: 4 side, 5 kind, 6 issuer, 7 days, 8 value outside its range
-unfoldable pub rowFaults : Row → List (Bool × ℕ)
-rowFaults r =
+-- the refusals of a row, each with its test: of what it is 4 side, 5 kind, 6 issuer, of its term 7 days, of its worth 8 value outside its range
+unfoldable pub identityFaults : Row → List (Bool × ℕ)
+identityFaults r =
     (not (within 0 1 (r .side)), 4)
     ∷ (not (within 0 2 (r .kind)), 5)
     ∷ (not (within 0 10 (r .issuer)), 6)
-    ∷ (not (within 1 36500 (r .days)), 7)
-    ∷ (not (within 1 100000000000 (r .value)), 8)
     ∷ []
+
+unfoldable pub termFaults : Row → List (Bool × ℕ)
+termFaults r = (not (within 1 36500 (r .days)), 7) ∷ []
+
+unfoldable pub worthFaults : Row → List (Bool × ℕ)
+worthFaults r = (not (within 1 valueLimit (r .value)), 8) ∷ []
+
+unfoldable pub rowFaults : Row → List (Bool × ℕ)
+rowFaults r = identityFaults r ++ termFaults r ++ worthFaults r
 
 -- the first that holds, 0 for none
 unfoldable pub faultOf : Row → ℕ

@@ -1,6 +1,7 @@
 // A holding: the raw numbers of a row, their ranges, and the record that numbers within them make.
 ghost use mathlib.Core.Path.{_≡_};
-ghost use Rattle.holding.specs.Holding.{sideOf, kindOf, issuerOf, faultOf, Builds, sideNumber, kindNumber, issuerNumber, rowOf};
+ghost use Rattle.lists.specs.Choice.{firstOf};
+ghost use Rattle.holding.specs.Holding.{identityFaults, termFaults, worthFaults, sideOf, kindOf, issuerOf, faultOf, Builds, sideNumber, kindNumber, issuerNumber, rowOf};
 
 pub enum Side {
     Long,
@@ -41,9 +42,9 @@ pub enum Built {
     Refused(u64),
 }
 
-// The number of a row's first fault, 4 to 8, or 0 for none.
-pub fn fault(row: Row) -> u64
-    ensures { λ r. ⌜ r ≡ faultOf row ⌝ }
+// The number of the first fault of what a row is, 4 to 6, or 0 for none.
+pub fn identity_fault(row: Row) -> u64
+    ensures { λ r. ⌜ r ≡ firstOf (identityFaults row) 0 ⌝ }
 {
     if row.side > 1 {
         return 4;
@@ -54,12 +55,26 @@ pub fn fault(row: Row) -> u64
     if row.issuer > 10 {
         return 6;
     }
+    0
+}
+
+// The fault of its term, 7, or 0.
+pub fn term_fault(row: Row) -> u64
+    ensures { λ r. ⌜ r ≡ firstOf (termFaults row) 0 ⌝ }
+{
     if row.days < 1 {
         return 7;
     }
     if row.days > 36500 {
         return 7;
     }
+    0
+}
+
+// The fault of its worth, 8, or 0.
+pub fn worth_fault(row: Row) -> u64
+    ensures { λ r. ⌜ r ≡ firstOf (worthFaults row) 0 ⌝ }
+{
     if row.value < 1 {
         return 8;
     }
@@ -67,6 +82,21 @@ pub fn fault(row: Row) -> u64
         return 8;
     }
     0
+}
+
+// The number of a row's first fault, 4 to 8, or 0 for none.
+pub fn fault(row: Row) -> u64
+    ensures { λ r. ⌜ r ≡ faultOf row ⌝ }
+{
+    let number = identity_fault(row);
+    if number != 0 {
+        return number;
+    }
+    let number = term_fault(row);
+    if number != 0 {
+        return number;
+    }
+    worth_fault(row)
 }
 
 fn side_of(side: u64) -> Side

@@ -1,6 +1,6 @@
 -- Tests on numbers and on lists of them, and lists of tests. Assumes nothing.
 use Prim.Native.Nat.{ℕ, _+_}
-use mathlib.Core.Bool.{Bool, true, false, cond, _&&_}
+use mathlib.Core.Bool.{Bool, true, false, cond, _&&_, _||_}
 use mathlib.Core.List.{List, [], _∷_}
 use lib.Dec.{leb, eqb}
 
@@ -19,6 +19,11 @@ same (x ∷ xs) (y ∷ ys) = eqb x y && same xs ys
 unfoldable pub firstOf : {A : Type 0} → List (Bool × A) → A → A
 firstOf [] last = last
 firstOf (t ∷ ts) last = cond (t .0) (t .1) (firstOf ts last)
+
+-- whether an element of a list passes a test
+unfoldable pub some : {A : Type 0} → (A → Bool) → List A → Bool
+some test [] = false
+some test (x ∷ xs) = test x || some test xs
 
 -- how many elements of a list pass a test
 unfoldable pub count : {A : Type 0} → (A → Bool) → List A → ℕ

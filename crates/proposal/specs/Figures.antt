@@ -3,17 +3,22 @@ use mathlib.Core.List.{List}
 use Prim.Native.Nat.{ℕ, _+_, _-_, _*_, _/_, _≤_}
 use Rattle.lists.specs.Sums.{sumTo}
 use Rattle.lists.specs.Tables.{listTo}
+use Rattle.holding.specs.Holding.{valueLimit}
+use Rattle.article.specs.Pair.{rateLimit, savingLimit}
 use Rattle.pairing.specs.Pairing.{used, pairUnits}
 use Rattle.pairing.specs.declared.Line.{Line}
 use Rattle.ranking.specs.Ranking.{rankingOf, Ranks}
 use Rattle.proposal.specs.Submission.{PricedBook, termsOf}
 
--- the most that one holding's margin can be, and the most that one line can save or one holding's price times value be
-abbrev pub marginLimit : ℕ
-marginLimit = 21900 * 100000000000
+-- the highest price, the most that one holding's margin can be, and the most that one line can save or one holding's price times value be
+abbrev pub priceLimit : ℕ
+priceLimit = 43800
 
-abbrev pub savingLimit : ℕ
-savingLimit = 43800 * 100000000000
+abbrev pub marginLimit : ℕ
+marginLimit = rateLimit * valueLimit
+
+abbrev pub savedLimit : ℕ
+savedLimit = savingLimit * valueLimit
 
 module _ (b : PricedBook) (lines : List Line) where
   -- a holding's remainder is its value less its amounts over all lines

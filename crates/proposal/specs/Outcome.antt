@@ -16,7 +16,7 @@ use Rattle.pairing.specs.Pairing.{savingRate, saving, pricedTotal}
 use Rattle.pairing.specs.declared.Line.{Line}
 use Rattle.proposal.specs.Submission.{Submission, PricedBook, termsOf, priced, noRow, noLine}
 use Rattle.proposal.specs.declared.Fault.{Fault}
-use Rattle.proposal.specs.Figures.{remainder, unitsOf, centsOf}
+use Rattle.proposal.specs.Figures.{priceLimit, remainder, unitsOf, centsOf}
 
 -- the paper's number and places of what is found: number 0 for no fault
 unfoldable pub faultAnswer : Fault → Answer
@@ -26,9 +26,9 @@ faultAnswer f = makeAnswer (f .number) (f .place) (f .second)
 unfoldable pub atPlace : ℕ → List (Bool × ℕ) → List (Bool × Answer)
 atPlace place faults = map (λ f. (f .0, makeAnswer (f .1) place 0)) faults
 
--- of a holding 4 to 8, then 10 price above 43,800
+-- of a holding 4 to 8, then 10 price above the highest, 43,800
 unfoldable pub holdingFaults : Row → ℕ → List (Bool × ℕ)
-holdingFaults row price = rowFaults row ++ ((ltb 43800 price, 10) ∷ [])
+holdingFaults row price = rowFaults row ++ ((ltb priceLimit price, 10) ∷ [])
 
 -- of a line on two legs of the book with so much left of each: 12 the first leg not long or the second not short, 13 pair not allowed,
 -- 14 amount zero, 15 amount above what remains of either leg

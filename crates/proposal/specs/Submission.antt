@@ -1,5 +1,5 @@
 -- Document 01, "A proposal and its check": what is submitted to the check, and the terms of its book. Assumes nothing.
-use mathlib.Core.List.{List, map}
+use mathlib.Core.List.{List, [], _∷_, map}
 use Prim.Native.Nat.{ℕ}
 use lib.ListN.{length, getD}
 use Rattle.lists.specs.Tables.{listTo}
@@ -18,6 +18,13 @@ pub record Submission : Type 0 where
   pub rows : List Row
   pub prices : List ℕ
   pub lines : List Line
+
+-- the numbers of a line in the order of their columns, and the line of such a list
+unfoldable pub lineNumbers : Line → List ℕ
+lineNumbers l = l .long ∷ l .short ∷ l .amount ∷ []
+
+unfoldable pub lineBy : List ℕ → Line
+lineBy xs = record { long = getD xs 0 0; short = getD xs 1 0; amount = getD xs 2 0 }
 
 -- what is read where nothing stands
 abbrev pub noRow : Row

@@ -1,104 +1,51 @@
 -- Document 01, "The lengths: neither 1 nor 2 below holds of what is lent": the byte lengths of what is lent. Assumes nothing.
 use mathlib.Core.Path.{_≡_}
-use mathlib.Core.Bool.{Bool, not, _&&_, _||_}
+use mathlib.Core.Bool.{Bool, not, _||_}
+use mathlib.Core.List.{List}
 use Prim.Native.Nat.{ℕ, _*_, _/_, _≤_}
 use lib.Dec.{ltb, eqb}
-use Rattle.lists.specs.Choice.{firstOf}
+use lib.ListN.{getD}
+use Rattle.lists.specs.Choice.{firstOf, some}
+use Rattle.lists.specs.Each.{Each}
 use Rattle.proposal.specs.Outcome.{sizeFaults}
 
--- the byte lengths of what is lent
+-- as many entries as the first of several columns has whole eight bytes
+unfoldable pub entriesOf : List ℕ → ℕ
+entriesOf columns = getD columns 0 0 / 8
+
+-- each has eight bytes for each of them, and none besides
+abbrev pub Equal : List ℕ → Type 0
+Equal columns = Each (λ size. size ≡ 8 * entriesOf columns) columns
+
+-- 1 holding columns, or line columns, differ in length, or a byte length is no multiple of eight
+unfoldable pub unequal : List ℕ → Bool
+unequal columns = some (λ size. not (eqb size (8 * entriesOf columns))) columns
+
+unfoldable pub differ : List ℕ → List ℕ → Bool
+differ holdings lines = unequal holdings || unequal lines
+
+-- lists to be written, each as the entries that it is to hold and its byte length, hold them, and the answer slice its 16 bytes
+pub record Room (lists : List (ℕ × ℕ)) (slice : ℕ) : Type 0 where
+  pub each : Each (λ list. list .0 ≤ list .1 / 8) lists
+  pub answer : 16 ≤ slice
+
+-- 2 a lent list is shorter than what must be written
+unfoldable pub tooShort : List (ℕ × ℕ) → ℕ → Bool
+tooShort lists slice = some (λ list. ltb (list .1 / 8) (list .0)) lists || ltb slice 16
+
+-- the byte lengths of what the check is lent: of the holding columns, of the line columns, of the lists to be written, and of the answer slice
 pub record Sizes : Type 0 where
-  pub side : ℕ
-  pub kind : ℕ
-  pub issuer : ℕ
-  pub days : ℕ
-  pub value : ℕ
-  pub price : ℕ
-  pub long : ℕ
-  pub short : ℕ
-  pub amount : ℕ
-  pub remainder : ℕ
-  pub ranking : ℕ
-  pub answer : ℕ
+  pub holdings : List ℕ
+  pub lines : List ℕ
+  pub lists : List (ℕ × ℕ)
+  pub slice : ℕ
 
-abbrev pub makeSizes : ℕ → ℕ → ℕ → ℕ → ℕ → ℕ → ℕ → ℕ → ℕ → ℕ → ℕ → ℕ → Sizes
-makeSizes side kind issuer days value price long short amount remainder ranking answer = record {
-  side = side;
-  kind = kind;
-  issuer = issuer;
-  days = days;
-  value = value;
-  price = price;
-  long = long;
-  short = short;
-  amount = amount;
-  remainder = remainder;
-  ranking = ranking;
-  answer = answer;
-}
+-- the lengths: neither 1 nor 2 holds of what is lent
+pub record Lengths (z : Sizes) : Type 0 where
+  pub holdings : Equal (z .holdings)
+  pub lines : Equal (z .lines)
+  pub room : Room (z .lists) (z .slice)
 
-module _ (z : Sizes) where
-  -- holdings and lines, by the first column of each
-  abbrev pub holdings : ℕ
-  holdings = z .side / 8
-
-  abbrev pub lines : ℕ
-  lines = z .long / 8
-
-  -- the lengths: neither 1 nor 2 holds of what is lent. Each column has eight bytes for each holding, or each line, and none besides; each list
-  -- to be written has an entry for each holding, and the answer slice 16 bytes
-  pub record Lengths : Type 0 where
-    pub side : z .side ≡ 8 * holdings
-    pub kind : z .kind ≡ 8 * holdings
-    pub issuer : z .issuer ≡ 8 * holdings
-    pub days : z .days ≡ 8 * holdings
-    pub value : z .value ≡ 8 * holdings
-    pub price : z .price ≡ 8 * holdings
-    pub long : z .long ≡ 8 * lines
-    pub short : z .short ≡ 8 * lines
-    pub amount : z .amount ≡ 8 * lines
-    pub remainder : holdings ≤ z .remainder / 8
-    pub ranking : holdings ≤ z .ranking / 8
-    pub answer : 16 ≤ z .answer
-
-  -- 1 holding columns, or line columns, differ in length, or a byte length is no multiple of eight
-  unfoldable pub differ : Bool
-  differ =
-      not (
-      eqb (z .side) (8 * holdings)
-      && eqb (z .kind) (8 * holdings)
-      && eqb (z .issuer) (8 * holdings)
-      && eqb (z .days) (8 * holdings)
-      && eqb (z .value) (8 * holdings)
-      && eqb (z .price) (8 * holdings)
-      && eqb (z .long) (8 * lines)
-      && eqb (z .short) (8 * lines)
-      && eqb (z .amount) (8 * lines)
-      )
-
-  -- 2 a lent list is shorter than what must be written
-  unfoldable pub tooShort : Bool
-  tooShort = ltb (z .remainder / 8) holdings || ltb (z .ranking / 8) holdings || ltb (z .answer) 16
-
-  -- the first that holds of 1, 3, 9, 2, or 0
-  unfoldable pub lengthFault : ℕ
-  lengthFault = firstOf (sizeFaults differ tooShort holdings lines) 0
-
--- what reading a book, reading a proposal and writing the lists ask of the byte lengths
-pub record BookFits (side kind issuer days value : ℕ) : Type 0 where
-  pub few : side / 8 ≤ 256
-  pub same-kind : kind ≡ side
-  pub same-issuer : issuer ≡ side
-  pub same-days : days ≡ side
-  pub same-value : value ≡ side
-
-pub record ProposalFits (price long short amount : ℕ) : Type 0 where
-  pub holdings : price / 8 ≤ 256
-  pub lines : long / 8 ≤ 512
-  pub same-short : short ≡ long
-  pub same-amount : amount ≡ long
-
-pub record ListsFit (n remainder ranking : ℕ) : Type 0 where
-  pub few : n ≤ 256
-  pub long-remainder : 8 * n ≤ remainder
-  pub long-ranking : 8 * n ≤ ranking
+-- the first that holds of 1, 3, 9, 2, or 0; `two` says whether 2 holds of what is lent
+unfoldable pub lengthFault : List ℕ → List ℕ → Bool → ℕ
+lengthFault holdings lines two = firstOf (sizeFaults (differ holdings lines) two (entriesOf holdings) (entriesOf lines)) 0

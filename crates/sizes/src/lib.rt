@@ -1,9 +1,9 @@
 // The byte lengths of what the host lends.
 ghost use mathlib.Core.Path.{_≡_};
-ghost use Rattle.sizes.specs.Room.{makeRoom, columnsTooShort};
-ghost use Rattle.sizes.specs.Sizes.{makeSizes, lengthFault};
+ghost use mathlib.Core.List.{[], _∷_};
+ghost use Rattle.sizes.specs.Sizes.{tooShort, lengthFault};
 
-// The refusal by the lengths of what is lent, in document 01's order 1, 3, 9, 2, or 0.
+// The refusal by the lengths of what is lent, in document 01's order 1, 3, 9, 2, or 0; `two` says whether 2 holds.
 pub fn lengths(
     side: usize,
     kind: usize,
@@ -14,11 +14,9 @@ pub fn lengths(
     long: usize,
     short: usize,
     amount: usize,
-    remainder: usize,
-    ranking: usize,
-    answer: usize,
+    two: bool,
 ) -> u64
-    ensures { λ r. ⌜ r ≡ lengthFault (makeSizes side kind issuer days value price long short amount remainder ranking answer) ⌝ }
+    ensures { λ r. ⌜ r ≡ lengthFault (side ∷ kind ∷ issuer ∷ days ∷ value ∷ price ∷ []) (long ∷ short ∷ amount ∷ []) two ⌝ }
 {
     let n = side / 8;
     let m = long / 8;
@@ -42,14 +40,21 @@ pub fn lengths(
     if m > 512 {
         return 9;
     }
-    if (remainder / 8 < n) | (ranking / 8 < n) | (answer < 16) {
+    if two {
         return 2;
     }
     0
 }
 
-// Whether a list that the reader fills is shorter than what must be written: an entry for each holding, or each line, and the answer slice's 16 bytes.
-pub fn too_short(
+// Whether a list that the check writes is shorter than what must be written: an entry for each of n holdings, and the answer slice's 16 bytes.
+pub fn lists_too_short(n: usize, remainder: usize, ranking: usize, answer: usize) -> bool
+    ensures { λ r. ⌜ r ≡ tooShort ((n, remainder) ∷ (n, ranking) ∷ []) answer ⌝ }
+{
+    (remainder / 8 < n) | (ranking / 8 < n) | (answer < 16)
+}
+
+// The same of the lists that the reader fills: an entry for each holding, or each line.
+pub fn columns_too_short(
     holdings: usize,
     lines: usize,
     side: usize,
@@ -63,7 +68,7 @@ pub fn too_short(
     amount: usize,
     answer: usize,
 ) -> bool
-    ensures { λ r. ⌜ r ≡ columnsTooShort holdings lines (makeRoom side kind issuer days value price long short amount answer) ⌝ }
+    ensures { λ r. ⌜ r ≡ tooShort ((holdings, side) ∷ (holdings, kind) ∷ (holdings, issuer) ∷ (holdings, days) ∷ (holdings, value) ∷ (holdings, price) ∷ (lines, long) ∷ (lines, short) ∷ (lines, amount) ∷ []) answer ⌝ }
 {
     (side / 8 < holdings)
         | (kind / 8 < holdings)
