@@ -1,1 +1,2 @@
-pub mod Repeats
+pub mod Cover
+pub mod Shorts

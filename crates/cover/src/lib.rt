@@ -1,97 +1,230 @@
 // Whether the prices cover the book, and what they add up to.
 use article::pair::Leg;
-use positions::Positions;
 use proposal::Fault;
 ghost use mathlib.Core.Path.{_≡_};
-ghost use Prim.Native.Nat.{_<_};
-ghost use Rattle.article.specs.Pair.{RateInRange};
-ghost use Rattle.pairing.specs.Pairing.{pricedTotal};
-ghost use Rattle.proposal.specs.Submission.{termsOf};
-ghost use Rattle.proposal.specs.Outcome.{faultAnswer, uncoveredPairs, firstFault};
-ghost use Rattle.positions.specs.Positions.{heldBook, InBounds};
-ghost use Rattle.cover.specs.Repeats.{Repeats};
+ghost use mathlib.Core.Bool.{false};
+ghost use Prim.Native.Nat.{_-_, _*_, _≤_, _<_, min};
+ghost use Rattle.article.specs.Pair.{rateLimit};
+ghost use Rattle.packed.specs.Held.{AtMost, entry};
+ghost use Rattle.cover.specs.Cover.{Priced, FirstOpen, Finds, Valued, Totals};
+ghost use Rattle.cover.specs.Shorts.{markOf, Asks, Covered, Places, Shorts};
 
-// A slot of 256 for a leg: alike legs have one. Which others share it is not promised, and costs only time.
-fn slot_of(leg: Leg) -> usize
-    requires { ⌜ RateInRange leg ⌝ }
-    ensures { λ r. ⌜ r < 256 ⌝ }
+// What a pair asks of a leg beside its side and its rate, as one small number: its period, its kind and its issuer.
+fn mark_of(leg: Leg) -> u16
+    requires { ⌜ leg .period < 256 ⌝ }
+    ensures { λ r. ⌜ r ≡ markOf leg ⌝ }
 {
-    ((leg.rate + 2 * (leg.period % 8) + leg.side % 2) % 256) as usize
+    (64 * leg.period + 16 * (leg.kind % 4) + leg.issuer % 16) as u16
 }
 
-// By the numbers of the holdings: one more than the number of an earlier one that it repeats, or 0 where none is known.
-fn repeats(positions: Positions) -> [u64; 256]
-    requires { ⌜ InBounds positions ⌝ }
-    ensures { λ r. ⌜ Repeats (heldBook positions) r ⌝ }
+fn twice_lesser(a: u16, b: u16) -> u16
+    requires { ⌜ (a ≤ rateLimit) × (b ≤ rateLimit) ⌝ }
+    ensures { λ r. ⌜ r ≡ 2 * min a b ⌝ }
 {
-    let n = positions.count;
-    let mut repeats = lists::zeros();
-    let mut latest = lists::zeros();
-    let mut holding: usize = 0;
-    while holding < n {
-        let leg = positions.legs[holding];
-        let slot = slot_of(leg);
-        let earlier = latest[slot] as usize;
-        if earlier < holding
-            && positions.prices[earlier] <= positions.prices[holding]
-            && savings::alike(positions.legs[earlier], leg)
-        {
-            repeats[holding] = earlier as u64 + 1;
-        } else {
-            latest[slot] = holding as u64;
-        }
-        holding = holding + 1;
+    if b < a { 2 * b } else { 2 * a }
+}
+
+// At least what a long and a short save as a pair, by their marks and their rates a and b. Nothing else of the scan knows the pair rules.
+fn asked(long: u16, a: u16, short: u16, b: u16) -> u16
+    requires { ⌜ (a ≤ rateLimit) × (b ≤ rateLimit) ⌝ }
+    ensures { λ r. ⌜ Asks long a short b r ⌝ }
+{
+    if long / 64 != short / 64 {
+        return 0;
     }
-    repeats
+    if long % 64 < 16 {
+        if short % 64 < 16 {
+            return 0;
+        }
+    }
+    let half = (a + b + 1) / 2;
+    let twice = twice_lesser(a, b);
+    if long % 16 == 0 {
+        if short % 16 == 0 {
+            return twice;
+        }
+        return half;
+    }
+    if short % 16 == 0 {
+        return half;
+    }
+    twice
 }
 
-// The first allowed pair of the book that the prices do not cover, lowest long, then lowest short, or no fault. A holding that repeats an
-// earlier one is passed over: the earlier one is in an uncovered pair wherever it is.
-pub fn first_uncovered(positions: Positions) -> Fault
-    requires { ⌜ InBounds positions ⌝ }
-    ensures { λ r. ⌜ faultAnswer r ≡ firstFault (uncoveredPairs (heldBook positions)) ⌝ }
+// What a number is above another.
+fn above(a: u16, b: u16) -> u16
+    ensures { λ r. ⌜ r ≡ a - b ⌝ }
 {
-    let n = positions.count;
-    let repeats = repeats(positions);
+    if b < a { a - b } else { 0 }
+}
+
+fn greater(a: u16, b: u16) -> u16
+    ensures { λ r. ⌜ (a ≤ r) × (b ≤ r) ⌝ }
+{
+    if a < b { b } else { a }
+}
+
+// Whether a long with this mark, rate and price may be uncovered with one of the first m shorts. The loop has no exit: so it runs on many
+// shorts at once.
+fn row_open(
+    m: usize,
+    marks: &[u16; 256],
+    rates: &[u16; 256],
+    prices: &[u16; 256],
+    mark: u16,
+    rate: u16,
+    price: u16,
+) -> bool
+    requires { ⌜ (m ≤ 256) × ((rate ≤ rateLimit) × (AtMost rateLimit m (entry (now rates)))) ⌝ }
+    ensures { λ r. ⌜ (r ≡ false → Covered mark rate price (now (marks .entry)) (now (rates .entry)) (now (prices .entry)) m) ⌝ }
+{
+    let mut worst: u16 = 0;
+    let mut j: usize = 0;
+    while j < m {
+        let s = asked(mark, rate, marks[j], rates[j]);
+        let missing = above(above(s, price), prices[j]);
+        worst = greater(worst, missing);
+        j = j + 1;
+    }
+    0 < worst
+}
+
+// The shorts of the first n holdings in columns, and how many they are.
+fn shorts_of(
+    n: usize,
+    legs: &[u64],
+    price: &[u8],
+    marks: &mut [u16; 256],
+    rates: &mut [u16; 256],
+    prices: &mut [u16; 256],
+) -> usize
+    requires { ⌜ Priced n (now legs) (now price) × Places (now marks) (now rates) (now prices) ⌝ }
+    ensures { λ r. ⌜ Shorts n (now (legs .entry)) (now (price .entry)) (now (marks .exit)) (now (rates .exit)) (now (prices .exit)) r ⌝ }
+{
+    let mut m: usize = 0;
+    let mut j: usize = 0;
+    while j < n {
+        let leg = packed::leg_in(legs[j]);
+        if leg.side == 1 {
+            marks[m] = mark_of(leg);
+            rates[m] = leg.rate as u16;
+            prices[m] = words::word(price, j) as u16;
+            m = m + 1;
+        }
+        j = j + 1;
+    }
+    m
+}
+
+// The first holding that holding i is not covered with as the long, or n where there is none.
+fn first_open(n: usize, legs: &[u64], price: &[u8], i: usize) -> usize
+    requires { ⌜ Priced n (now legs) (now price) × (i < n) ⌝ }
+    ensures { λ r. ⌜ FirstOpen n (now (legs .entry)) (now (price .entry)) i r ⌝ }
+{
+    let long = packed::leg_in(legs[i]);
+    if long.side != 0 {
+        return n;
+    }
+    let first = words::word(price, i);
+    let mut j: usize = 0;
+    while j < n {
+        let short = packed::leg_in(legs[j]);
+        let second = words::word(price, j);
+        if first + second < savings::saving(long, short) {
+            return j;
+        }
+        j = j + 1;
+    }
+    n
+}
+
+// Every holding as the long, one after another.
+fn searched(n: usize, legs: &[u64], price: &[u8]) -> Fault
+    requires { ⌜ Priced n (now legs) (now price) ⌝ }
+    ensures { λ r. ⌜ Finds n (now (legs .entry)) (now (price .entry)) r ⌝ }
+{
     let mut i: usize = 0;
     while i < n {
-        let long = positions.legs[i];
-        if long.side == 0 && repeats[i] == 0 {
-            let price = positions.prices[i];
-            let mut j: usize = 0;
-            while j < n {
-                if repeats[j] == 0 {
-                    let short = positions.legs[j];
-                    if price + positions.prices[j] < savings::saving(long, short) {
-                        return Fault {
-                            number: 16,
-                            place: i as u64,
-                            second: j as u64,
-                        };
-                    }
+        let j = first_open(n, legs, price, i);
+        if j < n {
+            return proposal::fault_at(16, i, j);
+        }
+        i = i + 1;
+    }
+    proposal::fault_at(0, 0, 0)
+}
+
+// The same, where the scan of the shorts passes over the longs that it finds covered.
+fn scanned(
+    n: usize,
+    legs: &[u64],
+    price: &[u8],
+    m: usize,
+    marks: &[u16; 256],
+    rates: &[u16; 256],
+    prices: &[u16; 256],
+) -> Fault
+    requires { ⌜ Priced n (now legs) (now price) × Shorts n (now legs) (now price) (now marks) (now rates) (now prices) m ⌝ }
+    ensures { λ r. ⌜ Finds n (now (legs .entry)) (now (price .entry)) r ⌝ }
+{
+    let mut i: usize = 0;
+    while i < n {
+        let long = packed::leg_in(legs[i]);
+        if long.side == 0 {
+            let first = words::word(price, i);
+            if row_open(
+                m,
+                marks,
+                rates,
+                prices,
+                mark_of(long),
+                long.rate as u16,
+                first as u16,
+            ) {
+                let j = first_open(n, legs, price, i);
+                if j < n {
+                    return proposal::fault_at(16, i, j);
                 }
-                j = j + 1;
             }
         }
         i = i + 1;
     }
-    Fault {
-        number: 0,
-        place: 0,
-        second: 0,
+    proposal::fault_at(0, 0, 0)
+}
+
+fn scan(n: usize, legs: &[u64], price: &[u8]) -> Fault
+    requires { ⌜ Priced n (now legs) (now price) ⌝ }
+    ensures { λ r. ⌜ Finds n (now (legs .entry)) (now (price .entry)) r ⌝ }
+{
+    let mut marks = [0u16; 256];
+    let mut rates = [0u16; 256];
+    let mut prices = [0u16; 256];
+    let m = shorts_of(n, legs, price, &mut marks, &mut rates, &mut prices);
+    scanned(n, legs, price, m, &marks, &rates, &prices)
+}
+
+// The first allowed pair of the book that the prices do not cover, lowest long, then lowest short, or no fault. Columns of the shorts are
+// worth their making from nine holdings on.
+pub fn first_uncovered(n: usize, legs: &[u64], price: &[u8]) -> Fault
+    requires { ⌜ Priced n (now legs) (now price) ⌝ }
+    ensures { λ r. ⌜ Finds n (now (legs .entry)) (now (price .entry)) r ⌝ }
+{
+    if n < 9 {
+        return searched(n, legs, price);
     }
+    scan(n, legs, price)
 }
 
 // The sum of price times whole market value.
-pub fn priced_total(positions: Positions) -> u64
-    requires { ⌜ InBounds positions ⌝ }
-    ensures { λ r. ⌜ r ≡ pricedTotal (termsOf (heldBook positions)) (heldBook positions .price) ⌝ }
+pub fn priced_total(price: &[u8], value: &[u8]) -> u64
+    requires { ⌜ Valued (now price) (now value) ⌝ }
+    ensures { λ r. ⌜ Totals (now (price .entry)) (now (value .entry)) r ⌝ }
 {
-    let n = positions.count;
+    let n = price.len() / 8;
     let mut total: u64 = 0;
     let mut k: usize = 0;
     while k < n {
-        total = total + positions.prices[k] * positions.values[k];
+        total = total + words::word(price, k) * words::word(value, k);
         k = k + 1;
     }
     total

@@ -18,6 +18,9 @@ use Rattle.proposal.specs.Submission.{Submission, PricedBook, termsOf, p
 use Rattle.proposal.specs.declared.Fault.{Fault}
 use Rattle.proposal.specs.Figures.{priceLimit, remainder, unitsOf, centsOf}
 
+abbrev pub makeFault : ℕ → ℕ → ℕ → Fault
+makeFault number place second = record { number = number; place = place; second = second }
+
 -- the paper's number and places of what is found: number 0 for no fault
 unfoldable pub faultAnswer : Fault → Answer
 faultAnswer f = makeAnswer (f .number) (f .place) (f .second)

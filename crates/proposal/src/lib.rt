@@ -4,6 +4,7 @@ use pairing::Line;
 ghost use mathlib.Core.Path.{_≡_};
 ghost use lib.ListN.{replicate};
 ghost use Rattle.proposal.specs.Submission.{noRow, noLine};
+ghost use Rattle.proposal.specs.Outcome.{makeFault};
 
 // The first `count` rows are the book's holdings, numbered from 0. A book of more than 256 is refused.
 pub struct Book {
@@ -23,6 +24,17 @@ pub struct Fault {
     pub number: u64,
     pub place: u64,
     pub second: u64,
+}
+
+// A refusal at two places, number 0 for none.
+pub fn fault_at(number: u64, place: usize, second: usize) -> Fault
+    ensures { λ r. ⌜ r ≡ makeFault number place second ⌝ }
+{
+    Fault {
+        number,
+        place: place as u64,
+        second: second as u64,
+    }
 }
 
 // No row at any number.

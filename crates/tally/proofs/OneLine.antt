@@ -1,106 +1,130 @@
--- What one line does to a tally: each refusal leaves it as it was, and two writes take the amount off both legs. Assumes nothing.
-use mathlib.Core.Path.{_≡_, refl, sym, ap, _∙_}
-use mathlib.Core.Bool.{Bool, true, false}
+-- The answer on one line: each refusal where those before it do not hold, then the line taken off; and what an answer says. Assumes nothing.
+use mathlib.Core.Path.{_≡_, refl, ap}
+use mathlib.Core.Bool.{Bool, true, false, and-eq-true-iff}
 use mathlib.Core.List.{List, [], _∷_}
 use Prim.Native.Nat.{ℕ, _+_, _-_, _*_, _≤_, _<_}
+use native.Mathlib.Nat.{le-trans, mul-le-mul}
 use native.Mathlib.Omega.{arith}
-use lib.Dec.{eqb}
-use lib.ListN.{length, getD, set, length-set}
-use lib.Seq.{ext-getD, getD-set-same, getD-set-other}
-use borrow.Author.Tests.{eqb-true, eqb-false}
+use lib.Dec.{ltb, eqb}
+use borrow.Author.Tests.{not-false, ltb-false, eqb-true}
 use Rattle.lists.specs.Choice.{firstOf}
-use Rattle.lists.specs.Tables.{listTo}
-use Rattle.lists.proofs.Tests.{tests}
-use Rattle.lists.proofs.Tables.{length-to, getD-to}
-use Rattle.article.specs.Pair.{isLong, isShort, allowed}
+use Rattle.lists.proofs.Tests.{tests, neither}
+use Rattle.lists.proofs.Firsts.{None, Listed}
+use Rattle.article.specs.Pair.{isLong, isShort, allowed, pairRate, savingRate}
 use Rattle.article.specs.declared.pair.Leg.{Leg}
-use Rattle.pairing.specs.Pairing.{used}
-use Rattle.pairing.specs.declared.Line.{Line}
-use Rattle.pairing.proofs.Used.{used-one-long, used-one-short, used-one-other}
+use Rattle.article.proofs.Legs.{allowed-high}
+use Rattle.article.proofs.PairRates.{saving-high}
+use Rattle.article.proofs.Told.{Told}
 use Rattle.proposal.specs.Outcome.{pairFaults}
-use Rattle.tally.specs.Tally.{taken, keptAt, Ready, Applies}
+use Rattle.proposal.proofs.Places.{pair-listed}
+use Rattle.tally.specs.Applied.{refusals, taken, appliedOf, Ready, Applies}
 use Rattle.tally.specs.declared.Tally.{Tally}
 use Rattle.tally.specs.declared.Applied.{Applied}
-use Rattle.article.proofs.Answered.{Answered}
+use Rattle.tally.specs.declared.Applied.the-variants.{Taken, Refused}
 
--- the amount of a line off its long
-abbrev long-written : List ℕ → Line → List ℕ
-long-written left l = set left (l .long) (getD left (l .long) 0 - l .amount)
+-- one line adds no more units and no more saving than the highest rates times the highest value
+pub record High (amount rate save : ℕ) : Type 0 where
+  pub units : rate * amount ≤ 21900 * 100000000000
+  pub saving : save * amount ≤ 43800 * 100000000000
 
--- and off its short
-abbrev written : List ℕ → Line → List ℕ
-written left l = set (long-written left l) (l .short) (getD left (l .short) 0 - l .amount)
+pub high : {amount rate save : ℕ} → amount ≤ 100000000000 → rate ≤ 21900 → save ≤ 43800 → High amount rate save
+high amount rate save = record { units = mul-le-mul rate amount; saving = mul-le-mul save amount }
 
-length-written : (left : List ℕ) (l : Line) → length (written left l) ≡ length left
-length-written left l = length-set (long-written left l) (l .short) _ ∙ length-set left (l .long) _
-
--- on two numbers that differ, the two writes are the line off
-module _ (left : List ℕ) (l : Line) (apart : l .long ≡ l .short → ⊥) (n : length left ≡ 256) (p : l .long < 256) (q : l .short < 256) where
-  written-at : (k : ℕ) (s f : Bool) → eqb (l .short) k ≡ s → eqb (l .long) k ≡ f → getD (written left l) k 0 ≡ getD left k 0 - used (l ∷ []) k
-  written-at k true f e g =
-      rw (← eqb-true (l .short) k e, used-one-short l apart)
-      (getD-set-same (long-written left l) (l .short) _ 0 (omega (arith, length-set left (l .long) (getD left (l .long) 0 - l .amount))))
-  written-at k false true e g =
-      rw (← eqb-true (l .long) k g, used-one-long l apart)
-      (getD-set-other (long-written left l) (l .short) (l .long) _ 0 apart ∙ getD-set-same left (l .long) _ 0 (omega arith))
-  written-at k false false e g =
-      rw (used-one-other l k (eqb-false _ _ g) (eqb-false _ _ e))
-      (getD-set-other (long-written left l) (l .short) k _ 0 (λ r. eqb-false _ _ e (sym r))
-      ∙ getD-set-other left (l .long) k _ 0 (λ r. eqb-false _ _ g (sym r))
-      ∙ omega arith)
-
-  two-writes : written left l ≡ listTo 256 (λ k. getD left k 0 - used (l ∷ []) k)
-  two-writes =
-      ext-getD 0 (written left l) _ (length-written left l ∙ n ∙ sym (length-to 256 _))
-      (λ k h. written-at k _ _ refl refl ∙ sym (getD-to 256 _ k 0 (omega (arith, length-written left l))))
-
--- the tally when the code has written a line off and added its units and its saving
-abbrev written-off : Tally → Line → ℕ → ℕ → Tally
-written-off t l rate save = record {
-  left = written (t .left) l;
-  units = t .units + rate * l .amount;
-  saving = t .saving + save * l .amount;
-}
-
--- refusals 12 to 15 in turn, each where those before it do not hold; then the line taken off
-module _ {t : Tally} {l : Line} {long short : Leg} where
-  pub not-long : {r : Applied} → (long .side ≡ 0 → ⊥) → r ≡ keptAt 12 t → Applies t l long short r
-  unfolding keptAt pairFaults firstOf isLong isShort
-  not-long h e = rw e (record { number = search tests; tally = refl })
+module _ {t : Tally} {amount : ℕ} {long short : Leg} where
+  -- refusals 12 to 15 in turn; then the line taken off
+  pub not-long : (long .side ≡ 0 → ⊥) → Applies t amount long short (Refused 12)
+  unfolding appliedOf refusals pairFaults firstOf isLong isShort
+  not-long h = record { answer = search tests }
 
   module _ (a-long : long .side ≡ 0) where
-    pub not-short : {r : Applied} → (short .side ≡ 1 → ⊥) → r ≡ keptAt 12 t → Applies t l long short r
-    unfolding keptAt pairFaults firstOf isLong isShort
-    not-short h e = rw e (record { number = search tests; tally = refl })
+    pub not-short : (short .side ≡ 1 → ⊥) → Applies t amount long short (Refused 12)
+    unfolding appliedOf refusals pairFaults firstOf isLong isShort
+    not-short h = record { answer = search tests }
 
     module _ (a-short : short .side ≡ 1) where
-      pub not-allowed : {r : Applied} → allowed long short ≡ false → r ≡ keptAt 13 t → Applies t l long short r
-      unfolding keptAt pairFaults firstOf isLong isShort
-      not-allowed h e = rw e (record { number = search (tests, h); tally = refl })
+      pub not-allowed : allowed long short ≡ false → Applies t amount long short (Refused 13)
+      unfolding appliedOf refusals pairFaults firstOf isLong isShort
+      not-allowed h = record { answer = search (tests, h) }
 
       module _ (may : allowed long short ≡ true) where
-        pub no-amount : {r : Applied} → l .amount ≡ 0 → r ≡ keptAt 14 t → Applies t l long short r
-        unfolding keptAt pairFaults firstOf isLong isShort
-        no-amount z e = rw e (record { number = search (tests, may); tally = refl })
+        pub no-amount : amount ≡ 0 → Applies t amount long short (Refused 14)
+        unfolding appliedOf refusals pairFaults firstOf isLong isShort
+        no-amount z = record { answer = search (tests, may) }
 
-        module _ (some : l .amount ≡ 0 → ⊥) where
-          pub above-long : {r : Applied} → getD (t .left) (l .long) 0 < l .amount → r ≡ keptAt 15 t → Applies t l long short r
-          unfolding keptAt pairFaults firstOf isLong isShort
-          above-long h e = rw e (record { number = search (tests, may); tally = refl })
+        module _ (some : amount ≡ 0 → ⊥) where
+          pub above-long : t .«long_left» < amount → Applies t amount long short (Refused 15)
+          unfolding appliedOf refusals pairFaults firstOf isLong isShort
+          above-long h = record { answer = search (tests, may) }
 
-          module _ (within : l .amount ≤ getD (t .left) (l .long) 0) where
-            pub above-short : {r : Applied} → getD (t .left) (l .short) 0 < l .amount → r ≡ keptAt 15 t → Applies t l long short r
-            unfolding keptAt pairFaults firstOf isLong isShort
-            above-short h e = rw e (record { number = search (tests, may); tally = refl })
+          module _ (within : amount ≤ t .«long_left») where
+            pub above-short : t .«short_left» < amount → Applies t amount long short (Refused 15)
+            unfolding appliedOf refusals pairFaults firstOf isLong isShort
+            above-short h = record { answer = search (tests, may) }
 
-            pub accepted : Ready t l long short → length (t .left) ≡ 256 → l .amount ≤ getD (t .left) (l .short) 0 → {rate save : ℕ}
-                → Answered long short rate save → Applies t l long short (record { number = 0; tally = written-off t l rate save })
-            unfolding pairFaults firstOf isLong isShort taken
-            accepted ready n h answered = record {
-              number = search (tests, may);
-              tally = λ i. record {
-                left = two-writes (t .left) l (λ e. omega (arith, ap (λ (x : Leg). x .side) (ready .one-leg e))) n (ready .first) (ready .second) i;
-                units = t .units + answered .pair-rate i * l .amount;
-                saving = t .saving + answered .saving-rate i * l .amount;
-              };
-            }
+            pub accepted : amount ≤ t .«short_left» → {rate save : ℕ} → Told long short rate save
+                → Applies t amount long short (Taken (record {
+                  «long_left» = t .«long_left» - amount;
+                  «short_left» = t .«short_left» - amount;
+                  units = t .units + rate * amount;
+                  saving = t .saving + save * amount;
+                }))
+            unfolding appliedOf refusals pairFaults firstOf isLong isShort taken
+            accepted h told = record { answer = rw (told .pair-rate, told .saving-rate) (search (tests, may)) }
+
+-- what is answered by a number is the first refusal, whatever follows; what is answered by a tally, no refusal
+first-refused : (fs : List (Bool × ℕ)) (t : Tally) (n : ℕ) → Refused n ≡ firstOf (refusals fs) (Taken t) → Listed fs → (n ≡ firstOf fs 0) × (1 ≤ n)
+unfolding refusals firstOf
+first-refused [] t n e h =
+    let z : _≡_ {A = ℕ} 0 1 = cc in
+    absurd (omega arith)
+first-refused ((true, m) ∷ fs) t n e h =
+    let z : n ≡ m = cc in
+    (z, rw z (h .0))
+first-refused ((false, m) ∷ fs) t n e h = first-refused fs t n e (h .1)
+
+first-taken : (fs : List (Bool × ℕ)) (t t′ : Tally) → Taken t′ ≡ firstOf (refusals fs) (Taken t) → None fs × (t′ ≡ t)
+unfolding refusals firstOf
+first-taken [] t t′ e = (tt, cc)
+first-taken ((true, m) ∷ fs) t t′ e =
+    let z : _≡_ {A = ℕ} 0 1 = cc in
+    absurd (omega arith)
+first-taken ((false, m) ∷ fs) t t′ e =
+    let (n, s) = first-taken fs t t′ e in
+    ((refl, n), s)
+
+-- no refusal holds: the pair is allowed, and its long has the amount; its two legs differ
+passed : (l s : Leg) (amount a b : ℕ) → None (pairFaults l s amount a b) → (allowed l s ≡ true) × (amount ≤ a)
+unfolding pairFaults
+passed l s amount a b none =
+    (not-false (allowed l s) (none .1 .0), ltb-false a amount (neither (ltb a amount) (ltb b amount) (none .1 .1 .1 .0) .0))
+
+differ : (l s : Leg) (amount a b : ℕ) → None (pairFaults l s amount a b) → l ≡ s → ⊥
+unfolding pairFaults isLong isShort
+differ l s amount a b none e =
+    let (zero, one) = and-eq-true-iff (eqb (l .side) 0) (eqb (s .side) 1) .0 (not-false _ (none .0)) in
+    omega (arith, eqb-true (l .side) 0 zero, eqb-true (s .side) 1 one, ap (λ (x : Leg). x .side) e)
+
+-- a line taken off: no refusal holds, the new tally, two legs, and bounds of what the line adds
+pub record Took (t : Tally) (amount : ℕ) (long short : Leg) (after : Tally) : Type 0 where
+  pub none : None (pairFaults long short amount (t .«long_left») (t .«short_left»))
+  pub tally : after ≡ taken t amount long short
+  pub apart : long ≡ short → ⊥
+  pub high : High amount (pairRate long short) (savingRate long short)
+
+module _ {t : Tally} {amount : ℕ} {long short : Leg} {r : Applied} (applies : Applies t amount long short r) where
+  pub refused : {n : ℕ} → r ≡ Refused n → (n ≡ firstOf (pairFaults long short amount (t .«long_left») (t .«short_left»)) 0) × (1 ≤ n)
+  unfolding appliedOf
+  refused {n} e = first-refused _ (taken t amount long short) n (rw e at (applies .answer)) (pair-listed _ _ _ _ _)
+
+  pub took : {after : Tally} → Ready t long short → r ≡ Taken after → Took t amount long short after
+  unfolding appliedOf
+  took {after} ready e =
+      let (none, is) = first-taken (pairFaults long short amount (t .«long_left») (t .«short_left»)) (taken t amount long short) after (rw e at (applies .answer)) in
+      let (may, within) = passed long short amount _ _ none in
+      record {
+        none = none;
+        tally = is;
+        apart = differ long short amount _ _ none;
+        high = high (le-trans within (ready .left))
+            (allowed-high long short may (ready .long-rate) (ready .short-rate)) (saving-high long short (ready .long-rate) (ready .short-rate));
+      }

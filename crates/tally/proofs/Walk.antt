@@ -1,151 +1,245 @@
 -- The walk over the lines: what holds at each of its turns, and what that says where it starts, goes on, stops and ends. Assumes nothing.
-use mathlib.Core.Path.{_≡_, sym, ap, _∙_}
-use mathlib.Core.List.{List}
-use Prim.Native.Nat.{ℕ, _+_, _*_, _≤_, _<_}
+use mathlib.Core.Path.{_≡_, refl, sym, ap, _∙_}
+use mathlib.Core.List.{List, [], _∷_, _++_}
+use Prim.Native.Nat.{ℕ, _+_, _-_, _*_, _≤_, _<_}
+use native.Mathlib.Nat.{le-trans, sub-le}
 use native.Mathlib.Numerals.{add-one}
 use native.Mathlib.Omega.{arith}
-use lib.ListN.{length, getD}
+use lib.ListN.{length, getD, set}
 use borrow.Author.Tests.{lt-ltb, ne-eqb}
 use Rattle.lists.specs.Choice.{firstOf}
-use Rattle.lists.specs.Tables.{listTo}
+use Rattle.lists.specs.Sums.{sumOf}
+use Rattle.lists.specs.Tables.{listTo, front}
 use Rattle.lists.proofs.Tests.{tests}
+use Rattle.lists.proofs.Sums.{sumOf-more}
 use Rattle.lists.proofs.Tables.{length-to, getD-to, take-to}
 use Rattle.lists.proofs.Firsts.{first-of-none}
 use Rattle.lists.proofs.Passed.{Passed, passed-none, passed-more, passed-first, passed-all}
-use Rattle.article.specs.Answer.{makeAnswer}
-use Rattle.article.specs.Pair.{RateInRange}
+use Rattle.article.specs.Answer.{answer}
+use Rattle.article.specs.Pair.{pairRate, savingRate, RateInRange}
+use Rattle.article.specs.declared.pair.Leg.{Leg}
+use Rattle.pairing.specs.Pairing as pairing
 use Rattle.pairing.specs.declared.Line.{Line}
-use Rattle.proposal.specs.Submission.{PricedBook, noLine}
-use Rattle.proposal.specs.Figures.{remainder}
-use Rattle.proposal.specs.Outcome.{faultAnswer, atPlace, lineFaults, atLine, linesFaults}
+use Rattle.pairing.proofs.Used.{used-append}
+use Rattle.proposal.specs.Submission.{PricedBook, termsOf, noLine}
+use Rattle.proposal.specs.Figures.{remainder, remaindersOf}
+use Rattle.proposal.specs.Outcome.{answerOf, atPlace, pairFaults, lineFaults, atLine, linesFaults}
 use Rattle.proposal.proofs.Places.{zero-at, first-at, line-listed}
-use Rattle.tally.specs.Tally.{tallyOf, taken, stoppedAt, Ready, Applies, takenLines, Walks}
+use Rattle.proposal.proofs.PricedBooks.{saving-rate}
+use Rattle.packed.specs.Packed.{legIn}
+use Rattle.tally.specs.Applied.{taken, Ready, Applies}
+use Rattle.tally.specs.Lines.{Holds, stoppedAt, takenLines, Takes}
 use Rattle.tally.specs.declared.Tally.{Tally}
 use Rattle.tally.specs.declared.Applied.{Applied}
+use Rattle.tally.specs.declared.Applied.the-variants.{Taken, Refused}
 use Rattle.tally.specs.declared.Walked.{Walked}
-use Rattle.tally.proofs.AfterLine.{kept, took}
-use Rattle.tally.proofs.Tallies.{left-of, tally-high, no-lines, one-more}
+use Rattle.tally.proofs.OneLine.{refused, took}
+use Rattle.tally.proofs.Left.{length-written, written-at, written-past, in-front}
 
--- a book within its bounds, by the numbers of its holdings
-pub record Within (b : PricedBook) : Type 0 where
-  pub count : b .count ≤ 256
-  pub rate : (k : ℕ) → RateInRange (b .leg k)
-  pub value : (k : ℕ) → b .value k ≤ 100000000000
+-- the numbers of the walk at line i, whatever book it is of: what is left, units u and saving s
+pub record Going (n : ℕ) (before left : List ℕ) (u s i : ℕ) : Type 0 where
+  pub long : length left ≡ length before
+  pub kept : (k : ℕ) → n ≤ k → getD left k 0 ≡ getD before k 0
+  pub high : (k : ℕ) → k < n → getD left k 0 ≤ 100000000000
+  -- no line added more than the highest rates times the highest value
+  pub units : u ≤ i * (21900 * 100000000000)
+  pub saving : s ≤ i * (43800 * 100000000000)
 
--- the invariant, where the walk over m lines has come to i
-pub record Walking (b : PricedBook) (line : ℕ → Line) (m : ℕ) (t : Tally) (i : ℕ) : Type 0 where
-  -- no line before i has a fault
+-- what they are to a book: no line before i has a fault, and the numbers are those of the lines before i
+pub record Walking (b : PricedBook) (line : ℕ → Line) (m : ℕ) (left : List ℕ) (u s i : ℕ) : Type 0 where
   pub passed : Passed m (atLine b (listTo m line)) i
-  -- the tally is that of the lines before i
-  pub tally : t ≡ tallyOf b (listTo i line)
-  -- none of them added more than the highest rates times the highest value
-  pub units : t .units ≤ i * (21900 * 100000000000)
-  pub saving : t .saving ≤ i * (43800 * 100000000000)
+  pub units : u ≡ pairing.pairUnits (termsOf b) (listTo i line)
+  pub saving : s ≡ pairing.saving (termsOf b) (listTo i line)
+  pub remains : (k : ℕ) → k < b .count → getD left k 0 ≡ remainder b (listTo i line) k
+
+-- the invariant
+pub record Walk (n : ℕ) (legs before : List ℕ) (line : ℕ → Line) (m : ℕ) (left : List ℕ) (u s i : ℕ) : Type 0 where
+  pub few : i ≤ m
+  pub going : Going n before left u s i
+  pub walking : (b : PricedBook) → Holds n legs before b → Walking b line m left u s i
 
 -- before any line
-pub starts : {b : PricedBook} {line : ℕ → Line} {m : ℕ} (values : List ℕ) → length values ≡ 256 → ((k : ℕ) → getD values k 0 ≡ b .value k)
-    → Walking b line m (record { left = values; units = 0; saving = 0 }) 0
-unfolding listTo
-starts {b} values n e = record {
-  passed = passed-none;
-  tally = no-lines b values n e;
-  units = omega arith;
-  saving = omega arith;
+pub starts : {n : ℕ} {legs before : List ℕ} {line : ℕ → Line} {m : ℕ} → ((k : ℕ) → k < n → getD before k 0 ≤ 100000000000)
+    → Walk n legs before line m before 0 0 0
+unfolding listTo remainder pairing.used pairing.pairUnits pairing.saving sumOf
+starts high = record {
+  few = omega arith;
+  going = record { long = refl; kept = λ k h. refl; high = high; units = omega arith; saving = omega arith };
+  walking = λ b h. record {
+    passed = passed-none;
+    units = refl;
+    saving = refl;
+    remains = λ k q. h .value k (rw (← h .count) q) ∙ omega arith;
+  };
 }
-
--- no holding has more left than the highest value
-left-high : {b : PricedBook} {line : ℕ → Line} {m : ℕ} {t : Tally} {i : ℕ} → Within b → Walking b line m t i → (k : ℕ) → getD (t .left) k 0 ≤ 100000000000
-left-high {b} {line} {i} bounds walking k = rw (walking .tally) (tally-high b 100000000000 (bounds .value) (listTo i line) k)
 
 -- the line at k in a list of m
 at-line : (b : PricedBook) (line : ℕ → Line) (m k : ℕ) → k < m → atLine b (listTo m line) k ≡ atPlace k (lineFaults b (listTo k line) (line k))
 unfolding atLine
 at-line b line m k h = rw (take-to m k line (omega arith), getD-to m line k noLine h)
 
--- after m lines without fault
-pub ends : {b : PricedBook} {line : ℕ → Line} {m : ℕ} {t : Tally} {i : ℕ} {r : Walked} → Within b → Walking b line m t i → m ≤ i → m ≤ 512
-    → r ≡ stoppedAt 0 0 t → Walks b (listTo m line) r
-unfolding stoppedAt faultAnswer linesFaults takenLines
-ends {b} {line} {m} {i} bounds walking h few e =
-    let all : i ≡ m = omega (arith, walking .passed .few) in
-    rw e (record {
-      fault = rw (length-to m line) (sym (first-of-none _ (makeAnswer 0 0 0) (passed-all (walking .passed) h)));
-      tally = rw (← all) (walking .tally);
-      bounds = record { left = left-high bounds walking; units = omega (arith, walking .units) };
-    })
+module _ {n : ℕ} {legs before : List ℕ} {line : ℕ → Line} {m : ℕ} {left : List ℕ} {u s i : ℕ} (room : n ≤ length before)
+    (walk : Walk n legs before line m left u s i) where
+  -- the whole list
+  left-list : (b : PricedBook) → Holds n legs before b → left ≡ front (remaindersOf b (listTo i line)) before
+  unfolding remaindersOf
+  left-list b h =
+      in-front (b .count) (remainder b (listTo i line)) left before (omega (arith, h .count)) (walk .going .long) (walk .walking b h .remains)
+      (λ k q. walk .going .kept k (omega (arith, h .count)))
 
--- a turn of the walk over m lines
-pub record Turn (b : PricedBook) (line : ℕ → Line) (m : ℕ) (t : Tally) (i : ℕ) : Type 0 where
-  pub bounds : Within b
-  pub walking : Walking b line m t i
+  -- after m lines without fault
+  pub ends : {r : Walked} → m ≤ i → m ≤ 512 → r ≡ stoppedAt 0 0 u s → Takes n legs before (listTo m line) left r
+  unfolding stoppedAt answerOf linesFaults takenLines
+  ends h few e =
+      let all : i ≡ m = omega (arith, walk .few) in
+      rw e (record {
+        walks = λ b holds.
+            let w = walk .walking b holds in
+            record {
+              fault = rw (length-to m line) (sym (first-of-none _ (answer 0 0 0) (passed-all (w .passed) h)));
+              units = rw (← all) (w .units);
+              saving = rw (← all) (w .saving);
+              left = rw (← all) (left-list b holds);
+            };
+        units-high = omega (arith, walk .going .units);
+        left-high = walk .going .high;
+      })
+
+-- one line more: its units, its saving, and its amounts off what remains
+module _ (b : PricedBook) (lines : List Line) (l : Line) where
+  units-more : pairing.pairUnits (termsOf b) lines + pairRate (b .leg (l .long)) (b .leg (l .short)) * l .amount
+      ≡ pairing.pairUnits (termsOf b) (lines ++ (l ∷ []))
+  unfolding termsOf pairing.pairUnits
+  units-more = sumOf-more lines l (λ x. pairRate (b .leg (x .long)) (b .leg (x .short)) * x .amount)
+
+  saving-more : pairing.saving (termsOf b) lines + savingRate (b .leg (l .long)) (b .leg (l .short)) * l .amount
+      ≡ pairing.saving (termsOf b) (lines ++ (l ∷ []))
+  unfolding pairing.saving
+  saving-more =
+      rw (← saving-rate b (l .long) (l .short)) (sumOf-more lines l (λ x. pairing.savingRate (termsOf b) (x .long) (x .short) * x .amount))
+
+  remains-more : (k : ℕ) → remainder b lines k - pairing.used (l ∷ []) k ≡ remainder b (lines ++ (l ∷ [])) k
+  unfolding remainder
+  remains-more k = omega (arith, used-append lines (l ∷ []) k)
+
+-- a turn of the walk
+pub record Turn (n : ℕ) (legs before : List ℕ) (line : ℕ → Line) (m : ℕ) (left : List ℕ) (u s i : ℕ) : Type 0 where
+  pub room : n ≤ length before
+  pub rate : (k : ℕ) → k < n → RateInRange (legIn (getD legs k 0))
+  pub walk : Walk n legs before line m left u s i
   pub more : i < m
   pub few : m ≤ 512
 
--- a line of two numbers of the book
-pub record InBook (b : PricedBook) (l : Line) : Type 0 where
-  pub long : l .long < b .count
-  pub short : l .short < b .count
+-- a line that was read, on two numbers of the book, and their legs
+pub record Read (n : ℕ) (legs : List ℕ) (line l : Line) (long short : Leg) : Type 0 where
+  pub is : line ≡ l
+  pub first : l .long < n
+  pub second : l .short < n
+  pub long-leg : long ≡ legIn (getD legs (l .long) 0)
+  pub short-leg : short ≡ legIn (getD legs (l .short) 0)
 
-module _ {b : PricedBook} {line : ℕ → Line} {m : ℕ} {t : Tally} {i : ℕ} (turn : Turn b line m t i) where
+-- the tally of a line's two holdings
+abbrev pub tallyAt : List ℕ → Line → ℕ → ℕ → Tally
+tallyAt left l u s = record { «long_left» = getD left (l .long) 0; «short_left» = getD left (l .short) 0; units = u; saving = s }
+
+module _ {n : ℕ} {legs before : List ℕ} {line : ℕ → Line} {m : ℕ} {left : List ℕ} {u s i : ℕ} (turn : Turn n legs before line m left u s i) where
   -- at a line with a fault
-  pub stops : {n : ℕ} {r : Walked} → n ≡ firstOf (lineFaults b (listTo i line) (line i)) 0 → (n ≡ 0 → ⊥) → r ≡ stoppedAt n i t → Walks b (listTo m line) r
-  unfolding stoppedAt faultAnswer linesFaults takenLines
-  stops {n} first some e = rw e (record {
-    fault = rw (length-to m line)
-        (sym (passed-first (turn .walking .passed) (makeAnswer 0 0 0) (turn .more) (λ w. rw (at-line b line m i (turn .more)) (first-at i _ n first some w))));
-    tally = rw (ne-eqb n 0 some, take-to m i line (omega (arith, turn .more))) (turn .walking .tally);
-    bounds = record { left = left-high (turn .bounds) (turn .walking); units = omega (arith, turn .walking .units, turn .more, turn .few) };
+  pub stops : {number : ℕ} {r : Walked} → ((b : PricedBook) → Holds n legs before b → number ≡ firstOf (lineFaults b (listTo i line) (line i)) 0)
+      → (number ≡ 0 → ⊥) → r ≡ stoppedAt number i u s → Takes n legs before (listTo m line) left r
+  unfolding stoppedAt answerOf linesFaults takenLines
+  stops {number} first some e = rw e (record {
+    walks = λ b holds.
+        let w = turn .walk .walking b holds in
+        record {
+          fault = rw (length-to m line)
+              (sym (passed-first (w .passed) (answer 0 0 0) (turn .more) (λ z. rw (at-line b line m i (turn .more)) (first-at i _ number (first b holds) some z))));
+          units = rw (ne-eqb number 0 some, take-to m i line (omega (arith, turn .more))) (w .units);
+          saving = rw (ne-eqb number 0 some, take-to m i line (omega (arith, turn .more))) (w .saving);
+          left = rw (ne-eqb number 0 some, take-to m i line (omega (arith, turn .more))) (left-list (turn .room) (turn .walk) b holds);
+        };
+    units-high = omega (arith, turn .walk .going .units, turn .more, turn .few);
+    left-high = turn .walk .going .high;
   })
 
   -- a number that is not in the book
-  pub no-long : {r : Walked} → b .count ≤ line i .long → r ≡ stoppedAt 11 i t → Walks b (listTo m line) r
+  pub no-long : {r : Walked} → n ≤ line i .long → r ≡ stoppedAt 11 i u s → Takes n legs before (listTo m line) left r
   unfolding lineFaults firstOf
-  no-long h = stops (search tests) (λ z. omega arith)
+  no-long h = stops (λ b holds. rw (holds .count) (search tests)) (λ z. omega arith)
 
-  pub no-short : {r : Walked} → line i .long < b .count → b .count ≤ line i .short → r ≡ stoppedAt 11 i t → Walks b (listTo m line) r
+  pub no-short : {r : Walked} → line i .long < n → n ≤ line i .short → r ≡ stoppedAt 11 i u s → Takes n legs before (listTo m line) left r
   unfolding lineFaults firstOf
-  no-short p h = stops (search tests) (λ z. omega arith)
+  no-short p h = stops (λ b holds. rw (holds .count) (search tests)) (λ z. omega arith)
 
-  -- two numbers of the book: the line can be applied
-  module _ (inside : InBook b (line i)) where
-    pub ready : Ready t (line i) (b .leg (line i .long)) (b .leg (line i .short))
+  module _ {l : Line} {long short : Leg} (read : Read n legs (line i) l long short) where
+    pub ready : Ready (tallyAt left l u s) long short
     ready = record {
-      first = omega (arith, inside .long, turn .bounds .count);
-      second = omega (arith, inside .short, turn .bounds .count);
-      one-leg = ap (b .leg);
-      long-rate = turn .bounds .rate (line i .long);
-      short-rate = turn .bounds .rate (line i .short);
-      left = left-high (turn .bounds) (turn .walking);
-      units = omega (arith, turn .walking .units, turn .more, turn .few);
-      saving = omega (arith, turn .walking .saving, turn .more, turn .few);
+      long-rate = rw (read .long-leg) (turn .rate (l .long) (read .first));
+      short-rate = rw (read .short-leg) (turn .rate (l .short) (read .second));
+      left = turn .walk .going .high (l .long) (read .first);
+      units = omega (arith, turn .walk .going .units, turn .more, turn .few);
+      saving = omega (arith, turn .walk .going .saving, turn .more, turn .few);
     }
 
-    -- what is left of a leg is its remainder
-    left-at : (k : ℕ) → k < b .count → getD (t .left) k 0 ≡ remainder b (listTo i line) k
-    left-at k h = rw (turn .walking .tally) (left-of b (listTo i line) k (omega (arith, turn .bounds .count)))
+    -- the refusals of the line in a book are those on its legs and on what is left
+    module _ (b : PricedBook) (holds : Holds n legs before b) where
+      first-leg : b .leg (l .long) ≡ long
+      first-leg = sym (read .long-leg ∙ holds .leg (l .long) (read .first))
 
-    -- what applying it says: its first refusal, or 0; a refusal leaves the walk where it is, and 0 brings it to the next line
-    module _ {r : Applied} (applies : Applies t (line i) (b .leg (line i .long)) (b .leg (line i .short)) r) where
-      pub judged : r .number ≡ firstOf (lineFaults b (listTo i line) (line i)) 0
+      second-leg : b .leg (l .short) ≡ short
+      second-leg = sym (read .short-leg ∙ holds .leg (l .short) (read .second))
+
+      line-faults : firstOf (lineFaults b (listTo i line) (line i)) 0
+          ≡ firstOf (pairFaults long short (l .amount) (getD left (l .long) 0) (getD left (l .short) 0)) 0
       unfolding lineFaults firstOf
-      judged =
-          rw (lt-ltb (line i .long) (b .count) (inside .long), lt-ltb (line i .short) (b .count) (inside .short))
-          (rw (left-at (line i .long) (inside .long), left-at (line i .short) (inside .short)) at (applies .number))
+      line-faults =
+          let remains = turn .walk .walking b holds .remains in
+          let p : l .long < b .count = omega (arith, holds .count, read .first) in
+          let q : l .short < b .count = omega (arith, holds .count, read .second) in
+          rw (
+            read .is,
+            lt-ltb (l .long) (b .count) p,
+            lt-ltb (l .short) (b .count) q,
+            first-leg,
+            second-leg,
+            ← remains (l .long) p,
+            ← remains (l .short) q,
+          )
 
-      pub stays : (r .number ≡ 0 → ⊥) → Turn b line m (r .tally) i
-      stays some = rw (kept applies some) turn
+    module _ {r : Applied} (applies : Applies (tallyAt left l u s) (l .amount) long short r) where
+      -- the line is refused
+      pub refuses : {number : ℕ} {w : Walked} → r ≡ Refused number → w ≡ stoppedAt number i u s → Takes n legs before (listTo m line) left w
+      refuses e f =
+          let (first, some) = refused applies e in
+          stops (λ b holds. first ∙ sym (line-faults b holds)) (λ z. omega (arith, some)) f
 
-      pub goes : r .number ≡ 0 → Walking b line m (r .tally) (i + 1)
+      -- the line is taken off
+      pub goes : {after : Tally} → r ≡ Taken after
+          → Walk n legs before line m (set (set left (l .long) (after .«long_left»)) (l .short) (after .«short_left»)) (after .units) (after .saving) (i + 1)
       unfolding taken listTo
       goes e =
           let done = took applies ready e in
-          record {
-            passed = passed-more (turn .walking .passed) (turn .more)
-                (rw (at-line b line m i (turn .more)) (zero-at i _ (line-listed b _ _) (sym judged ∙ e)));
-            tally = rw (add-one i)
-                (done .tally
-                ∙ ap (λ (x : Tally). taken x (line i) (b .leg (line i .long)) (b .leg (line i .short))) (turn .walking .tally)
-                ∙ one-more b (listTo i line) (line i));
-            units = omega (arith, ap (λ (x : Tally). x .units) (done .tally), done .high .units, turn .walking .units);
-            saving = omega (arith, ap (λ (x : Tally). x .saving) (done .tally), done .high .saving, turn .walking .saving);
-          }
+          let going = turn .walk .going in
+          let apart : l .long ≡ l .short → ⊥ = λ same. done .apart (read .long-leg ∙ ap (λ (k : ℕ). legIn (getD legs k 0)) same ∙ sym (read .short-leg)) in
+          let p : l .long < length left = omega (arith, going .long, turn .room, read .first) in
+          let q : l .short < length left = omega (arith, going .long, turn .room, read .second) in
+          rw (done .tally) (record {
+            few = omega (arith, turn .more);
+            going = record {
+              long = length-written left l ∙ going .long;
+              kept = λ k h. written-past left l apart p q n k (read .first) (read .second) h ∙ going .kept k h;
+              high = λ k h. rw (written-at left l apart p q k) (le-trans (sub-le _ _) (going .high k h));
+              units = omega (arith, done .high .units, going .units);
+              saving = omega (arith, done .high .saving, going .saving);
+            };
+            walking = λ b holds.
+                let w = turn .walk .walking b holds in
+                record {
+                  passed = passed-more (w .passed) (turn .more)
+                      (rw (at-line b line m i (turn .more)) (zero-at i _ (line-listed b _ _) (line-faults b holds ∙ first-of-none _ 0 (done .none))));
+                  units = rw (add-one i, read .is, w .units, ← first-leg b holds, ← second-leg b holds) (units-more b (listTo i line) l);
+                  saving = rw (add-one i, read .is, w .saving, ← first-leg b holds, ← second-leg b holds) (saving-more b (listTo i line) l);
+                  remains = λ k h.
+                      written-at left l apart p q k ∙ ap (λ (x : ℕ). x - pairing.used (l ∷ []) k) (w .remains k h)
+                      ∙ rw (add-one i, read .is) (remains-more b (listTo i line) l k);
+                };
+          })

@@ -1,132 +1,132 @@
-// The lines of a proposal in turn, against a tally of what is unpaired of each holding.
+// The lines of a proposal in turn, each against what is unpaired of its two holdings.
 use article::pair;
 use article::pair::Leg;
 use article::pair::Pair;
-use pairing::Line;
-use positions::Positions;
 use proposal::Fault;
-use proposal::Proposal;
 ghost use mathlib.Core.Path.{_≡_};
-ghost use Prim.Native.Nat.{_≤_};
-ghost use Rattle.proposal.specs.Submission.{linesOf};
-ghost use Rattle.positions.specs.Positions.{heldBook, InBounds};
-ghost use Rattle.tally.specs.Tally.{Ready, Applies, Walks, keptAt, stoppedAt};
+ghost use mathlib.Core.List.{[], _∷_};
+ghost use Rattle.columns.specs.Columns.{linesIn};
+ghost use Rattle.tally.specs.Applied.{Ready, Applies};
+ghost use Rattle.tally.specs.Lines.{LinesLent, stoppedAt, Takes};
 
-// What is left unpaired of each holding, and the units and the saving of the lines taken off.
+// What is unpaired of the two holdings of a line, and the units and the saving of the lines taken off.
 pub struct Tally {
-    pub left: [u64; 256],
+    pub long: u64,
+    pub short: u64,
     pub units: u64,
     pub saving: u64,
 }
 
-// The refusal of one line, 0 for none, and the new tally, or on a refusal the tally as it was.
-pub struct Applied {
-    pub number: u64,
-    pub tally: Tally,
+// The new tally, or the number of the refusal.
+pub enum Applied {
+    Taken(Tally),
+    Refused(u64),
 }
 
-// The first fault of the lines, and the tally of those before it, or of all lines.
+// The first fault of the lines, and the units and the saving of those before it, or of all lines.
 pub struct Walked {
     pub fault: Fault,
-    pub tally: Tally,
+    pub units: u64,
+    pub saving: u64,
 }
 
 impl Tally {
-    // One pair line on its two legs.
-    pub fn apply(mut self, line: Line, long: Leg, short: Leg) -> Applied
-        requires { ⌜ Ready self line long short ⌝ }
-        ensures { λ r. ⌜ Applies self line long short r ⌝ }
+    // One pair line of an amount on its two legs.
+    pub fn apply(self, amount: u64, long: Leg, short: Leg) -> Applied
+        requires { ⌜ Ready self long short ⌝ }
+        ensures { λ r. ⌜ Applies self amount long short r ⌝ }
     {
         if long.side != 0 {
-            return kept(12, self);
+            return Applied::Refused(12);
         }
         if short.side != 1 {
-            return kept(12, self);
+            return Applied::Refused(12);
         }
         let pair = pair::pair_legs(long, short);
         match pair {
-            Pair::NotAllowed => return kept(13, self),
+            Pair::NotAllowed => return Applied::Refused(13),
             Pair::Allowed { rate, saving } => {
-                let amount = line.amount;
-                let first = line.long as usize;
-                let second = line.short as usize;
-                let long_left = self.left[first];
-                let short_left = self.left[second];
                 if amount == 0 {
-                    return kept(14, self);
+                    return Applied::Refused(14);
                 }
-                if long_left < amount {
-                    return kept(15, self);
+                if self.long < amount {
+                    return Applied::Refused(15);
                 }
-                if short_left < amount {
-                    return kept(15, self);
+                if self.short < amount {
+                    return Applied::Refused(15);
                 }
-                self.left[first] = long_left - amount;
-                self.left[second] = short_left - amount;
-                self.units = self.units + rate * amount;
-                self.saving = self.saving + saving * amount;
-                return Applied {
-                    number: 0,
-                    tally: self,
-                };
+                return Applied::Taken(Tally {
+                    long: self.long - amount,
+                    short: self.short - amount,
+                    units: self.units + rate * amount,
+                    saving: self.saving + saving * amount,
+                });
             }
         }
     }
 }
 
-// A refusal of one line, and the tally as it was.
-fn kept(number: u64, tally: Tally) -> Applied
-    ensures { λ r. ⌜ r ≡ keptAt number tally ⌝ }
+// A fault at a line, or 0 for none, beside the units and the saving of the lines taken off.
+fn stopped(number: u64, place: usize, units: u64, saving: u64) -> Walked
+    ensures { λ r. ⌜ r ≡ stoppedAt number place units saving ⌝ }
 {
-    Applied { number, tally }
+    Walked {
+        fault: proposal::fault_at(number, place, 0),
+        units,
+        saving,
+    }
 }
 
-// Each line in turn, up to the first fault: 11, a number not in the book, then 12 to 15.
-pub fn take_lines(positions: Positions, proposal: Proposal) -> Walked
-    requires { ⌜ InBounds positions × (proposal .count ≤ 512) ⌝ }
-    ensures { λ r. ⌜ Walks (heldBook positions) (linesOf proposal) r ⌝ }
+// Each line in turn, up to the first fault: 11, a number not in the book, then 12 to 15. The first n entries of `left` are what is unpaired.
+pub fn take_lines(
+    n: usize,
+    legs: &[u64],
+    left: &mut [u64],
+    long: &[u8],
+    short: &[u8],
+    amount: &[u8],
+) -> Walked
+    requires { ⌜ LinesLent n (now legs) (now left) (now long ∷ now short ∷ now amount ∷ []) ⌝ }
+    ensures { λ r. ⌜ Takes n (now (legs .entry)) (now (left .entry)) (linesIn (now (long .entry) ∷ now (short .entry) ∷ now (amount .entry) ∷ [])) (now (left .exit)) r ⌝ }
 {
-    let n = positions.count as u64;
-    let m = proposal.count;
-    let mut tally = Tally {
-        left: positions.values,
-        units: 0,
-        saving: 0,
-    };
+    let m = long.len() / 8;
+    let mut units: u64 = 0;
+    let mut saving: u64 = 0;
     let mut i: usize = 0;
     while i < m {
-        let line = proposal.lines[i];
-        if line.long >= n {
-            return stopped(11, i, tally);
+        let first = words::word(long, i);
+        let second = words::word(short, i);
+        if first >= n as u64 {
+            return stopped(11, i, units, saving);
         }
-        if line.short >= n {
-            return stopped(11, i, tally);
+        if second >= n as u64 {
+            return stopped(11, i, units, saving);
         }
-        let first = line.long as usize;
-        let second = line.short as usize;
-        let long = positions.legs[first];
-        let short = positions.legs[second];
-        let applied = tally.apply(line, long, short);
-        let number = applied.number;
-        tally = applied.tally;
-        if number != 0 {
-            return stopped(number, i, tally);
+        let l = first as usize;
+        let s = second as usize;
+        let tally = Tally {
+            long: left[l],
+            short: left[s],
+            units,
+            saving,
+        };
+        let applied = tally.apply(
+            words::word(amount, i),
+            packed::leg_in(legs[l]),
+            packed::leg_in(legs[s]),
+        );
+        match applied {
+            Applied::Refused(number) => {
+                return stopped(number, i, units, saving);
+            }
+            Applied::Taken(t) => {
+                left[l] = t.long;
+                left[s] = t.short;
+                units = t.units;
+                saving = t.saving;
+            }
         }
         i = i + 1;
     }
-    stopped(0, 0, tally)
-}
-
-// A fault at a line, or 0 for none, and the tally of the lines taken off.
-fn stopped(number: u64, place: usize, tally: Tally) -> Walked
-    ensures { λ r. ⌜ r ≡ stoppedAt number place tally ⌝ }
-{
-    Walked {
-        fault: Fault {
-            number,
-            place: place as u64,
-            second: 0,
-        },
-        tally,
-    }
+    stopped(0, 0, units, saving)
 }

@@ -1,6 +1,6 @@
 -- `stopped` is `stoppedAt`. Assumes nothing.
 use mathlib.Core.Path.{refl}
-use Rattle.tally.specs.Tally.{stoppedAt}
+use Rattle.tally.specs.Lines.{stoppedAt}
 use Rattle.tally.proofs.stopped.Statement.{statement}
 use Rattle.tally.proofs.stopped.Tie as tie
 

@@ -1,123 +1,131 @@
--- `take_lines` finds the first fault of the lines in turn, and its tally is that of the lines before it. The invariant is `Walking`.
+-- `take_lines` finds the first fault of the lines in turn, and takes the lines before it off what is left. The invariant is `Walk`.
 -- Assumes nothing.
-use mathlib.Core.Path.{refl}
-use Prim.Native.Nat.{_-_}
-use lib.ListN.{getD}
+use mathlib.Core.Path.{_≡_, sym}
+use mathlib.Core.List.{List}
+use Prim.Native.Nat.{ℕ, _-_, _*_, _/_, _<_}
+use native.Mathlib.Omega.{arith}
+use lib.ListN.{length, length-set}
 use borrow.Author.Needs.{needs}
-use Rattle.positions.specs.Positions.{heldBook, InBounds}
-use Rattle.positions.specs.declared.Positions.{Positions}
-use Rattle.proposal.specs.Submission.{linesOf, noLine}
-use Rattle.tally.proofs.Walk.{Within, Walking, starts, ends, Turn, InBook, stops, no-long, no-short, ready, judged, stays, goes}
+use Rattle.pairing.specs.declared.Line.{Line}
+use Rattle.words.specs.Words.{entries}
+use Rattle.tally.specs.Lines.{lineIn, linesIn}
+use Rattle.tally.proofs.Walk.{Walk, starts, ends, Turn, no-long, no-short, Read, ready, refuses, goes}
 use Rattle.tally.proofs.take_lines.Statement.{statement}
 use Rattle.tally.proofs.take_lines.Tie as tie
 
-within : (p : Positions) → InBounds p → Within (heldBook p)
-unfolding heldBook
-within p h = record { count = h .count; rate = h .rate; value = h .value }
-
 abbrev Inv-loop : tie.InvT-loop
-Inv-loop positions proposal n m tally₀ i₀ tally i = Walking (heldBook positions) (λ k. getD (proposal .lines) k noLine) m tally i
+Inv-loop n legs left₀ long short amount m units₀ saving₀ i₀ left units saving i = Walk n legs left₀ (lineIn long short amount) m left units saving i
 
 abbrev μ-loop : tie.MeasureT-loop
-μ-loop positions proposal n m tally₀ i₀ tally i = m - i
+μ-loop n legs left₀ long short amount m units₀ saving₀ i₀ left units saving i = m - i
 
-abbrev entry : tie.In-loop Inv-loop μ-loop → tie.Start Inv-loop μ-loop
-entry c = c .before .before .before
+abbrev entry : tie.At-loop Inv-loop μ-loop → tie.Start Inv-loop μ-loop
+entry c = c .before .before .before .before .before .before
+
+abbrev lineAt : tie.In-loop Inv-loop μ-loop → Line
+lineAt c = lineIn (entry (c .before) .args .long .now) (entry (c .before) .args .short .now) (entry (c .before) .args .amount .now) (c .before .loop .i)
 
 turn : (c : tie.In-loop Inv-loop μ-loop)
-    → Turn (heldBook (entry c .args .t1)) (λ k. getD (entry c .args .t2 .lines) k noLine) (entry c .args .t2 .count) (c .before .loop .tally) (c .before .loop .i)
-turn c = record { bounds = within _ (entry c .pre .0); walking = c .before .loop .inv; more = c .loop-test .taken; few = entry c .pre .1 }
+    → Turn (entry (c .before) .args .n) (entry (c .before) .args .legs .now) (entry (c .before) .args .left .now)
+    (lineIn (entry (c .before) .args .long .now) (entry (c .before) .args .short .now) (entry (c .before) .args .amount .now))
+    (length (entry (c .before) .args .long .now) / 8) (c .before .loop .left) (c .before .loop .units) (c .before .loop .saving) (c .before .loop .i)
+turn c =
+    let start = entry (c .before) in
+    record { room = start .pre .left-long; rate = start .pre .rate; walk = c .before .loop .inv; more = c .loop-test .taken; few = start .pre .few }
+
+line-eq : {l l′ s s′ a a′ : ℕ} → l ≡ l′ → s ≡ s′ → a ≡ a′ → _≡_ {A = Line} (record { long = l; short = s; amount = a }) (record { long = l′; short = s′; amount = a′ })
+line-eq a b c = λ j. record { long = a j; short = b j; amount = c j }
 
 -- where both numbers of the line are in the book
-abbrev now : tie.Else2 Inv-loop μ-loop → tie.In-loop Inv-loop μ-loop
-now c = c .before .before .before .before .before
+abbrev inside : tie.After-leg-in2 Inv-loop μ-loop → tie.Else2 Inv-loop μ-loop
+inside c = c .before .before .before .before .before .before .before
 
-inside : (c : tie.Else2 Inv-loop μ-loop)
-    → InBook (heldBook (entry (now c) .args .t1)) (getD (entry (now c) .args .t2 .lines) (now c .before .loop .i) noLine)
-unfolding heldBook
-inside c = record { long = c .before .before .if1 .left; short = c .if2 .left }
+abbrev now : tie.Else2 Inv-loop μ-loop → tie.In-loop Inv-loop μ-loop
+now c = c .before .before .before .before
+
+-- both stand in the list of what is left, far below the end of memory
+record Room (first second : ℕ) (left : List ℕ) : Type 0 where
+  first-in : first < length left
+  second-in : second < length left
+  first-fits : first * 8 < 18446744073709551616
+  second-fits : second * 8 < 18446744073709551616
+
+room : (c : tie.Else2 Inv-loop μ-loop) → Room (c .before .before .before .word .result) (c .before .before .word2 .result) (now c .before .loop .left)
+room c = record { first-in = search needs; second-in = search needs; first-fits = search needs; second-fits = search needs }
+
+read : (c : tie.After-leg-in2 Inv-loop μ-loop)
+    → Read (entry (now (inside c) .before) .args .n) (entry (now (inside c) .before) .args .legs .now) (lineAt (now (inside c)))
+    (record { long = inside c .before .before .before .word .result; short = inside c .before .before .word2 .result; amount = c .before .before .before .before .word3 .result })
+    (c .before .before .leg-in .result) (c .leg-in2 .result)
+read c =
+    let at = inside c in
+    record {
+      is = line-eq (sym (at .before .before .before .word .ensures)) (sym (at .before .before .word2 .ensures)) (sym (c .before .before .before .before .word3 .ensures));
+      first = at .before .if1 .left;
+      second = at .if2 .left;
+      long-leg = c .before .before .leg-in .ensures;
+      short-leg = c .leg-in2 .ensures;
+    }
 
 loop-holds : tie.Need-loop-holds Inv-loop μ-loop
-unfolding heldBook
-loop-holds c = starts _ (search needs) (λ k. refl)
-
-mul-line : tie.Need-mul-line Inv-loop μ-loop
-mul-line c = search needs
-
-element-copy-out-line : tie.Need-element-copy-out-line Inv-loop μ-loop
-element-copy-out-line c = search needs
-
-stopped-requires : tie.Need-stopped-requires Inv-loop μ-loop
-stopped-requires c κs = search needs
+loop-holds c = starts (c .before .before .before .before .before .pre .value)
 
 returns : tie.Need-returns Inv-loop μ-loop
-unfolding heldBook linesOf
+unfolding linesIn entries
 returns c =
-    let at = c .before in
-    no-long (turn (at .before .before .before)) (at .if1 .taken) (c .stopped .ensures)
-
-stopped-requires-2 : tie.Need-stopped-requires-2 Inv-loop μ-loop
-stopped-requires-2 c κs = search needs
+    let at = c .before .before .before in
+    no-long (turn (at .before)) (omega (arith, at .word .ensures, c .before .if1 .taken)) (c .stopped .ensures)
 
 returns-2 : tie.Need-returns-2 Inv-loop μ-loop
-unfolding heldBook linesOf
+unfolding linesIn entries
 returns-2 c =
-    let at = c .before in
-    let listed = at .before .before in
-    no-short (turn (listed .before .before .before)) (listed .if1 .left) (at .if2 .taken) (c .stopped2 .ensures)
-
-mul-long : tie.Need-mul-long Inv-loop μ-loop
-mul-long c = search needs
-
-element-copy-out-long : tie.Need-element-copy-out-long Inv-loop μ-loop
-element-copy-out-long c = search needs
-
-mul-short : tie.Need-mul-short Inv-loop μ-loop
-mul-short c = search needs
-
-element-copy-out-short : tie.Need-element-copy-out-short Inv-loop μ-loop
-element-copy-out-short c = search needs
+    let listed = c .before .before in
+    let at = listed .before .before in
+    no-short (turn (at .before)) (omega (arith, at .word .ensures, listed .if1 .left)) (omega (arith, listed .before .word2 .ensures, c .before .if2 .taken)) (c .stopped2 .ensures)
 
 apply-requires : tie.Need-apply-requires Inv-loop μ-loop
-unfolding heldBook
-apply-requires c κs =
-    let listed = c .before .before in
-    ready (turn (now listed)) (inside listed)
+apply-requires c κs = ready (turn (now (inside c))) (read c)
 
-stopped-requires-3 : tie.Need-stopped-requires-3 Inv-loop μ-loop
-stopped-requires-3 c κs = search needs
+same-length-3 : tie.Need-same-length-3 Inv-loop μ-loop
+same-length-3 c = turn (now (inside (c .before .before .before .before .before))) .walk .going .long
 
 returns-3 : tie.Need-returns-3 Inv-loop μ-loop
-unfolding heldBook linesOf
+unfolding linesIn entries
 returns-3 c =
-    let at = c .before in
-    let applied = at .before .before in
-    let listed = applied .before .before .before in
-    stops (stays (turn (now listed)) (inside listed) (applied .apply .ensures) (at .if3 .taken))
-    (judged (turn (now listed)) (inside listed) (applied .apply .ensures)) (at .if3 .taken) (c .stopped3 .ensures)
+    let applied = c .before .before .before .before in
+    refuses (turn (now (inside (applied .before)))) (read (applied .before)) (applied .apply .ensures) (c .before .before .applied .given .1) (c .stopped3 .ensures)
+
+-- a line that is taken off, where it was applied
+abbrev at-apply : tie.After-known-told2 Inv-loop μ-loop → tie.After-leg-in2 Inv-loop μ-loop
+at-apply c = c .before .before .before .before
+
+mul-left : tie.Need-mul-left Inv-loop μ-loop
+mul-left c = omega (arith, room (inside (at-apply c)))
+
+slice-write-left : tie.Need-slice-write-left Inv-loop μ-loop
+slice-write-left c = omega (arith, room (inside (at-apply c)))
+
+mul-left-2 : tie.Need-mul-left-2 Inv-loop μ-loop
+mul-left-2 c = omega (arith, room (inside (at-apply c)))
+
+slice-write-left-2 : tie.Need-slice-write-left-2 Inv-loop μ-loop
+slice-write-left-2 c = simp length-set (omega (arith, room (inside (at-apply c))))
 
 add-i : tie.Need-add-i Inv-loop μ-loop
-add-i c = search needs
+add-i c = omega (arith, turn (now (inside (at-apply c))))
 
 loop-less : tie.Need-loop-less Inv-loop μ-loop
-loop-less c = search needs
+loop-less c = omega (arith, turn (now (inside (at-apply c))))
 
 loop-again : tie.Need-loop-again Inv-loop μ-loop
-unfolding heldBook
-loop-again c =
-    let applied = c .before .before in
-    let listed = applied .before .before .before in
-    goes (turn (now listed)) (inside listed) (applied .apply .ensures) (c .if3 .left)
-
-stopped-requires-4 : tie.Need-stopped-requires-4 Inv-loop μ-loop
-stopped-requires-4 c κs = search needs
+loop-again c = goes (turn (now (inside (at-apply c)))) (read (at-apply c)) (c .before .before .before .apply .ensures) (c .before .applied2 .given .1)
 
 returns-4 : tie.Need-returns-4 Inv-loop μ-loop
-unfolding heldBook linesOf
+unfolding linesIn entries
 returns-4 c =
     let done = c .before in
-    let start = done .before .before .before in
-    ends (within _ (start .pre .0)) (done .before .loop .inv) (done .loop-test .left) (start .pre .1) (c .stopped4 .ensures)
+    let start = entry (done .before) in
+    ends (start .pre .left-long) (done .before .loop .inv) (done .loop-test .left) (start .pre .few) (c .stopped4 .ensures)
 
 pub take-lines-spec : {M : Type 1} → statement M
 take-lines-spec =
@@ -126,21 +134,38 @@ take-lines-spec =
     Inv-loop
     μ-loop
     loop-holds
-    mul-line
-    element-copy-out-line
-    stopped-requires
+    (λ c κs. search needs)
+    (λ c κs. search needs)
+    (λ c κs. search needs)
+    (λ c. search needs)
     returns
-    stopped-requires-2
+    (λ c κs. search needs)
+    (λ c. search needs)
     returns-2
-    mul-long
-    element-copy-out-long
-    mul-short
-    element-copy-out-short
+    (λ c. search needs)
+    (λ c. search needs)
+    (λ c. search needs)
+    (λ c. search needs)
+    (λ c κs. search needs)
+    (λ c. search needs)
+    (λ c. search needs)
+    (λ c κs. search needs)
+    (λ c. search needs)
+    (λ c. search needs)
+    (λ c κs. search needs)
     apply-requires
-    stopped-requires-3
+    (λ c. search needs)
+    (λ c κs. search needs)
+    same-length-3
     returns-3
+    (λ c. search needs)
+    mul-left
+    slice-write-left
+    mul-left-2
+    slice-write-left-2
     add-i
     loop-less
     loop-again
-    stopped-requires-4
+    (λ c κs. search needs)
+    (λ c. search needs)
     returns-4)

@@ -1,0 +1,120 @@
+-- The allowed pairs of a book that its prices do not cover, looked for in the columns that hold it. Assumes nothing.
+use mathlib.Core.Path.{_≡_, refl, sym, _∙_}
+use mathlib.Core.Bool.{Bool, true, false, cond, _&&_}
+use mathlib.Core.List.{List}
+use Prim.Native.Nat.{ℕ, _+_, _≤_, _<_}
+use native.Mathlib.Omega.{arith}
+use lib.Dec.{ltb}
+use borrow.Author.Count.{below-more}
+use borrow.Author.Tests.{lt-ltb, le-ltb, ne-eqb}
+use Rattle.lists.specs.Choice.{firstOf}
+use Rattle.lists.proofs.Firsts.{None, first-of-none, none-in-turn, first-in-turn}
+use Rattle.words.specs.Words.{wordAt}
+use Rattle.article.specs.Answer.{Answer, answer}
+use Rattle.article.specs.Pair.{isLong, allowed, savingRate}
+use Rattle.article.specs.declared.pair.Leg.{Leg}
+use Rattle.savings.specs.Savings.{savingOf}
+use Rattle.proposal.proofs.PricedBooks.{saving-rate}
+use Rattle.proposal.specs.Submission.{PricedBook}
+use Rattle.proposal.specs.Outcome.{answerOf, uncovered, atPair, atLong, gaps}
+use Rattle.cover.specs.Columns.{legAt, Holds, PairCovered, FirstOpen, gapAt, noGap, Finds}
+
+-- a pair is uncovered where its two prices add up to less than its legs save
+uncovered-saving : (b : PricedBook) (i j : ℕ) → uncovered b i j ≡ ltb (b .price i + b .price j) (savingOf (b .leg i) (b .leg j))
+unfolding uncovered savingOf
+uncovered-saving b i j =
+    rw (saving-rate b i j) (by (allowed (b .leg i) (b .leg j)) (b .price i + b .price j) (savingRate (b .leg i) (b .leg j)))
+  where
+    by : (t : Bool) (x y : ℕ) → (t && ltb x y) ≡ ltb x (cond t y 0)
+    by true x y = refl
+    by false x y = sym (le-ltb x 0 (omega arith))
+
+-- the refusal of an uncovered pair
+at-pair : (b : PricedBook) {i j : ℕ} → uncovered b i j ≡ true → (v : Answer) → firstOf (atPair b i j) v ≡ answer 16 i j
+unfolding atPair firstOf
+at-pair b e v = rw e
+
+-- a holding that is not long saves nothing as the long
+pub not-long : (l s : Leg) → (l .side ≡ 0 → ⊥) → savingOf l s ≡ 0
+unfolding savingOf allowed isLong
+not-long l s h = rw (ne-eqb _ _ h)
+
+module _ {n : ℕ} {legs price : List ℕ} where
+  module _ {b : PricedBook} (h : Holds b n legs price) (i j : ℕ) (f : i < n) (g : j < n) where
+    test : uncovered b i j ≡ ltb (wordAt price i + wordAt price j) (savingOf (legAt legs i) (legAt legs j))
+    test = uncovered-saving b i j ∙ rw (h .leg-same i f, h .leg-same j g, h .price-same i f, h .price-same j g) refl
+
+    pair-none : PairCovered legs price i j → None (atPair b i j)
+    unfolding atPair
+    pair-none c = (test ∙ le-ltb _ _ c, tt)
+
+    pair-open : wordAt price i + wordAt price j < savingOf (legAt legs i) (legAt legs j) → uncovered b i j ≡ true
+    pair-open c = test ∙ lt-ltb _ _ c
+
+-- the first i holdings are covered, as the long, with every holding
+pub record Closed (n : ℕ) (legs price : List ℕ) (i : ℕ) : Type 0 where
+  pub few : i ≤ n
+  pub rows : (k : ℕ) → k < i → (j : ℕ) → j < n → PairCovered legs price k j
+
+module _ {n : ℕ} {legs price : List ℕ} where
+  pub closed-none : Closed n legs price 0
+  closed-none = record { few = omega arith; rows = λ k h. absurd (omega arith) }
+
+  module _ {i : ℕ} (c : Closed n legs price i) where
+    pub closed-more : i < n → ((j : ℕ) → j < n → PairCovered legs price i j) → Closed n legs price (i + 1)
+    closed-more h g = record { few = omega arith; rows = below-more (λ (k : ℕ). (j : ℕ) → j < n → PairCovered legs price k j) i (c .rows) g }
+
+    -- the exact search of row i found none
+    pub closed-row : {r : ℕ} → i < n → FirstOpen n legs price i r → n ≤ r → Closed n legs price (i + 1)
+    closed-row h o e = closed-more h (λ j l. o .covered j (omega arith))
+
+    -- row i is not a long's
+    pub closed-other : i < n → (legAt legs i .side ≡ 0 → ⊥) → Closed n legs price (i + 1)
+    closed-other h e = closed-more h (λ j l. rw (not-long (legAt legs i) (legAt legs j) e) (omega arith))
+
+    pub finds-gap : {j : ℕ} → i < n → FirstOpen n legs price i j → j < n → Finds n legs price (gapAt i j)
+    unfolding answerOf gaps atLong
+    finds-gap {j} h o g = record {
+      found = λ b held.
+          let count = held .count in
+          sym (first-in-turn (atLong b) (b .count) i (answer 16 i j) (answer 0 0 0) (omega arith)
+          (λ k l. none-in-turn (atPair b k) (b .count) (λ m f. pair-none held k m (omega arith) (omega arith) (c .rows k l m (omega arith))))
+          (λ w. first-in-turn (atPair b i) (b .count) j (answer 16 i j) w (omega arith)
+          (λ k l. pair-none held i k (omega arith) (omega arith) (o .covered k l))
+          (λ v. at-pair b (pair-open held i j h g (o .short g)) v)));
+    }
+
+    pub finds-none : n ≤ i → Finds n legs price noGap
+    unfolding answerOf gaps atLong
+    finds-none e = record {
+      found = λ b held.
+          let count = held .count in
+          sym (first-of-none (gaps b) (answer 0 0 0)
+          (none-in-turn (atLong b) (b .count)
+          (λ k l. none-in-turn (atPair b k) (b .count) (λ m f. pair-none held k m (omega arith) (omega arith) (c .rows k (omega arith) m (omega arith))))));
+    }
+
+-- row i is searched short by short: what the two legs were found to be and to save, and the two prices
+module _ (legs price : List ℕ) (i : ℕ) {long : Leg} (a-long : long ≡ legAt legs i) where
+  -- it is not a long's
+  pub first-other : (n : ℕ) → (long .side ≡ 0 → ⊥) → FirstOpen n legs price i n
+  first-other n h = record {
+    few = omega arith;
+    covered = λ j l. rw (not-long (legAt legs i) (legAt legs j) (rw a-long at h)) (omega arith);
+    short = λ g. absurd (omega arith);
+  }
+
+  module _ (j : ℕ) {first second saving : ℕ} {short : Leg} (a : first ≡ wordAt price i) (a-short : short ≡ legAt legs j) (b : second ≡ wordAt price j)
+      (found : saving ≡ savingOf long short) where
+    saves : saving ≡ savingOf (legAt legs i) (legAt legs j)
+    saves = rw (← a-long, ← a-short) found
+
+    pub first-more : saving ≤ first + second → PairCovered legs price i j
+    first-more h = omega (arith, saves)
+
+    pub first-here : {n : ℕ} → ((k : ℕ) → k < j → PairCovered legs price i k) → j < n → first + second < saving → FirstOpen n legs price i j
+    first-here lower g h = record { few = omega arith; covered = lower; short = λ l. omega (arith, saves) }
+
+-- none is open
+pub first-all : (legs price : List ℕ) (i : ℕ) {n j : ℕ} → ((k : ℕ) → k < j → PairCovered legs price i k) → n ≤ j → FirstOpen n legs price i n
+first-all legs price i lower h = record { few = omega arith; covered = λ k l. lower k (omega arith); short = λ l. absurd (omega arith) }

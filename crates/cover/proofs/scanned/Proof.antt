@@ -1,0 +1,117 @@
+-- `scanned` finds the first gap: each turn passes a row that is no long's, that the scan finds covered, or in which the exact search finds
+-- no gap. Assumes nothing.
+use mathlib.Core.Logic.{⊎-elim}
+use mathlib.Core.Path.{refl}
+use Prim.Native.Nat.{_-_}
+use native.Mathlib.Omega.{arith}
+use borrow.Author.Needs.{needs}
+use Rattle.cover.proofs.Filled.{period-low, rate-low, scan-closed}
+use Rattle.cover.proofs.Gaps.{Closed, closed-none, closed-row, closed-other, closed-more, finds-gap, finds-none}
+use Rattle.cover.proofs.scanned.Statement.{statement}
+use Rattle.cover.proofs.scanned.Tie as tie
+
+abbrev Inv-loop : tie.InvT-loop
+Inv-loop n legs price m marks rates prices i₀ i = Closed n legs price i
+
+abbrev μ-loop : tie.MeasureT-loop
+μ-loop n legs price m marks rates prices i₀ i = n - i
+
+loop-holds : tie.Need-loop-holds Inv-loop μ-loop
+loop-holds c = closed-none
+
+mul-leg-in : tie.Need-mul-leg-in Inv-loop μ-loop
+mul-leg-in c = search needs
+
+shared-slice-read-leg-in : tie.Need-shared-slice-read-leg-in Inv-loop μ-loop
+shared-slice-read-leg-in c = search needs
+
+leg-in-requires : tie.Need-leg-in-requires Inv-loop μ-loop
+leg-in-requires c κs = search needs
+
+word-requires : tie.Need-word-requires Inv-loop μ-loop
+word-requires c κs = search needs
+
+mark-of-requires : tie.Need-mark-of-requires Inv-loop μ-loop
+mark-of-requires c κs = rw (c .before .before .before .leg-in .ensures) (period-low _)
+
+cast-row-open : tie.Need-cast-row-open Inv-loop μ-loop
+cast-row-open c =
+    let turn = c .before .before .before .before .before .before .before in
+    let start = turn .before .before .before .before in
+    omega (arith, rate-low _ (start .pre .0) (turn .loop-test .taken) (c .before .before .before .before .before .leg-in .ensures))
+
+cast-row-open-2 : tie.Need-cast-row-open-2 Inv-loop μ-loop
+cast-row-open-2 c =
+    let turn = c .before .before .before .before .before .before .before in
+    let start = turn .before .before .before .before in
+    omega (arith, c .before .before .word .ensures, start .pre .0 .price-high _ (turn .loop-test .taken))
+
+row-open-requires : tie.Need-row-open-requires Inv-loop μ-loop
+row-open-requires c κs =
+    let turn = c .before .before .before .before .before .before .before in
+    let start = turn .before .before .before .before in
+    let leg = c .before .before .before .before .before .leg-in .ensures in
+    let (columns, shorts) = start .pre in
+    (omega (arith, shorts .few, columns .count), (rate-low _ columns (turn .loop-test .taken) leg, shorts .rates-high))
+
+row-gap-requires : tie.Need-row-gap-requires Inv-loop μ-loop
+row-gap-requires c κs = search needs
+
+gap-at-requires : tie.Need-gap-at-requires Inv-loop μ-loop
+gap-at-requires c κs = search needs
+
+returns : tie.Need-returns Inv-loop μ-loop
+returns c =
+    let turn = c .before .before .before .before .before .before .before .before .before .before .before .before in
+    rw (c .gap-at .ensures) (finds-gap (turn .before .loop .inv) (turn .loop-test .taken) (c .before .before .row-gap .ensures) (c .before .if3 .taken))
+
+add-i : tie.Need-add-i Inv-loop μ-loop
+add-i c = search needs
+
+loop-less : tie.Need-loop-less Inv-loop μ-loop
+loop-less c = search needs
+
+loop-again : tie.Need-loop-again Inv-loop μ-loop
+loop-again c =
+    let turn = c .before .before .before .before in
+    let start = turn .before .before .before .before in
+    let closed = turn .before .loop .inv in
+    let taken = turn .loop-test .taken in
+    let leg = c .before .before .leg-in .ensures in
+    let shorts = start .pre .1 in
+    ⊎-elim
+    (λ w. closed-row closed taken (w .6 .ensures) (w .7 .left))
+    (⊎-elim
+    (λ w. closed-more closed taken (scan-closed shorts _ leg (w .2 .ensures) refl (w .1 .ensures) (w .4 .ensures (w .5 .left))))
+    (λ w. closed-other closed taken (rw leg at (w .left))))
+    (c .if1 .came)
+
+no-gap-requires : tie.Need-no-gap-requires Inv-loop μ-loop
+no-gap-requires c κs = search needs
+
+returns-2 : tie.Need-returns-2 Inv-loop μ-loop
+returns-2 c = rw (c .no-gap .ensures) (finds-none (c .before .before .loop .inv) (c .before .loop-test .left))
+
+pub scanned-spec : {M : Type 1} → statement M
+scanned-spec =
+    tie.close
+    (tie.spec
+    Inv-loop
+    μ-loop
+    loop-holds
+    mul-leg-in
+    shared-slice-read-leg-in
+    leg-in-requires
+    word-requires
+    mark-of-requires
+    cast-row-open
+    cast-row-open-2
+    row-open-requires
+    row-gap-requires
+    gap-at-requires
+    returns
+    add-i
+    loop-less
+    loop-again
+    no-gap-requires
+    returns-2)
