@@ -3,47 +3,46 @@
 use mathlib.Core.Path.{_≡_}
 use mathlib.Core.Logic.{_↔_}
 use mathlib.Core.Bool.{cond}
-use mathlib.Core.List.{List}
+use mathlib.Core.List.{List, _++_, map}
 use Prim.Native.Nat.{ℕ, _<_}
 use lib.Dec.{eqb}
 use lib.ListN.{length, getD}
 use Rattle.article.specs.Answer.{Answer}
 use Rattle.proposal.specs.Submission.{Submission, noRow, noLine}
-use Rattle.columns.specs.Columns.{BookColumns, LineColumns, filledBook, filledLines, HoldingWritten, LineWritten}
-use Rattle.sizes.specs.Room.{Room, makeRoom, Holds, columnsTooShort}
+use Rattle.words.specs.Words.{wordAt}
+use Rattle.columns.specs.Columns.{Columns, holdingSizes, lineSizes, filled, RowAt, LineAt}
+use Rattle.sizes.specs.Sizes.{Room, tooShort}
 use Rattle.lent.specs.Lists.{Answers}
 use Rattle.reader.specs.File.{submissionIn, readAnswer}
 use Rattle.reader.specs.ReadsFile.{nothing}
 use Rattle.readable.specs.Readable.{Submits}
 
--- the byte lengths of what the reader writes to
-unfoldable pub roomOf : BookColumns → LineColumns → List ℕ → Room
-roomOf b l slice =
-    makeRoom (length (b .side)) (length (b .kind)) (length (b .issuer)) (length (b .days)) (length (b .value)) (length (b .price)) (length (l .long)) (length (l .short))
-    (length (l .amount)) (length slice)
+-- the lists that the reader writes to: an entry for each holding that the file has, or each line, with the bytes that are lent
+unfoldable pub listsOf : Submission → Columns → List (ℕ × ℕ)
+listsOf s c = map (λ size. (length (s .rows), size)) (holdingSizes c) ++ map (λ size. (length (s .lines), size)) (lineSizes c)
 
 -- what the reader answers: the first refusal in its order, or 0 with the number of holdings and of lines
-unfoldable pub readingAnswer : List ℕ → Room → Answer
-readingAnswer text z = readAnswer (columnsTooShort (length (submissionIn text .rows)) (length (submissionIn text .lines)) z) text
+unfoldable pub readingAnswer : List ℕ → Columns → List ℕ → Answer
+readingAnswer text c slice = readAnswer (tooShort (listsOf (submissionIn text) c) (length slice)) text
 
 -- what goes into the columns: on a refusal nothing
-unfoldable pub filling : List ℕ → Room → Submission
-filling text z = cond (eqb (readingAnswer text z .number) 0) (submissionIn text) nothing
+unfoldable pub filling : List ℕ → Columns → List ℕ → Submission
+filling text c slice = cond (eqb (readingAnswer text c slice .number) 0) (submissionIn text) nothing
 
 -- what the exported reader promises of a text and of what is lent, before and after, and of the number that it returns
-module _ (text : List ℕ) (book book′ : BookColumns) (lines lines′ : LineColumns) (slice slice′ : List ℕ) (r : ℕ) where
+module _ (text : List ℕ) (before after : Columns) (slice slice′ : List ℕ) (r : ℕ) where
   pub record Reads : Type 0 where
     -- the refusal number, 0 for none, is returned; the number of holdings and of lines, or the place, stand in the answer slice
-    pub returned : Answers (readingAnswer text (roomOf book lines slice)) slice slice′ r
+    pub returned : Answers (readingAnswer text before slice) slice slice′ r
     -- the columns of the holdings, and of the lines; a refusal leaves them untouched, and entries past what they are to hold keep what they held
-    pub filled-book : book′ ≡ filledBook (filling text (roomOf book lines slice) .rows) (filling text (roomOf book lines slice) .prices) book
-    pub filled-lines : lines′ ≡ filledLines (filling text (roomOf book lines slice) .lines) lines
+    pub columns : after ≡ filled (filling text before slice) before
     -- a refusal writes to none
-    pub untouched : (r ≡ 0 → ⊥) → (book′ ≡ book) × (lines′ ≡ lines)
+    pub untouched : (r ≡ 0 → ⊥) → after ≡ before
     -- of a file that is read, each holding's numbers with its price, and each line's, stand at their entries
-    pub holding : r ≡ 0 → (k : ℕ) → k < length (submissionIn text .rows) → HoldingWritten book′ k (getD (submissionIn text .rows) k noRow) (getD (submissionIn text .prices) k 0)
-    pub line : r ≡ 0 → (k : ℕ) → k < length (submissionIn text .lines) → LineWritten lines′ k (getD (submissionIn text .lines) k noLine)
+    pub holding : r ≡ 0 → (k : ℕ) → k < length (submissionIn text .rows) → RowAt (after .holdings) k (getD (submissionIn text .rows) k noRow)
+    pub price : r ≡ 0 → (k : ℕ) → k < length (submissionIn text .rows) → wordAt (after .price) k ≡ getD (submissionIn text .prices) k 0
+    pub line : r ≡ 0 → (k : ℕ) → k < length (submissionIn text .lines) → LineAt (after .lines) k (getD (submissionIn text .lines) k noLine)
     -- read exactly when it is a file that submits a book and a proposal, and the lists hold them
-    pub exactly : (r ≡ 0) ↔ (Submits text (submissionIn text) × Holds (length (submissionIn text .rows)) (length (submissionIn text .lines)) (roomOf book lines slice))
+    pub exactly : (r ≡ 0) ↔ (Submits text (submissionIn text) × Room (listsOf (submissionIn text) before) (length slice))
     -- what a text submits is one submission
     pub only : (s : Submission) → Submits text s → s ≡ submissionIn text

@@ -1,11 +1,12 @@
 // The reader and the check for the desk's Rust host: columns and lent lists as byte slices.
-ghost use Rattle.lent.specs.Columns.{makeColumns};
+ghost use mathlib.Core.List.{[], _∷_};
+ghost use Rattle.columns.specs.Columns.{makeColumns};
 ghost use Rattle.lent.specs.Lists.{makeLent};
-ghost use Rattle.columns.specs.Columns.{makeBookColumns, makeLineColumns};
-ghost use Rattle.host.specs.Boundary.{Checks};
+ghost use Rattle.lent.specs.Boundary.{Checks};
 ghost use Rattle.host.specs.Reading.{Reads};
 
-// The check of a proposal, for the host: returns the refusal number, 0 for accepted. Nothing is presumed of the bytes or the lengths; that a
+// The check of a proposal, for the host: returns the refusal number, 0 for accepted. Scratch of 16 entries serves a small book, and 256
+// any other. Nothing is presumed of the bytes or the lengths; that a
 // pointer leads to its bytes, and that no other refers to a list meanwhile, is what a slice means, and the host's borrow sees to it.
 #[no_mangle]
 pub extern "C" fn margin_check(
@@ -22,29 +23,54 @@ pub extern "C" fn margin_check(
     ranking: &mut [u8],
     answer: &mut [u8],
 ) -> u64
-    ensures { λ r. ⌜ Checks (makeColumns (now (side .entry)) (now (kind .entry)) (now (issuer .entry)) (now (days .entry)) (now (value .entry)) (now (price .entry)) (now (long .entry)) (now (short .entry)) (now (amount .entry))) (makeLent (now (remainder .entry)) (now (ranking .entry)) (now (answer .entry))) (makeLent (now (remainder .exit)) (now (ranking .exit)) (now (answer .exit))) r ⌝ }
+    ensures { λ r. ⌜ Checks (makeColumns (now (side .entry) ∷ now (kind .entry) ∷ now (issuer .entry) ∷ now (days .entry) ∷ now (value .entry) ∷ []) (now (price .entry)) (now (long .entry) ∷ now (short .entry) ∷ now (amount .entry) ∷ [])) (makeLent (now (remainder .entry)) (now (ranking .entry)) (now (answer .entry))) (makeLent (now (remainder .exit)) (now (ranking .exit)) (now (answer .exit))) r ⌝ }
 {
-    let number = sizes::lengths(
-        side.len(),
-        kind.len(),
-        issuer.len(),
-        days.len(),
-        value.len(),
-        price.len(),
-        long.len(),
-        short.len(),
-        amount.len(),
-        remainder.len(),
-        ranking.len(),
-        answer.len(),
-    );
-    if number != 0 {
-        return lent::put_answer(number, 0, 0, answer);
+    if side.len() <= 128 {
+        let mut legs = [0u64; 16];
+        let mut left = [0u64; 16];
+        let mut margins = [0u64; 16];
+        let mut ranks = [0u64; 16];
+        return lent::judge(
+            side,
+            kind,
+            issuer,
+            days,
+            value,
+            price,
+            long,
+            short,
+            amount,
+            remainder,
+            ranking,
+            answer,
+            &mut legs,
+            &mut left,
+            &mut margins,
+            &mut ranks,
+        );
     }
-    let book = lent::book_of(side, kind, issuer, days, value);
-    let proposal = lent::proposal_of(price, long, short, amount);
-    let judgement = verdict::check(book, proposal);
-    lent::publish(judgement, side.len() / 8, remainder, ranking, answer)
+    let mut legs = lists::zeros();
+    let mut left = lists::zeros();
+    let mut margins = lists::zeros();
+    let mut ranks = lists::zeros();
+    lent::judge(
+        side,
+        kind,
+        issuer,
+        days,
+        value,
+        price,
+        long,
+        short,
+        amount,
+        remainder,
+        ranking,
+        answer,
+        &mut legs,
+        &mut left,
+        &mut margins,
+        &mut ranks,
+    )
 }
 
 // Reads a file into the columns, for the host: returns the refusal number, 0 for none. Nothing is presumed of the text, the bytes or the lengths.
@@ -62,7 +88,7 @@ pub extern "C" fn margin_read(
     amount: &mut [u8],
     answer: &mut [u8],
 ) -> u64
-    ensures { λ r. ⌜ Reads (now (text .entry)) (makeBookColumns (now (side .entry)) (now (kind .entry)) (now (issuer .entry)) (now (days .entry)) (now (value .entry)) (now (price .entry))) (makeBookColumns (now (side .exit)) (now (kind .exit)) (now (issuer .exit)) (now (days .exit)) (now (value .exit)) (now (price .exit))) (makeLineColumns (now (long .entry)) (now (short .entry)) (now (amount .entry))) (makeLineColumns (now (long .exit)) (now (short .exit)) (now (amount .exit))) (now (answer .entry)) (now (answer .exit)) r ⌝ }
+    ensures { λ r. ⌜ Reads (now (text .entry)) (makeColumns (now (side .entry) ∷ now (kind .entry) ∷ now (issuer .entry) ∷ now (days .entry) ∷ now (value .entry) ∷ []) (now (price .entry)) (now (long .entry) ∷ now (short .entry) ∷ now (amount .entry) ∷ [])) (makeColumns (now (side .exit) ∷ now (kind .exit) ∷ now (issuer .exit) ∷ now (days .exit) ∷ now (value .exit) ∷ []) (now (price .exit)) (now (long .exit) ∷ now (short .exit) ∷ now (amount .exit) ∷ [])) (now (answer .entry)) (now (answer .exit)) r ⌝ }
 {
     let contents = reader::read(text);
     let refusal = contents.number;
@@ -73,7 +99,7 @@ pub extern "C" fn margin_read(
     let proposal = contents.proposal;
     let holdings = book.count;
     let lines = proposal.count;
-    if sizes::too_short(
+    if sizes::columns_too_short(
         holdings,
         lines,
         side.len(),

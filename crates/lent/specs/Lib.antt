@@ -1,2 +1,2 @@
-pub mod Columns
 pub mod Lists
+pub mod Boundary

@@ -4,13 +4,9 @@ use mathlib.Core.Bool.{cond}
 use mathlib.Core.List.{List, [], _∷_}
 use Prim.Native.Nat.{ℕ, _≤_, _<_}
 use lib.Dec.{ltb}
-use lib.ListN.{length, take}
+use lib.ListN.{length}
 use Rattle.lists.specs.Tables.{front}
 use Rattle.article.specs.Answer.{Answer, makeAnswer}
-use Rattle.verdict.specs.Judges.{answerOf}
-use Rattle.verdict.specs.declared.Verdict.{Verdict}
-use Rattle.verdict.specs.declared.Verdict.the-variants.{Accepted, Refused}
-use Rattle.verdict.specs.declared.Judgement.{Judgement}
 use Rattle.words.specs.Words.{wordAt, encode}
 
 -- the lists to be written, as bytes
@@ -37,14 +33,3 @@ pub record Answers (a : Answer) (before after : List ℕ) (r : ℕ) : Type 0 whe
   pub slice : after ≡ answered a before
   pub reads : 16 ≤ length before → answerIn r after ≡ a
   pub unwritten : length before < 16 → after ≡ before
-
--- how many entries of a list of n are written: on a refusal none
-abbrev pub countWritten : Verdict → ℕ → ℕ
-countWritten (Accepted units cents) n = n
-countWritten (Refused number place second) n = 0
-
--- a judgement of n holdings is in the lent lists
-pub record Publishes (j : Judgement) (n : ℕ) (before after : Lent) (r : ℕ) : Type 0 where
-  pub returned : Answers (answerOf (j .verdict)) (before .answer) (after .answer) r
-  pub remainder : after .remainder ≡ front (encode (take (countWritten (j .verdict) n) (j .remainders))) (before .remainder)
-  pub ranking : after .ranking ≡ front (encode (take (countWritten (j .verdict) n) (j .ranking))) (before .ranking)

@@ -1,20 +1,21 @@
--- Document 01, "An answer is either accepted with its figures or refused with number and places": what the check promises of a book and a
--- proposal by value. Assumes nothing.
+-- Document 01, "An answer is either accepted with its figures or refused with number and places": what the check promises of columns. Assumes nothing.
 use mathlib.Core.Path.{_≡_}
-use mathlib.Core.Bool.{cond, false}
+use mathlib.Core.Bool.{Bool, cond}
 use mathlib.Core.List.{List, []}
-use Prim.Native.Nat.{ℕ}
+use Prim.Native.Nat.{ℕ, _≤_}
 use lib.Dec.{eqb}
-use Rattle.lists.specs.Tables.{front, zeros}
+use lib.ListN.{length}
+use Rattle.lists.specs.Tables.{front}
 use Rattle.article.specs.Answer.{Answer, makeAnswer}
-use Rattle.proposal.specs.Submission.{Submission, priced}
+use Rattle.columns.specs.Columns.{Columns, submission, holdingSizes, lineSizes}
+use Rattle.sizes.specs.Sizes.{differ}
+use Rattle.proposal.specs.Submission.{priced}
 use Rattle.proposal.specs.Figures.{remaindersOf, marginsOf, ranked, InRankingOrder}
 use Rattle.proposal.specs.Outcome.{outcome}
 use Rattle.proposal.specs.Demands.{Demands}
 use Rattle.proposal.specs.declared.Fault.{Fault}
 use Rattle.verdict.specs.declared.Verdict.{Verdict}
 use Rattle.verdict.specs.declared.Verdict.the-variants.{Accepted, Refused}
-use Rattle.verdict.specs.declared.Judgement.{Judgement}
 
 -- the paper's number and values of each answer: 0 with total units and cents, or the refusal's number with its two places
 abbrev pub answerOf : Verdict → Answer
@@ -29,27 +30,45 @@ verdictOf a = cond (eqb (a .number) 0) (Accepted (a .first) (a .second)) (Refuse
 unfoldable pub written : Answer → List ℕ → List ℕ
 written a xs = cond (eqb (a .number) 0) xs []
 
--- a fault that names no place
-abbrev pub whole : ℕ → Fault
-whole number = record { number = number; place = 0; second = 0 }
+-- a refusal: its number and places
+unfoldable pub refusalOf : Fault → Verdict
+refusalOf f = Refused (f .number) (f .place) (f .second)
 
--- a refusal: its number and places, and nothing in any list
-unfoldable pub refusalOf : Fault → Judgement
-refusalOf f = record { verdict = Refused (f .number) (f .place) (f .second); remainders = zeros 256; ranking = zeros 256; margins = zeros 256 }
+-- the outcome of what the columns hold; `two` says whether 2 holds of what is lent
+unfoldable pub outcomeIn : Bool → Columns → Answer
+outcomeIn two c = outcome (differ (holdingSizes c) (lineSizes c)) two (submission c)
+
+-- scratch for a book of n holdings: where there are no more than 256, an entry for each in each list
+pub record Room (n : ℕ) (legs left margins ranks : List ℕ) : Type 0 where
+  pub legs-held : n ≤ 256 → n ≤ length legs
+  pub left-held : n ≤ 256 → n ≤ length left
+  pub margins-held : n ≤ 256 → n ≤ length margins
+  pub ranks-held : n ≤ 256 → n ≤ length ranks
+
+-- what the check leaves in its scratch when it accepts
+pub record Scratch : Type 0 where
+  pub left : List ℕ
+  pub margins : List ℕ
+  pub ranks : List ℕ
+
+abbrev pub makeScratch : List ℕ → List ℕ → List ℕ → Scratch
+makeScratch left margins ranks = record { left = left; margins = margins; ranks = ranks }
+
+-- each holding's remainder, its margin and the ranking, at the front of the lists, the entries past them kept
+pub record Worked (c : Columns) (before after : Scratch) : Type 0 where
+  pub remainders : after .left ≡ front (remaindersOf (priced (submission c)) (submission c .lines)) (before .left)
+  pub margins : after .margins ≡ front (marginsOf (priced (submission c)) (submission c .lines)) (before .margins)
+  pub ranking : after .ranks ≡ front (ranked (priced (submission c)) (submission c .lines)) (before .ranks)
 
 -- what the check promises
-pub record Judges (s : Submission) (r : Judgement) : Type 0 where
+pub record Judges (two : Bool) (c : Columns) (before after : Scratch) (r : Verdict) : Type 0 where
   -- the first refusal in the check's order, or the figures
-  pub answer : answerOf (r .verdict) ≡ outcome false false s
+  pub answer : answerOf r ≡ outcomeIn two c
   -- accepted is a case of its own
-  pub verdict : r .verdict ≡ verdictOf (outcome false false s)
-  -- each holding's remainder, at the front of zeros
-  pub remainders : r .remainders ≡ front (written (outcome false false s) (remaindersOf (priced s) (s .lines))) (zeros 256)
-  -- each holding's margin of the remainder, at the front of zeros
-  pub margins : r .margins ≡ front (written (outcome false false s) (marginsOf (priced s) (s .lines))) (zeros 256)
-  -- the ranking, at the front of zeros
-  pub ranking : r .ranking ≡ front (written (outcome false false s) (ranked (priced s) (s .lines))) (zeros 256)
-  -- it has every holding once, by margin of the remainder, largest first, ties by lower number
-  pub order : InRankingOrder (priced s) (s .lines)
+  pub verdict : r ≡ verdictOf (outcomeIn two c)
+  -- after a refusal what the scratch holds is free
+  pub worked : answerOf r .number ≡ 0 → Worked c before after
+  -- the ranking has every holding once, by margin of the remainder, largest first, ties by lower number
+  pub order : InRankingOrder (priced (submission c)) (submission c .lines)
   -- accepted exactly when, the least, and the rounding
-  pub keeps : Demands s false false (answerOf (r .verdict))
+  pub keeps : Demands (submission c) (differ (holdingSizes c) (lineSizes c)) two (answerOf r)

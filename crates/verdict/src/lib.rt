@@ -1,10 +1,10 @@
-// The check: a book and a proposal in, the answer with remainders, ranking and margins out. Nothing is presumed of either.
-use proposal::Book;
+// The check: columns in, the answer out. Nothing is presumed of the columns; what it works on are lists that are lent to it.
 use proposal::Fault;
-use proposal::Proposal;
 ghost use mathlib.Core.Path.{_≡_};
-ghost use Rattle.proposal.specs.Submission.{submitted};
-ghost use Rattle.verdict.specs.Judges.{whole, refusalOf, Judges};
+ghost use mathlib.Core.List.{[], _∷_};
+ghost use Rattle.words.specs.Words.{entries};
+ghost use Rattle.columns.specs.Columns.{makeColumns};
+ghost use Rattle.verdict.specs.Judges.{refusalOf, Room, makeScratch, Judges};
 
 // Accepted with its figures, or refused with number and places.
 pub enum Verdict {
@@ -19,83 +19,73 @@ pub enum Verdict {
     },
 }
 
-// The answer and, where it is accepted, each holding's remainder, the ranking, and each holding's margin of the remainder; zeros past the book
-// and on a refusal.
-pub struct Judgement {
-    pub verdict: Verdict,
-    pub remainders: [u64; 256],
-    pub ranking: [u64; 256],
-    pub margins: [u64; 256],
-}
-
-// A refusal, with nothing in any list.
-fn refused(fault: Fault) -> Judgement
+fn refused(fault: Fault) -> Verdict
     ensures { λ r. ⌜ r ≡ refusalOf fault ⌝ }
 {
-    Judgement {
-        verdict: Verdict::Refused {
-            number: fault.number,
-            place: fault.place,
-            second: fault.second,
-        },
-        remainders: lists::zeros(),
-        ranking: lists::zeros(),
-        margins: lists::zeros(),
+    Verdict::Refused {
+        number: fault.number,
+        place: fault.place,
+        second: fault.second,
     }
 }
 
-// A refusal that names no place.
-fn refused_whole(number: u64) -> Judgement
-    ensures { λ r. ⌜ r ≡ refusalOf (whole number) ⌝ }
+// The check, in document 01's order: 1, 3, 9, 2; each holding in turn; each line in turn; 16; 17; else the figures. `two` says whether 2 holds of
+// what is lent. Where it accepts, `left` has each holding's remainder, `margins` the margin of that, and `ranks` the ranking.
+pub fn check(
+    two: bool,
+    side: &[u8],
+    kind: &[u8],
+    issuer: &[u8],
+    days: &[u8],
+    value: &[u8],
+    price: &[u8],
+    long: &[u8],
+    short: &[u8],
+    amount: &[u8],
+    legs: &mut [u64],
+    left: &mut [u64],
+    margins: &mut [u64],
+    ranks: &mut [u64],
+) -> Verdict
+    requires { ⌜ Room (entries (now side)) (now legs) (now left) (now margins) (now ranks) ⌝ }
+    ensures { λ r. ⌜ Judges two (makeColumns (now (side .entry) ∷ now (kind .entry) ∷ now (issuer .entry) ∷ now (days .entry) ∷ now (value .entry) ∷ []) (now (price .entry)) (now (long .entry) ∷ now (short .entry) ∷ now (amount .entry) ∷ [])) (makeScratch (now (left .entry)) (now (margins .entry)) (now (ranks .entry))) (makeScratch (now (left .exit)) (now (margins .exit)) (now (ranks .exit))) r ⌝ }
 {
-    refused(Fault {
-        number,
-        place: 0,
-        second: 0,
-    })
-}
-
-// The check, in document 01's order: 3, 9; each holding in turn; each line in turn; 16; 17; else the figures.
-pub fn check(book: Book, proposal: Proposal) -> Judgement
-    ensures { λ r. ⌜ Judges (submitted book proposal) r ⌝ }
-{
-    if book.count > 256 {
-        return refused_whole(3);
+    let number = sizes::lengths(
+        side.len(),
+        kind.len(),
+        issuer.len(),
+        days.len(),
+        value.len(),
+        price.len(),
+        long.len(),
+        short.len(),
+        amount.len(),
+        two,
+    );
+    if number != 0 {
+        return refused(proposal::fault_at(number, 0, 0));
     }
-    if proposal.count > 512 {
-        return refused_whole(9);
-    }
-    let prices = proposal.prices;
-    let opened = positions::open(book, prices);
-    let fault = opened.fault;
+    let n = side.len() / 8;
+    let fault = positions::open(side, kind, issuer, days, value, price, legs, left);
     if fault.number != 0 {
         return refused(fault);
     }
-    let positions = opened.positions;
-    let walked = tally::take_lines(positions, proposal);
+    let walked = tally::take_lines(n, legs, left, long, short, amount);
     let fault = walked.fault;
     if fault.number != 0 {
         return refused(fault);
     }
-    let pair = cover::first_uncovered(positions);
+    let pair = cover::first_uncovered(n, legs, price);
     if pair.number != 0 {
         return refused(pair);
     }
-    let tally = walked.tally;
-    if cover::priced_total(positions) != tally.saving {
-        return refused_whole(17);
+    if cover::priced_total(price, value) != walked.saving {
+        return refused(proposal::fault_at(17, 0, 0));
     }
-    let figures = figures::work_out(positions, tally);
-    let remainders = tally.left;
-    let ranking = figures.ranking;
-    let margins = figures.margins;
-    Judgement {
-        verdict: Verdict::Accepted {
-            units: figures.units,
-            cents: figures.cents,
-        },
-        remainders,
-        ranking,
-        margins,
+    let units = walked.units + figures::margins_of(n, legs, left, margins);
+    ranking::rank(n, margins, ranks);
+    Verdict::Accepted {
+        units,
+        cents: figures::cents_of(units),
     }
 }

@@ -2,6 +2,8 @@
 -- numbers": what the exported check promises of what is lent. Assumes nothing.
 use mathlib.Core.Path.{_≡_}
 use mathlib.Core.Logic.{_↔_}
+use mathlib.Core.Bool.{Bool}
+use mathlib.Core.List.{[], _∷_}
 use Prim.Native.Nat.{ℕ}
 use lib.ListN.{length}
 use Rattle.lists.specs.Tables.{front}
@@ -12,19 +14,29 @@ use Rattle.proposal.specs.Outcome.{outcome}
 use Rattle.proposal.specs.Demands.{Acceptable, Demands}
 use Rattle.verdict.specs.Judges.{written}
 use Rattle.words.specs.Words.{encode}
-use Rattle.lent.specs.Columns.{Columns, submission, ColumnEntries}
-use Rattle.sizes.specs.Sizes.{Sizes, makeSizes, Lengths, differ, tooShort}
+use Rattle.columns.specs.Columns.{Columns, countIn, submission, holdingSizes, lineSizes, ColumnEntries}
+use Rattle.sizes.specs.Sizes.{Sizes, Lengths, differ, tooShort}
 use Rattle.lent.specs.Lists.{Lent, answerIn, Answers}
 
--- the byte lengths of what is lent
+-- the byte lengths of what is lent: the columns, an entry for each holding in the remainders and in the ranking, and the answer slice
 unfoldable pub sizesOf : Columns → Lent → Sizes
-sizesOf c l =
-    makeSizes (length (c .side)) (length (c .kind)) (length (c .issuer)) (length (c .days)) (length (c .value)) (length (c .price)) (length (c .long)) (length (c .short))
-    (length (c .amount)) (length (l .remainder)) (length (l .ranking)) (length (l .answer))
+sizesOf c l = record {
+  holdings = holdingSizes c;
+  lines = lineSizes c;
+  lists = (countIn (c .holdings), length (l .remainder)) ∷ (countIn (c .holdings), length (l .ranking)) ∷ [];
+  slice = length (l .answer);
+}
+
+-- whether 1 holds of what is lent, and whether 2 does
+unfoldable pub one : Columns → Bool
+one c = differ (holdingSizes c) (lineSizes c)
+
+unfoldable pub two : Columns → Lent → Bool
+two c l = tooShort (sizesOf c l .lists) (sizesOf c l .slice)
 
 -- the outcome of what is lent
 unfoldable pub outcomeOf : Columns → Lent → Answer
-outcomeOf c l = outcome (differ (sizesOf c l)) (tooShort (sizesOf c l)) (submission c)
+outcomeOf c l = outcome (one c) (two c l) (submission c)
 
 -- what the exported check promises of what is lent, before and after, and of the number that it returns
 module _ (c : Columns) (before after : Lent) (r : ℕ) where
@@ -44,4 +56,4 @@ module _ (c : Columns) (before after : Lent) (r : ℕ) where
     -- accepted exactly when what is lent has the lengths, and the proposal is within the limits, keeps the article, is covered and has equal totals
     pub exactly : (r ≡ 0) ↔ (Lengths (sizesOf c before) × Acceptable (submission c))
     -- the least and the rounding, of what the host reads, and the terms that they speak of
-    pub keeps : Demands (submission c) (differ (sizesOf c before)) (tooShort (sizesOf c before)) (answerIn r (after .answer))
+    pub keeps : Demands (submission c) (one c) (two c before) (answerIn r (after .answer))
