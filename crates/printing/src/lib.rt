@@ -1,6 +1,62 @@
 // What the program `margin` prints of a file: read, checked and reported.
+ghost use mathlib.Core.Path.{_≡_};
+ghost use mathlib.Core.List.{[], _∷_};
+ghost use lib.ListN.{length};
+ghost use Rattle.columns.specs.Columns.{makeColumns};
 ghost use Rattle.printing.specs.Printed.{PrintsFile};
+ghost use Rattle.printing.specs.Columns.{PrintsColumns};
 ghost use Rattle.printing.specs.Within.{Within};
+
+// Room for a column of 256 holdings, and for one of 512 lines.
+fn holding_column() -> [u8; 2048]
+    ensures { λ r. ⌜ length r ≡ 2048 ⌝ }
+{
+    [0; 2048]
+}
+
+fn line_column() -> [u8; 4096]
+    ensures { λ r. ⌜ length r ≡ 4096 ⌝ }
+{
+    [0; 4096]
+}
+
+// Checks columns, and prints what is found.
+fn print_columns(
+    side: &[u8],
+    kind: &[u8],
+    issuer: &[u8],
+    days: &[u8],
+    value: &[u8],
+    price: &[u8],
+    long: &[u8],
+    short: &[u8],
+    amount: &[u8],
+    out: &mut [u8],
+) -> usize
+    ensures { λ r. ⌜ PrintsColumns (makeColumns (now (side .entry) ∷ now (kind .entry) ∷ now (issuer .entry) ∷ now (days .entry) ∷ now (value .entry) ∷ []) (now (price .entry)) (now (long .entry) ∷ now (short .entry) ∷ now (amount .entry) ∷ [])) (now (out .entry)) (now (out .exit)) r ⌝ }
+{
+    let mut legs = lists::zeros();
+    let mut left = lists::zeros();
+    let mut margins = lists::zeros();
+    let mut ranks = lists::zeros();
+    let verdict = verdict::check(
+        false,
+        side,
+        kind,
+        issuer,
+        days,
+        value,
+        price,
+        long,
+        short,
+        amount,
+        &mut legs,
+        &mut left,
+        &mut margins,
+        &mut ranks,
+    );
+    report::report(verdict, side.len() / 8, &left, &margins, &ranks, out)
+}
 
 // Prints a file at the front of out, and returns how many bytes that is. A list with less than the report's room is left alone, and 0 returned.
 pub fn print_file(text: &[u8], out: &mut [u8]) -> usize
@@ -14,6 +70,38 @@ pub fn print_file(text: &[u8], out: &mut [u8]) -> usize
     }
     let book = contents.book;
     let proposal = contents.proposal;
-    let judgement = verdict::check(book, proposal);
-    report::report(judgement, book.count, out)
+    let mut side = holding_column();
+    let mut kind = holding_column();
+    let mut issuer = holding_column();
+    let mut days = holding_column();
+    let mut value = holding_column();
+    let mut price = holding_column();
+    let mut long = line_column();
+    let mut short = line_column();
+    let mut amount = line_column();
+    columns::write_book(
+        book,
+        proposal,
+        &mut side,
+        &mut kind,
+        &mut issuer,
+        &mut days,
+        &mut value,
+        &mut price,
+    );
+    columns::write_proposal(proposal, &mut long, &mut short, &mut amount);
+    let n = 8 * book.count;
+    let m = 8 * proposal.count;
+    print_columns(
+        &side[..n],
+        &kind[..n],
+        &issuer[..n],
+        &days[..n],
+        &value[..n],
+        &price[..n],
+        &long[..m],
+        &short[..m],
+        &amount[..m],
+        out,
+    )
 }

@@ -4,6 +4,7 @@ use mathlib.Core.List.{List, [], _∷_, _++_, flatMap}
 use Prim.Native.Nat.{ℕ}
 use lib.Dec.{eqb}
 use lib.ListN.{getD, take}
+use Rattle.lists.specs.Tables.{listTo}
 use Rattle.lists.specs.Texts.{ascii}
 use Rattle.numerals.specs.Numerals.{digits}
 use Rattle.article.specs.Answer.{Answer}
@@ -11,7 +12,7 @@ use Rattle.pairing.specs.declared.Line.{Line}
 use Rattle.proposal.specs.Submission.{Submission, PricedBook, priced}
 use Rattle.proposal.specs.Figures.{remainder, margin, ranked}
 use Rattle.verdict.specs.Judges.{answerOf}
-use Rattle.verdict.specs.declared.Judgement.{Judgement}
+use Rattle.verdict.specs.declared.Verdict.{Verdict}
 
 -- a number after a comma
 unfoldable pub afterComma : ℕ → List ℕ
@@ -49,10 +50,10 @@ bookLine b lines k = remainderLine k (remainder b lines k) (margin b lines k)
 unfoldable pub printedOf : Submission → Answer → List ℕ
 printedOf s a = printedLines a (bookLine (priced s) (s .lines)) (ranked (priced s) (s .lines))
 
--- the R line of a number in a judgement's lists, past which nothing remains
-unfoldable pub judgedLine : Judgement → ℕ → List ℕ
-judgedLine j k = remainderLine k (getD (j .remainders) k 0) (getD (j .margins) k 0)
+-- the R line of a number in lists of remainders and of their margins, past which nothing remains
+unfoldable pub judgedLine : List ℕ → List ℕ → ℕ → List ℕ
+judgedLine left margins k = remainderLine k (getD left k 0) (getD margins k 0)
 
--- what is printed of a judgement of so many holdings
-unfoldable pub reportOf : Judgement → ℕ → List ℕ
-reportOf j count = printedLines (answerOf (j .verdict)) (judgedLine j) (take count (j .ranking))
+-- what is printed of a verdict on so many holdings, at most 256, with their lists
+unfoldable pub reportOf : Verdict → ℕ → List ℕ → List ℕ → List ℕ → List ℕ
+reportOf v count left margins ranks = printedLines (answerOf v) (judgedLine left margins) (take count (listTo 256 (λ k. getD ranks k 0)))

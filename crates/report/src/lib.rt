@@ -1,10 +1,10 @@
-// What is printed of a judgement: its lines, as bytes in a lent list.
-use verdict::Judgement;
+// What is printed of a verdict: its lines, as bytes in a lent list.
 use verdict::Verdict;
 ghost use mathlib.Core.Path.{_≡_};
 ghost use mathlib.Core.List.{[], _∷_, flatMap};
 ghost use Prim.Native.Nat.{_+_, _*_, _≤_, _<_};
 ghost use lib.ListN.{length, getD, take};
+ghost use Rattle.lists.specs.Tables.{listTo};
 ghost use Rattle.article.specs.Answer.{makeAnswer};
 ghost use Rattle.verdict.specs.Judges.{answerOf};
 ghost use Rattle.report.specs.Written.{Written, Prints};
@@ -71,44 +71,54 @@ fn entry(list: &[u64], k: u64) -> u64
     0
 }
 
-// Writes the R lines of the first `count` holdings of the ranking from `at` on, and returns the place after them.
-fn put_remainders(judgement: Judgement, count: usize, at: usize, out: &mut [u8]) -> usize
+// Writes the R lines of the first `count` holdings of a ranking of at most 256 from `at` on, and returns the place after them.
+fn put_remainders(
+    count: usize,
+    left: &[u64],
+    margins: &[u64],
+    ranks: &[u64],
+    at: usize,
+    out: &mut [u8],
+) -> usize
     requires { ⌜ at + 66 * 256 ≤ length (now out) ⌝ }
-    ensures { λ r. ⌜ Written (flatMap (judgedLine judgement) (take count (judgement .ranking))) at r (now (out .entry)) (now (out .exit)) ⌝ }
+    ensures { λ r. ⌜ Written (flatMap (judgedLine (now (left .entry)) (now (margins .entry))) (take count (listTo 256 (λ k. getD (now (ranks .entry)) k 0)))) at r (now (out .entry)) (now (out .exit)) ⌝ }
 {
-    let ranking = judgement.ranking;
-    let remainders = judgement.remainders;
-    let margins = judgement.margins;
     let mut next = at;
     let mut i = 0;
     while i < 256 {
         if i == count {
             return next;
         }
-        let k = ranking[i];
-        let cents = entry(&remainders, k);
-        let units = entry(&margins, k);
+        let k = entry(ranks, i as u64);
+        let cents = entry(left, k);
+        let units = entry(margins, k);
         next = put_line(b'R', [k, cents, units], 3, next, out);
         i += 1;
     }
     next
 }
 
-// The lines of a judgement of `count` holdings at the front of out, and how many bytes they are. A list with less than ROOM is left alone, and 0
-// returned.
-pub fn report(judgement: Judgement, count: usize, out: &mut [u8]) -> usize
-    ensures { λ r. ⌜ Prints (reportOf judgement count) (now (out .entry)) (now (out .exit)) r ⌝ }
+// The lines of a verdict on `count` holdings at the front of out, and how many bytes they are: their remainders, the margins of those and the
+// ranking are lent. A list with less than ROOM is left alone, and 0 returned.
+pub fn report(
+    verdict: Verdict,
+    count: usize,
+    left: &[u64],
+    margins: &[u64],
+    ranks: &[u64],
+    out: &mut [u8],
+) -> usize
+    ensures { λ r. ⌜ Prints (reportOf verdict count (now (left .entry)) (now (margins .entry)) (now (ranks .entry))) (now (out .entry)) (now (out .exit)) r ⌝ }
 {
     if out.len() < ROOM {
         return 0;
     }
-    let verdict = judgement.verdict;
     let numbers = numbers_of(verdict);
     if numbers[0] != 0 {
         return put_line(b'X', numbers, 3, 0, out);
     }
     let next = put_line(b'M', [numbers[1], numbers[2], 0], 2, 0, out);
-    put_remainders(judgement, count, next, out)
+    put_remainders(count, left, margins, ranks, next, out)
 }
 
 // The line of a refusal at the front of out, and how many bytes it is. A list with less than ROOM is left alone, and 0 returned.
