@@ -6,7 +6,7 @@ use native.Mathlib.Omega.{arith}
 use borrow.Author.Tests.{eqb-true}
 use Rattle.lists.specs.Choice.{firstOf}
 use Rattle.lists.proofs.Tests.{within-true, by-test}
-use Rattle.article.specs.Pair.{isBond, isStrip, isCanada, isProvince, kindsPair, sameClass, mixedClass, classRule, ruleOf, allowed, ruleRate, pairRate, savingRate}
+use Rattle.article.specs.Pair.{isBond, isStrip, isCanada, isProvince, kindsPair, sameClass, mixedClass, classRule, ruleOf, allowed, ruleRate, pairRateOf, savingRateOf}
 use Rattle.article.proofs.Legs.{allowed-meets}
 use Rattle.article.specs.declared.pair.Rule.{Rule}
 use Rattle.article.specs.declared.pair.Rule.the-variants.{Difference, HalfSum, NotAllowed}
@@ -69,7 +69,7 @@ module _ (l s : Leg) where
   -- a pair that may be allowed saves by its rule, any other nothing
   saving-at-most : (x : ℕ) → (l .period ≡ s .period → kindsPair l s ≡ true → sameClass l s ≡ true → 2 * min (l .rate) (s .rate) ≤ x)
       → (l .period ≡ s .period → kindsPair l s ≡ true → mixedClass l s ≡ true → (l .rate + s .rate + 1) / 2 ≤ x) → savingOf l s ≤ x
-  unfolding savingOf savingRate pairRate ruleOf classRule firstOf ruleRate
+  unfolding savingOf savingRateOf pairRateOf ruleOf classRule firstOf ruleRate
   saving-at-most x d h =
       by-test (λ (y : ℕ). y ≤ x) (allowed l s)
       (λ e.

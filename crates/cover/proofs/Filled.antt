@@ -10,11 +10,12 @@ use borrow.Author.Count.{below-more}
 use borrow.Author.Tests.{ne-eqb}
 use Rattle.words.specs.Words.{wordAt}
 use mathlib.Core.Bool.{and-false}
-use Rattle.article.specs.Pair.{isShort, isLong, allowed}
+use Rattle.article.specs.Pair.{isShort, isLong, allowed, rateLimit, RateInRange}
 use Rattle.article.specs.declared.pair.Leg.{Leg}
 use Rattle.packed.specs.Packed.{legIn}
+use Rattle.packed.specs.Held.{legAt, AtMost, entry}
 use Rattle.savings.specs.Savings.{savingOf}
-use Rattle.cover.specs.Columns.{legAt, PairCovered, Columns}
+use Rattle.cover.specs.Cover.{PairCovered, Priced}
 use Rattle.cover.specs.Shorts.{markOf, Marked, Covered, Places, Shorts}
 
 -- a holding that is not short saves nothing as the short
@@ -38,7 +39,7 @@ module _ {legs price : List ℕ} where
     }
 
     -- one more short
-    module _ (x y z : ℕ) (marked : Marked (legAt legs n) x y) (low : y ≤ 21900) (e : z ≡ wordAt price n)
+    module _ (x y z : ℕ) (marked : Marked (legAt legs n) x y) (low : y ≤ rateLimit) (e : z ≡ wordAt price n)
         (in-marks : m < length marks) (in-rates : m < length rates) (in-prices : m < length prices) where
       module _ {mark rate p : ℕ} (c : Covered mark rate p (set marks m x) (set rates m y) (set prices m z) (m + 1)) where
         covered-old : Covered mark rate p marks rates prices m
@@ -54,9 +55,9 @@ module _ {legs price : List ℕ} where
             rw (getD-set-same prices m z 0 in-prices, e) at
             (c .covered m (omega arith) l (legAt legs n) ml (rw (getD-set-same marks m x 0 in-marks, getD-set-same rates m y 0 in-rates) marked))
 
-      rates-more : (k : ℕ) → k < m + 1 → getD (set rates m y) k 0 ≤ 21900
+      rates-more : AtMost rateLimit (m + 1) (entry (set rates m y))
       rates-more =
-          below-more (λ (k : ℕ). getD (set rates m y) k 0 ≤ 21900) m
+          below-more (λ (k : ℕ). getD (set rates m y) k 0 ≤ rateLimit) m
           (λ k h.
           let ne : k ≢ m = λ q. omega (arith, q) in
           rw (getD-set-other rates m k y 0 ne) (s .rates-high k h))
@@ -97,10 +98,10 @@ module _ {n : ℕ} {legs price marks rates prices : List ℕ} where
             shorts = shorts-other (f .shorts) (rw found at e);
           })
 
-      pub filling-more : Columns n legs price → {x z : ℕ} → x ≡ markOf leg → z ≡ wordAt price j → marks′ ≡ set marks m x
+      pub filling-more : Priced n legs price → {x z : ℕ} → x ≡ markOf leg → z ≡ wordAt price j → marks′ ≡ set marks m x
           → rates′ ≡ set rates m (leg .rate) → prices′ ≡ set prices m z → m′ ≡ m + 1 → Filling n legs price marks′ rates′ prices′ m′ (j + 1)
-      filling-more columns {x} {z} mark e p q r t =
-          let room : m < 256 = omega (arith, columns .count, f .shorts .few) in
+      filling-more priced {x} {z} mark e p q r t =
+          let room : m < 256 = omega (arith, priced .bounded .few, f .shorts .few) in
           let marked : Marked (legAt legs j) x (leg .rate) = record { marked = mark ∙ ap markOf found; rated = ap (λ (l : Leg). l .rate) found } in
           rw (p, q, r, t)
           (record {
@@ -111,7 +112,7 @@ module _ {n : ℕ} {legs price marks rates prices : List ℕ} where
               prices-held = length-set prices m z ∙ f .places .prices-held;
             };
             shorts =
-                shorts-more (f .shorts) x (leg .rate) z marked (rw found (columns .rate-high j h)) e
+                shorts-more (f .shorts) x (leg .rate) z marked (rw found (priced .bounded .rate j h)) e
                 (omega (arith, f .places .marks-held)) (omega (arith, f .places .rates-held)) (omega (arith, f .places .prices-held));
           })
 
@@ -120,9 +121,9 @@ module _ {n : ℕ} {legs price marks rates prices : List ℕ} where
       let e : j ≡ n = omega (arith, f .few) in
       rw e at (f .shorts)
 
--- a rate of the columns is small
-pub rate-low : {n : ℕ} {legs price : List ℕ} (j : ℕ) {leg : Leg} → Columns n legs price → j < n → leg ≡ legAt legs j → leg .rate ≤ 21900
-rate-low j columns h found = rw found (columns .rate-high j h)
+-- a leg in the list has a rate within the article
+pub rate-low : {n : ℕ} {legs price : List ℕ} (j : ℕ) {leg : Leg} → Priced n legs price → j < n → leg ≡ legAt legs j → RateInRange leg
+rate-low j priced h found = rw found (priced .bounded .rate j h)
 
 -- what the scan finds covered is covered with every holding
 pub scan-closed : {n m : ℕ} {legs price marks rates prices : List ℕ} → Shorts n legs price marks rates prices m → (i : ℕ) {mark rate first : ℕ} {leg : Leg}
