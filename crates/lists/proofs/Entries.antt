@@ -1,14 +1,16 @@
 -- What holds of every entry of a list: at each place, and from one computed test. Assumes nothing.
 use mathlib.Core.Path.{_≡_, refl, sym, _∙_}
-use mathlib.Core.Bool.{Bool, true, false, _&&_, and-eq-true-iff, false≢true}
+use mathlib.Core.Logic.{_↔_}
+use mathlib.Core.Bool.{Bool, true, false, _&&_, _||_, and-eq-true-iff, false≢true}
 use mathlib.Core.List.{List, [], _∷_, _++_}
 use Prim.Native.Nat.{ℕ, zero, suc, _≤_, _<_}
 use native.Mathlib.Omega.{arith}
 use lib.Dec.{leb, eqb}
 use lib.ListN.{length, getD}
 use borrow.Author.Tests.{leb-true, eq-eqb, eqb-true}
-use Rattle.lists.specs.Choice.{same}
+use Rattle.lists.specs.Choice.{same, some}
 use Rattle.lists.specs.Each.{Each}
+use Rattle.lists.proofs.Tests.{neither}
 
 abbrev pub every : {A : Type 0} → (A → Bool) → List A → Bool
 every test [] = true
@@ -20,6 +22,29 @@ each-by P test f [] e = tt
 each-by P test f (x ∷ xs) e =
     let (a, b) = and-eq-true-iff (test x) (every test xs) .0 e in
     (f x a, each-by P test f xs b)
+
+-- no entry passes a test exactly when each has what failing it gives
+pub none-some : {A : Type 0} (P : A → Type 0) (test : A → Bool) → ((x : A) → (test x ≡ false) ↔ P x) → (xs : List A) → (some test xs ≡ false) ↔ Each P xs
+unfolding some
+none-some P test f [] = ((λ e. tt), (λ h. refl))
+none-some P test f (x ∷ xs) = (
+  λ e.
+      let (a, b) = neither (test x) (some test xs) e in
+      (f x .0 a, none-some P test f xs .0 b),
+  λ h. rw (f x .1 (h .0)) (none-some P test f xs .1 (h .1)),
+)
+
+-- tests one after another: the first, or one of those of a list
+abbrev pub oneOf : {A : Type 0} → (A → Bool) → Bool → List A → Bool
+oneOf test b [] = b
+oneOf test b (x ∷ xs) = oneOf test (b || test x) xs
+
+pub one-some : {A : Type 0} (test : A → Bool) (b : Bool) (xs : List A) → (b || some test xs) ≡ oneOf test b xs
+unfolding some
+one-some test true [] = refl
+one-some test false [] = refl
+one-some test true (x ∷ xs) = one-some test true xs
+one-some test false (x ∷ xs) = one-some test (test x) xs
 
 -- what follows for one entry follows for each
 pub each-so : {A : Type 0} (P Q : A → Type 0) → ((x : A) → P x → Q x) → (xs : List A) → Each P xs → Each Q xs
