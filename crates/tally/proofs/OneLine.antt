@@ -10,11 +10,13 @@ use borrow.Author.Tests.{not-false, ltb-false, eqb-true}
 use Rattle.lists.specs.Choice.{firstOf}
 use Rattle.lists.proofs.Tests.{tests, neither}
 use Rattle.lists.proofs.Firsts.{None, Listed}
-use Rattle.article.specs.Pair.{isLong, isShort, allowed, pairRate, savingRate}
+use Rattle.holding.specs.Holding.{valueLimit}
+use Rattle.article.specs.Pair.{isLong, isShort, allowed, pairRateOf, savingRateOf, rateLimit, savingLimit}
 use Rattle.article.specs.declared.pair.Leg.{Leg}
 use Rattle.article.proofs.Legs.{allowed-high}
 use Rattle.article.proofs.PairRates.{saving-high}
-use Rattle.article.proofs.Told.{Told}
+use Rattle.article.proofs.Answered.{Answered}
+use Rattle.proposal.specs.Figures.{marginLimit, savedLimit}
 use Rattle.proposal.specs.Outcome.{pairFaults}
 use Rattle.proposal.proofs.Places.{pair-listed}
 use Rattle.tally.specs.Applied.{refusals, taken, appliedOf, Ready, Applies}
@@ -24,10 +26,10 @@ use Rattle.tally.specs.declared.Applied.the-variants.{Taken, Refused}
 
 -- one line adds no more units and no more saving than the highest rates times the highest value
 pub record High (amount rate save : ℕ) : Type 0 where
-  pub units : rate * amount ≤ 21900 * 100000000000
-  pub saving : save * amount ≤ 43800 * 100000000000
+  pub units : rate * amount ≤ marginLimit
+  pub saving : save * amount ≤ savedLimit
 
-pub high : {amount rate save : ℕ} → amount ≤ 100000000000 → rate ≤ 21900 → save ≤ 43800 → High amount rate save
+pub high : {amount rate save : ℕ} → amount ≤ valueLimit → rate ≤ rateLimit → save ≤ savingLimit → High amount rate save
 high amount rate save = record { units = mul-le-mul rate amount; saving = mul-le-mul save amount }
 
 module _ {t : Tally} {amount : ℕ} {long short : Leg} where
@@ -52,24 +54,24 @@ module _ {t : Tally} {amount : ℕ} {long short : Leg} where
         no-amount z = record { answer = search (tests, may) }
 
         module _ (some : amount ≡ 0 → ⊥) where
-          pub above-long : t .«long_left» < amount → Applies t amount long short (Refused 15)
+          pub above-long : t .long < amount → Applies t amount long short (Refused 15)
           unfolding appliedOf refusals pairFaults firstOf isLong isShort
           above-long h = record { answer = search (tests, may) }
 
-          module _ (within : amount ≤ t .«long_left») where
-            pub above-short : t .«short_left» < amount → Applies t amount long short (Refused 15)
+          module _ (within : amount ≤ t .long) where
+            pub above-short : t .short < amount → Applies t amount long short (Refused 15)
             unfolding appliedOf refusals pairFaults firstOf isLong isShort
             above-short h = record { answer = search (tests, may) }
 
-            pub accepted : amount ≤ t .«short_left» → {rate save : ℕ} → Told long short rate save
+            pub accepted : amount ≤ t .short → {rate save : ℕ} → Answered long short rate save
                 → Applies t amount long short (Taken (record {
-                  «long_left» = t .«long_left» - amount;
-                  «short_left» = t .«short_left» - amount;
+                  long = t .long - amount;
+                  short = t .short - amount;
                   units = t .units + rate * amount;
                   saving = t .saving + save * amount;
                 }))
             unfolding appliedOf refusals pairFaults firstOf isLong isShort taken
-            accepted h told = record { answer = rw (told .pair-rate, told .saving-rate) (search (tests, may)) }
+            accepted h found = record { answer = rw (found .pair-rate, found .saving-rate) (search (tests, may)) }
 
 -- what is answered by a number is the first refusal, whatever follows; what is answered by a tally, no refusal
 first-refused : (fs : List (Bool × ℕ)) (t : Tally) (n : ℕ) → Refused n ≡ firstOf (refusals fs) (Taken t) → Listed fs → (n ≡ firstOf fs 0) × (1 ≤ n)
@@ -106,20 +108,20 @@ differ l s amount a b none e =
 
 -- a line taken off: no refusal holds, the new tally, two legs, and bounds of what the line adds
 pub record Took (t : Tally) (amount : ℕ) (long short : Leg) (after : Tally) : Type 0 where
-  pub none : None (pairFaults long short amount (t .«long_left») (t .«short_left»))
+  pub none : None (pairFaults long short amount (t .long) (t .short))
   pub tally : after ≡ taken t amount long short
   pub apart : long ≡ short → ⊥
-  pub high : High amount (pairRate long short) (savingRate long short)
+  pub high : High amount (pairRateOf long short) (savingRateOf long short)
 
 module _ {t : Tally} {amount : ℕ} {long short : Leg} {r : Applied} (applies : Applies t amount long short r) where
-  pub refused : {n : ℕ} → r ≡ Refused n → (n ≡ firstOf (pairFaults long short amount (t .«long_left») (t .«short_left»)) 0) × (1 ≤ n)
+  pub refused : {n : ℕ} → r ≡ Refused n → (n ≡ firstOf (pairFaults long short amount (t .long) (t .short)) 0) × (1 ≤ n)
   unfolding appliedOf
   refused {n} e = first-refused _ (taken t amount long short) n (rw e at (applies .answer)) (pair-listed _ _ _ _ _)
 
   pub took : {after : Tally} → Ready t long short → r ≡ Taken after → Took t amount long short after
   unfolding appliedOf
   took {after} ready e =
-      let (none, is) = first-taken (pairFaults long short amount (t .«long_left») (t .«short_left»)) (taken t amount long short) after (rw e at (applies .answer)) in
+      let (none, is) = first-taken (pairFaults long short amount (t .long) (t .short)) (taken t amount long short) after (rw e at (applies .answer)) in
       let (may, within) = passed long short amount _ _ none in
       record {
         none = none;

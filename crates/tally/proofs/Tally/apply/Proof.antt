@@ -3,7 +3,7 @@ use mathlib.Core.Path.{_≡_}
 use native.Mathlib.Nat.{le-trans}
 use native.Mathlib.Omega.{arith}
 use borrow.Author.Needs.{needs}
-use Rattle.article.proofs.Told.{Told, told-refused, told-allowed}
+use Rattle.article.proofs.Answered.{Answered, answered-refused, answered-allowed}
 use Rattle.tally.proofs.OneLine.{High, high, not-long, not-short, not-allowed, no-amount, above-long, above-short, accepted}
 use Rattle.tally.proofs.Tally.apply.Statement.{statement}
 use Rattle.tally.proofs.Tally.apply.Tie as tie
@@ -18,8 +18,8 @@ a-long c = c .before .before .if1 .left
 abbrev sides : tie.After-pair → tie.Else2
 sides c = c .before .before .before
 
-rates : (c : tie.After-pair) → Told (entry (sides c) .args .long) (entry (sides c) .args .short) (c .pair .given .0 .0) (c .pair .given .0 .1 .0)
-rates c = told-allowed (c .before .before .pair-legs .ensures) (c .pair .given .1)
+rates : (c : tie.After-pair) → Answered (entry (sides c) .args .long) (entry (sides c) .args .short) (c .pair .given .0 .0) (c .pair .given .0 .1 .0)
+rates c = answered-allowed (c .before .before .pair-legs .ensures) (c .pair .given .1)
 
 -- where the amount is not zero, where the long has it, and where both have it
 abbrev some : tie.Else3 → tie.After-pair
@@ -36,8 +36,8 @@ paired c = some (within (both c))
 
 adds : (c : tie.Else5) → High (entry (sides (paired c)) .args .amount) (paired c .pair .given .0 .0) (paired c .pair .given .0 .1 .0)
 adds c =
-    let told = rates (paired c) in
-    high (le-trans (both c .if4 .left) (entry (sides (paired c)) .pre .left)) (told .rate-high) (told .saving-high)
+    let found = rates (paired c) in
+    high (le-trans (both c .if4 .left) (entry (sides (paired c)) .pre .left)) (found .rate-high) (found .saving-high)
 
 returns : tie.Need-returns
 returns c = not-long (c .if1 .taken)
@@ -48,7 +48,7 @@ returns-2 c = not-short (c .before .before .if1 .left) (c .if2 .taken)
 returns-3 : tie.Need-returns-3
 returns-3 c =
     let asked = c .before .before in
-    not-allowed (a-long (asked .before)) (asked .before .if2 .left) (told-refused (asked .pair-legs .ensures) (c .enum-told .given .1))
+    not-allowed (a-long (asked .before)) (asked .before .if2 .left) (answered-refused (asked .pair-legs .ensures) (c .enum-told .given .1))
 
 returns-4 : tie.Need-returns-4
 returns-4 c =
