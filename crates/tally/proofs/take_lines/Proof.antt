@@ -9,7 +9,7 @@ use borrow.Author.Needs.{needs}
 use Rattle.lists.specs.Each.{Each}
 use Rattle.lists.proofs.Entries.{each-so}
 use Rattle.pairing.specs.declared.Line.{Line}
-use Rattle.words.specs.Words.{wordAt, entries}
+use Rattle.words.specs.Words.{entries}
 use Rattle.proposal.specs.Submission.{lineBy}
 use Rattle.columns.specs.Columns.{countIn, numbersAt, linesIn}
 use Rattle.tally.proofs.Walk.{Walk, starts, ends, Turn, no-long, no-short, Read, ready, refuses, goes}
@@ -49,9 +49,6 @@ stands : (c : tie.In-loop Inv-loop μ-loop) → Each (λ (xs : List ℕ). 8 * c 
 unfolding countIn entries
 stands c = in-each (columns (c .before)) (c .before .loop .i) _ (c .loop-test .taken) (entry (c .before) .pre .each)
 
-line-eq : {l l′ s s′ a a′ : ℕ} → l ≡ l′ → s ≡ s′ → a ≡ a′ → _≡_ {A = Line} (record { long = l; short = s; amount = a }) (record { long = l′; short = s′; amount = a′ })
-line-eq a b c = λ j. record { long = a j; short = b j; amount = c j }
-
 -- where both numbers of the line are in the book
 abbrev inside : tie.After-leg-in2 Inv-loop μ-loop → tie.Else2 Inv-loop μ-loop
 inside c = c .before .before .before .before .before .before .before
@@ -73,11 +70,15 @@ read : (c : tie.After-leg-in2 Inv-loop μ-loop)
     → Read (entry (now (inside c) .before) .args .n) (entry (now (inside c) .before) .args .legs .now) (lineIn (columns (now (inside c) .before)) (now (inside c) .before .loop .i))
     (record { long = inside c .before .before .before .word .result; short = inside c .before .before .word2 .result; amount = c .before .before .before .before .word3 .result })
     (c .before .before .leg-in .result) (c .leg-in2 .result)
-unfolding lineBy numbersAt wordAt
+unfolding lineBy numbersAt
 read c =
     let at = inside c in
     record {
-      is = line-eq (sym (at .before .before .before .word .ensures)) (sym (at .before .before .word2 .ensures)) (sym (c .before .before .before .before .word3 .ensures));
+      is = λ j. record {
+        long = sym (at .before .before .before .word .ensures) j;
+        short = sym (at .before .before .word2 .ensures) j;
+        amount = sym (c .before .before .before .before .word3 .ensures) j;
+      };
       first = at .before .if1 .left;
       second = at .if2 .left;
       long-leg = c .before .before .leg-in .ensures;
