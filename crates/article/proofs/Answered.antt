@@ -4,7 +4,7 @@ use mathlib.Core.Bool.{Bool, true, false, cond}
 use Prim.Native.Nat.{ℕ, _≤_}
 use native.Mathlib.Omega.{arith}
 use Rattle.article.specs.Answer.{Answer, makeAnswer}
-use Rattle.article.specs.Pair.{allowed, pairRateOf, savingRateOf, pairAnswer, pairOf, Pairs}
+use Rattle.article.specs.Pair.{allowed, pairRateOf, savingRateOf, pairAnswer, pairOf, rateLimit, savingLimit, Pairs}
 use Rattle.article.specs.declared.pair.Leg.{Leg}
 use Rattle.article.specs.declared.pair.Pair.{Pair}
 use Rattle.article.specs.declared.pair.Pair.the-variants.{Allowed, NotAllowed}
@@ -25,8 +25,8 @@ pub record Answered (l s : Leg) (rate saving : ℕ) : Type 0 where
   pub may : allowed l s ≡ true
   pub pair-rate : rate ≡ pairRateOf l s
   pub saving-rate : saving ≡ savingRateOf l s
-  pub rate-high : rate ≤ 21900
-  pub saving-high : saving ≤ 43800
+  pub rate-high : rate ≤ rateLimit
+  pub saving-high : saving ≤ savingLimit
 
 module _ {l s : Leg} {p : Pair} (found : Pairs l s p) where
   pub answered-refused : p ≡ NotAllowed → allowed l s ≡ false

@@ -81,7 +81,7 @@ module _ (l s : Holding) (f : InRange l) (g : InRange s) where
     difference = λ m e. rw (rate-by Difference (rule-is m ∙ rw (eq-eqb _ _ (one-class e)))) (difference-excess (rateOf l) (rateOf s));
     half-sum = λ m e. rw (rate-by HalfSum (rule-is m ∙ rw (ne-eqb _ _ (two-classes e)))) (half-exact l s);
     saving = unfold legOf in rate-and-saving (legOf l) (legOf s);
-    saving-range = saving-high (legOf l) (legOf s) (unfold legOf in rate-high l) (unfold legOf in rate-high s);
+    saving-range = saving-high (legOf l) (legOf s) (unfold legOf in rate-high l f) (unfold legOf in rate-high s g);
   }
 
 module _ (p : ℕ) (stray : within 1 10 p ≡ false) where

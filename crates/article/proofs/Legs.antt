@@ -11,7 +11,7 @@ use Rattle.holding.proofs.Ranges.{province-range}
 use Rattle.holding.specs.Holding.{kindNumber, issuerNumber}
 use Rattle.article.proofs.PairRates.{permitted-high}
 use Rattle.article.specs.Rate.{classOf}
-use Rattle.article.specs.Pair.{isLong, isShort, isBond, isStrip, isCanada, isProvince, kindsPair, sameClass, mixedClass, classRule, ruleOf, permits, allowed, pairRateOf, RateInRange}
+use Rattle.article.specs.Pair.{isLong, isShort, isBond, isStrip, isCanada, isProvince, kindsPair, sameClass, mixedClass, classRule, ruleOf, permits, allowed, pairRateOf, rateLimit, RateInRange}
 use Rattle.holding.specs.declared.Kind.{Kind}
 use Rattle.holding.specs.declared.Kind.the-variants.{Bond, Coupon, Residual}
 use Rattle.holding.specs.declared.Issuer.{Issuer}
@@ -41,7 +41,7 @@ module _ (l s : Leg) where
   meets-allowed m = rw (eq-eqb _ _ (m .long), eq-eqb _ _ (m .short), eq-eqb _ _ (m .period), m .rule)
 
   -- an allowed pair has no rate above the article's highest
-  pub allowed-high : allowed l s ≡ true → RateInRange l → RateInRange s → pairRateOf l s ≤ 21900
+  pub allowed-high : allowed l s ≡ true → RateInRange l → RateInRange s → pairRateOf l s ≤ rateLimit
   unfolding pairRateOf
   allowed-high e f g = permitted-high (ruleOf l s) (l .rate) (s .rate) (allowed-meets e .rule) f g
 

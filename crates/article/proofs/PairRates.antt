@@ -3,7 +3,7 @@ use mathlib.Core.Path.{_≡_}
 use mathlib.Core.Bool.{true, false≢true}
 use Prim.Native.Nat.{ℕ, _+_, _≤_, min, max}
 use native.Mathlib.Omega.{arith}
-use Rattle.article.specs.Pair.{ruleRate, permits, pairRateOf, savingRateOf, ruleOf, RateInRange}
+use Rattle.article.specs.Pair.{ruleRate, permits, pairRateOf, savingRateOf, ruleOf, rateLimit, savingLimit, RateInRange}
 use Rattle.article.specs.declared.pair.Rule.{Rule}
 use Rattle.article.specs.declared.pair.Rule.the-variants.{Difference, HalfSum, NotAllowed}
 use Rattle.article.specs.declared.pair.Leg.{Leg}
@@ -25,12 +25,12 @@ unfolding savingRateOf pairRateOf
 rate-and-saving l s = omega (arith, rule-rate-le (ruleOf l s) (l .rate) (s .rate))
 
 -- the saving rate lies between 0 and 43,800
-pub saving-high : (l s : Leg) → RateInRange l → RateInRange s → savingRateOf l s ≤ 43800
+pub saving-high : (l s : Leg) → RateInRange l → RateInRange s → savingRateOf l s ≤ savingLimit
 unfolding savingRateOf
 saving-high l s f g = omega arith
 
 -- a rule that permits makes no rate above the article's highest
-pub permitted-high : (r : Rule) (a b : ℕ) → permits r ≡ true → a ≤ 21900 → b ≤ 21900 → ruleRate r a b ≤ 21900
+pub permitted-high : (r : Rule) (a b : ℕ) → permits r ≡ true → a ≤ rateLimit → b ≤ rateLimit → ruleRate r a b ≤ rateLimit
 unfolding ruleRate
 permitted-high Difference a b p f g = omega arith
 permitted-high HalfSum a b p f g = omega arith

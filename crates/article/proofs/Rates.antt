@@ -1,4 +1,4 @@
--- Laws of a rate: no rate is above 21,900, and each is even, so that half the sum of two is exact. Assumes nothing.
+-- Laws of a rate: none of a record within the ranges is above the highest, and each is even, so that half the sum of two is exact. Assumes nothing.
 use mathlib.Core.Path.{_≡_}
 use mathlib.Core.List.{[]}
 use Prim.Native.Nat.{ℕ, _+_, _-_, _*_, _≤_}
@@ -10,7 +10,8 @@ use Rattle.lists.proofs.Tests.{by-test}
 use Rattle.article.proofs.FlatRates.{flat-high}
 use Rattle.article.proofs.Terms.{small}
 use Rattle.article.specs.Rate.{longerThan, atLeast, periodOf, percents, flatRate, bondRate, stripRate, kindRate, classOf, rateAt, rateOf}
-use Rattle.article.specs.Pair.{ruleRate}
+use Rattle.article.specs.Pair.{ruleRate, rateLimit}
+use Rattle.holding.specs.Holding.{InRange}
 use Rattle.holding.specs.declared.Kind.{Kind}
 use Rattle.holding.specs.declared.Kind.the-variants.{Bond, Coupon, Residual}
 use Rattle.holding.specs.declared.Holding.{Holding}
@@ -54,17 +55,17 @@ unfolding bondRate longerThan
 bond-high class d =
     by-test (_≤ 7300) (ltb (1 * 365) d) (λ _. flat-high class (periodOf d)) (λ e. omega (arith, small class d (ltb-false 365 d e)))
 
-strip-high : (bond d : ℕ) → bond ≤ 7300 → stripRate bond d ≤ 21900
+strip-high : (bond d : ℕ) → bond ≤ 7300 → stripRate bond d ≤ rateLimit
 unfolding stripRate
-strip-high bond d h = by-test (_≤ 21900) (atLeast d 20) (λ _. omega arith) (λ _. omega arith)
+strip-high bond d h = by-test (_≤ rateLimit) (atLeast d 20) (λ _. omega arith) (λ _. omega arith)
 
-kind-high : (kind : Kind) (bond d : ℕ) → bond ≤ 7300 → kindRate kind bond d ≤ 21900
+kind-high : (kind : Kind) (bond d : ℕ) → bond ≤ 7300 → kindRate kind bond d ≤ rateLimit
 unfolding kindRate
 kind-high Bond bond d h = omega arith
 kind-high Coupon bond d h = strip-high bond d h
 kind-high Residual bond d h = strip-high bond d h
 
--- no rate is above 21,900
-pub rate-high : (h : Holding) → rateOf h ≤ 21900
+-- no rate of a record within the ranges is above the highest
+pub rate-high : (h : Holding) → InRange h → rateOf h ≤ rateLimit
 unfolding rateOf rateAt
-rate-high h = kind-high (h .kind) (bondRate (classOf (h .issuer)) (h .days)) (h .days) (bond-high (classOf (h .issuer)) (h .days))
+rate-high h _ = kind-high (h .kind) (bondRate (classOf (h .issuer)) (h .days)) (h .days) (bond-high (classOf (h .issuer)) (h .days))

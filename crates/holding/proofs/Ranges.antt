@@ -8,7 +8,7 @@ use borrow.Author.Tests.{not-false, ne-eqb}
 use Rattle.lists.proofs.Tests.{within-true, true-within}
 use Rattle.lists.proofs.Firsts.{None, Listed, none-first}
 use Rattle.lists.specs.Choice.{firstOf, within}
-use Rattle.holding.specs.Holding.{Ranges, InRange, Kept, rowFaults, faultOf, sideNumber, kindNumber, noIssuer, issuerNumber, sideOf, kindOf, issuerOf, rowOf, holdingOf}
+use Rattle.holding.specs.Holding.{Ranges, InRange, Kept, identityFaults, termFaults, worthFaults, rowFaults, faultOf, sideNumber, kindNumber, noIssuer, issuerNumber, sideOf, kindOf, issuerOf, rowOf, holdingOf}
 use Rattle.holding.specs.declared.Side.{Side}
 use Rattle.holding.specs.declared.Side.the-variants.{Long, Short}
 use Rattle.holding.specs.declared.Kind.{Kind}
@@ -23,8 +23,16 @@ inside : (low high x : ℕ) → not (within low high x) ≡ false → (low ≤ x
 inside low high x e = within-true low high x (not-false (within low high x) e)
 
 -- the refusals of a row have numbers, from 1
+pub identity-listed : (r : Row) → Listed (identityFaults r)
+unfolding identityFaults
+identity-listed r = (omega arith, (omega arith, (omega arith, tt)))
+
+pub term-listed : (r : Row) → Listed (termFaults r)
+unfolding termFaults
+term-listed r = (omega arith, tt)
+
 pub row-listed : (r : Row) → Listed (rowFaults r)
-unfolding rowFaults
+unfolding rowFaults identityFaults termFaults worthFaults
 row-listed r = (omega arith, (omega arith, (omega arith, (omega arith, (omega arith, tt)))))
 
 pub none-of-row : (r : Row) → faultOf r ≡ 0 → None (rowFaults r)
@@ -32,7 +40,7 @@ unfolding faultOf
 none-of-row r e = none-first (λ (n : ℕ). n) (rowFaults r) 0 (row-listed r) e .0
 
 pub fault-none : (r : Row) → faultOf r ≡ 0 → Ranges r
-unfolding rowFaults
+unfolding rowFaults identityFaults termFaults worthFaults
 fault-none r e =
     let (side, (kind, (issuer, (days, (value, _))))) = none-of-row r e in
     record {
@@ -46,7 +54,7 @@ fault-none r e =
     }
 
 pub none-fault : (r : Row) → Ranges r → faultOf r ≡ 0
-unfolding faultOf rowFaults firstOf
+unfolding faultOf rowFaults identityFaults termFaults worthFaults firstOf
 none-fault r g =
     rw (
       true-within 0 1 (r .side) (omega arith) (g .side),

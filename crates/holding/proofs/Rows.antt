@@ -1,13 +1,25 @@
--- What a row made, by the promise of its builder: the record of a row without fault, or the number of its fault. Assumes nothing.
-use mathlib.Core.Path.{_≡_, sym, ap, subst, _∙_}
+-- A row and the list of its numbers give each other back; and what a row made, by the promise of its builder: the record of a row without fault, or the number of its fault. Assumes nothing.
+use mathlib.Core.Path.{_≡_, refl, sym, ap, subst, _∙_}
 use mathlib.Core.Bool.{Bool, true, false, false≢true}
+use mathlib.Core.List.{List}
 use Prim.Native.Nat.{ℕ}
+use lib.ListN.{length}
+use Rattle.lists.specs.Tables.{listTo}
+use Rattle.lists.proofs.Tables.{to-back}
 use borrow.Author.Tests.{eq-eqb}
-use Rattle.holding.specs.Holding.{faultOf, holdingOf, numberOf, builtOf, InRange, Sound, Builds}
+use Rattle.holding.specs.Holding.{numbersOf, rowBy, faultOf, holdingOf, numberOf, builtOf, InRange, Sound, Builds}
 use Rattle.holding.specs.declared.Row.{Row}
 use Rattle.holding.specs.declared.Holding.{Holding}
 use Rattle.holding.specs.declared.Built.{Built}
 use Rattle.holding.specs.declared.Built.the-variants.{Made, Refused}
+
+pub row-back : (r : Row) → rowBy (numbersOf r) ≡ r
+unfolding rowBy numbersOf
+row-back r = refl
+
+pub numbers-back : (xs : List ℕ) → length xs ≡ 5 → numbersOf (rowBy xs) ≡ xs
+unfolding numbersOf rowBy listTo
+numbers-back xs h = to-back 5 xs 0 h
 
 module _ {r : Row} {b : Built} (p : Builds r b) where
   made-of-none : faultOf r ≡ 0 → b ≡ Made (holdingOf r)

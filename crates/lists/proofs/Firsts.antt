@@ -1,5 +1,5 @@
 -- What the first of a list of refusals says of all of them. Assumes nothing.
-use mathlib.Core.Path.{_≡_, refl, _∙_}
+use mathlib.Core.Path.{_≡_, refl, sym, _∙_}
 use mathlib.Core.Bool.{Bool, true, false}
 use mathlib.Core.List.{List, [], _∷_, _++_}
 use Prim.Native.Nat.{ℕ, zero, suc, _+_, _≤_, _<_}
@@ -113,6 +113,20 @@ module _ {A : Type 0} (number : A → ℕ) where
   first-refused ((true, a) ∷ fs) z w e h = refl
   first-refused ((false, a) ∷ fs) z w e h = first-refused fs z w e h
 
+  -- of two lists in turn: what the first found, or else what the second finds
+  pub first-found : (xs ys : List (Bool × A)) (z w : A) → number z ≡ 0 → (number (firstOf xs z) ≡ 0 → ⊥) → firstOf (xs ++ ys) w ≡ firstOf xs z
+  first-found xs ys z w e h = first-append xs ys w ∙ first-refused xs z (firstOf ys w) e h
+
+  pub first-passed : (xs ys : List (Bool × A)) (z w : A) → Numbered xs → number (firstOf xs z) ≡ 0 → firstOf (xs ++ ys) w ≡ firstOf ys w
+  first-passed xs ys z w n e = skip-none xs ys w (none-first xs z n e .0)
+
 -- refusals by their numbers alone
 abbrev pub Listed : List (Bool × ℕ) → Type 0
 Listed fs = Numbered (λ (n : ℕ). n) fs
+
+-- of two lists in turn: the number that the first found, or, where that is 0, the number of the second
+pub found-first : (n : ℕ) (xs ys : List (Bool × ℕ)) → n ≡ firstOf xs 0 → (n ≡ 0 → ⊥) → n ≡ firstOf (xs ++ ys) 0
+found-first n xs ys e h = e ∙ sym (first-found (λ (m : ℕ). m) xs ys 0 0 refl (λ z. h (e ∙ z)))
+
+pub found-second : (n m : ℕ) (xs ys : List (Bool × ℕ)) → Listed xs → m ≡ firstOf xs 0 → m ≡ 0 → n ≡ firstOf ys 0 → n ≡ firstOf (xs ++ ys) 0
+found-second n m xs ys l e z f = f ∙ sym (first-passed (λ (k : ℕ). k) xs ys 0 0 l (sym e ∙ z))

@@ -44,6 +44,11 @@ module _ {A : Type 0} where
   to-eq (suc n) f g h =
       rw (to-eq n f g (λ k q. h k (omega arith)), h n (omega arith))
 
+  -- a list of n entries is the list of what is read of it
+  pub to-back : (n : ℕ) (xs : List A) (d : A) → length xs ≡ n → listTo n (λ k. getD xs k d) ≡ xs
+  to-back n xs d e =
+      ext-getD d (listTo n _) xs (length-to n _ ∙ sym e) (λ k q. getD-to n (λ k. getD xs k d) k d (rw (length-to n (λ k. getD xs k d)) at q))
+
   pub take-to : (n i : ℕ) (f : ℕ → A) → i ≤ n → take i (listTo n f) ≡ listTo i f
   unfolding listTo
   take-to zero i f h =

@@ -1,2 +1,1 @@
 pub mod RuleSavings
-pub mod AlikeLegs

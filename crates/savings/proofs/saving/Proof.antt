@@ -7,7 +7,7 @@ use native.Mathlib.Omega.{arith}
 use lib.Dec.{eqb}
 use borrow.Author.Tests.{eq-eqb, ne-eqb}
 use Rattle.savings.proofs.RuleSavings.{saving-permitted}
-use Rattle.article.specs.Pair.{allowed, isLong, isShort, ruleOf, pairRateOf, savingRateOf}
+use Rattle.article.specs.Pair.{allowed, isLong, isShort, ruleOf, pairRateOf, savingRateOf, savingLimit}
 use Rattle.savings.specs.Savings.{ruleSaving, savingOf}
 use Rattle.article.specs.declared.pair.Rule.{Rule}
 use Rattle.article.specs.declared.pair.Leg.{Leg}
@@ -16,7 +16,7 @@ use Rattle.savings.proofs.saving.Statement.{statement}
 use Rattle.savings.proofs.saving.Tie as tie
 
 module _ (l s : Leg) where
-  no-saving : allowed l s ≡ false → (0 ≡ savingOf l s) × (0 ≤ 43800)
+  no-saving : allowed l s ≡ false → (0 ≡ savingOf l s) × (0 ≤ savingLimit)
   unfolding savingOf
   no-saving e = (rw e, omega arith)
 

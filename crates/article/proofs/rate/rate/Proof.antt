@@ -1,5 +1,4 @@
 -- `rate` is `rateOf`: by kind, from the bond's rate. Assumes nothing.
-use native.Mathlib.Omega.{arith}
 use Rattle.article.specs.Rate.{rateOf, rateAt, kindRate}
 use borrow.Author.Needs.{needs}
 use Rattle.article.proofs.rate.rate.Statement.{statement}
@@ -25,15 +24,15 @@ strip-rate-requires-2 c κs = search needs
 
 returns : tie.Need-returns
 unfolding rateOf rateAt kindRate
-returns c = (rw (c .enum-told .given .1, ← c .before .before .bond-rate .ensures .0), omega arith)
+returns c = rw (c .enum-told .given .1, ← c .before .before .bond-rate .ensures .0)
 
 returns-2 : tie.Need-returns-2
 unfolding rateOf rateAt kindRate
-returns-2 c = (rw (c .before .enum-told2 .given .1, ← c .before .before .before .bond-rate .ensures .0, ← c .strip-rate .ensures .0), omega arith)
+returns-2 c = rw (c .before .enum-told2 .given .1, ← c .before .before .before .bond-rate .ensures .0, ← c .strip-rate .ensures .0)
 
 returns-3 : tie.Need-returns-3
 unfolding rateOf rateAt kindRate
-returns-3 c = (rw (c .before .enum-told3 .given .1, ← c .before .before .before .bond-rate .ensures .0, ← c .strip-rate2 .ensures .0), omega arith)
+returns-3 c = rw (c .before .enum-told3 .given .1, ← c .before .before .before .bond-rate .ensures .0, ← c .strip-rate2 .ensures .0)
 
 pub rate-spec : {M : Type 1} → statement M
 rate-spec =
