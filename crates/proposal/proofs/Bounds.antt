@@ -1,20 +1,22 @@
 -- The figures of an accepted proposal fit in 64 bits. Assumes nothing.
 use Prim.Native.Nat.{ℕ, _*_, _≤_, _<_}
 use native.Mathlib.Omega.{arith}
+use Rattle.holding.specs.Holding.{valueLimit}
+use Rattle.article.specs.Pair.{rateLimit}
 use Rattle.pairing.specs.Pairing.{pricedTotal}
 use Rattle.pairing.proofs.Least.{units-high, priced-high}
 use Rattle.proposal.specs.Submission.{Submission, bookOf, termsOf, priced}
-use Rattle.proposal.specs.Figures.{marginLimit, savingLimit, unitsOf}
+use Rattle.proposal.specs.Figures.{priceLimit, marginLimit, savedLimit, unitsOf}
 use Rattle.proposal.specs.Demands.{Limits, Acceptable}
 use Rattle.proposal.proofs.PricedBooks.{fair, rate-at, value-at, in-book}
 use Rattle.proposal.proofs.Figures.{units-sum}
 use Rattle.proposal.proofs.Demands.{lines-pair}
 
 module _ (s : Submission) where
-  value-high : Limits s → (k : ℕ) → k < priced s .count → priced s .value k ≤ 100000000000
+  value-high : Limits s → (k : ℕ) → k < priced s .count → priced s .value k ≤ valueLimit
   value-high l k h = rw (value-at s k) (l .each-row k (in-book s k h) .value-high)
 
-  price-high : Limits s → (k : ℕ) → k < priced s .count → priced s .price k ≤ 43800
+  price-high : Limits s → (k : ℕ) → k < priced s .count → priced s .price k ≤ priceLimit
   unfolding priced bookOf
   price-high l k h = l .prices k h
 
@@ -29,13 +31,13 @@ module _ (s : Submission) where
       omega (
         arith,
         units-sum (priced s) (s .lines),
-        units-high (termsOf (priced s)) (s .lines) 21900 100000000000 (fair (priced s)) (lines-pair s a)
-            (λ k h. rate-at s k (in-book s k h)) (value-high (a .in-limits)),
+        units-high (termsOf (priced s)) (s .lines) rateLimit valueLimit (fair (priced s)) (lines-pair s a)
+            (λ k h. rate-at s (a .in-limits) k (in-book s k h)) (value-high (a .in-limits)),
         few (a .in-limits),
       )
 
   -- and the priced total is at most 256 times 10^11 times 43,800
-  pub priced-fits : Limits s → pricedTotal (termsOf (priced s)) (priced s .price) ≤ 256 * savingLimit
+  pub priced-fits : Limits s → pricedTotal (termsOf (priced s)) (priced s .price) ≤ 256 * savedLimit
   unfolding termsOf
   priced-fits l =
-      omega (arith, priced-high (termsOf (priced s)) (priced s .price) 43800 100000000000 (λ k h. price-high l k h) (value-high l), few l)
+      omega (arith, priced-high (termsOf (priced s)) (priced s .price) priceLimit valueLimit (λ k h. price-high l k h) (value-high l), few l)

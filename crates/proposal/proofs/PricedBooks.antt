@@ -1,8 +1,10 @@
 -- What the priced book of a submission has at a holding's number, and that its terms are the article's, which are fair. Assumes nothing.
 use mathlib.Core.Path.{_≡_, refl}
+use mathlib.Core.List.{List}
 use Prim.Native.Nat.{ℕ, _<_}
 use lib.ListN.{length, getD, List·getD-map}
-use Rattle.lists.proofs.Tables.{length-to, getD-map-in}
+use Rattle.lists.specs.Tables.{listTo}
+use Rattle.lists.proofs.Tables.{length-to, getD-map-in, to-back}
 use Rattle.holding.specs.Holding.{InRange, holdingOf}
 use Rattle.holding.specs.declared.Row.{Row}
 use Rattle.holding.proofs.Ranges.{none-fault, kept}
@@ -11,8 +13,9 @@ use Rattle.article.proofs.PairRates.{rule-rate-le}
 use Rattle.article.proofs.Rates.{rate-high}
 use Rattle.article.specs.Pair as article
 use Rattle.pairing.specs.Pairing.{savingRate, Fair}
+use Rattle.pairing.specs.declared.Line.{Line}
 use Rattle.proposal.specs.Demands.{Limits}
-use Rattle.proposal.specs.Submission.{Submission, PricedBook, bookOf, termsOf, priced, noRow, noLeg, holdingAt, rowsOf, linesOf}
+use Rattle.proposal.specs.Submission.{Submission, PricedBook, lineNumbers, lineBy, bookOf, termsOf, priced, noRow, noLeg, holdingAt, rowsOf, linesOf}
 use Rattle.proposal.specs.declared.Book.{Book}
 use Rattle.proposal.specs.declared.Proposal.{Proposal}
 
@@ -38,8 +41,8 @@ module _ (s : Submission) where
   unfolding priced bookOf
   value-at k = List·getD-map (λ (r : Row). r .value) (s .rows) k noRow
 
-  pub rate-at : (k : ℕ) → k < length (s .rows) → RateInRange (priced s .leg k)
-  rate-at k h = rw (leg-at k h) (unfold legOf in rate-high (holdingAt s k))
+  pub rate-at : Limits s → (k : ℕ) → k < length (s .rows) → RateInRange (priced s .leg k)
+  rate-at l k h = rw (leg-at k h) (unfold legOf in rate-high (holdingAt s k) (holding-in-range l k h))
 
 -- a pair's rate is no more than its two rates
 pub fair : (b : PricedBook) → Fair (termsOf b)
@@ -59,3 +62,12 @@ rows-count book = length-to (book .count) _
 pub lines-count : (proposal : Proposal) → length (linesOf proposal) ≡ proposal .count
 unfolding linesOf
 lines-count proposal = length-to (proposal .count) _
+
+-- a line and the list of its numbers give each other back
+pub line-back : (l : Line) → lineBy (lineNumbers l) ≡ l
+unfolding lineBy lineNumbers
+line-back l = refl
+
+pub line-numbers-back : (xs : List ℕ) → length xs ≡ 3 → lineNumbers (lineBy xs) ≡ xs
+unfolding lineNumbers lineBy listTo
+line-numbers-back xs h = to-back 3 xs 0 h

@@ -6,7 +6,7 @@ use Prim.Native.Nat.{_≤_, _<_}
 use lib.ListN.{length}
 use borrow.Author.Tests.{lt-ltb, le-ltb, eq-eqb, ne-eqb}
 use Rattle.lists.specs.Choice.{firstOf}
-use Rattle.lists.proofs.Firsts.{Numbered, first-append, none-first, first-refused, skip-none}
+use Rattle.lists.proofs.Firsts.{Numbered, first-found, first-passed}
 use Rattle.article.specs.Answer.{Answer, makeAnswer}
 use Rattle.pairing.specs.Pairing.{saving, pricedTotal}
 use Rattle.pairing.specs.declared.Line.{Line}
@@ -17,11 +17,10 @@ use Rattle.proposal.proofs.Clear.{number}
 -- what a stage found of its refusals, with those that follow it
 module _ (o : Answer) (stage rest : List (Bool × Answer)) (z : Answer) (so : o ≡ firstOf (stage ++ rest) z) (f : Answer) (found : f ≡ firstFault stage) where
   pub refuses : (f .number ≡ 0 → ⊥) → o ≡ f
-  refuses h =
-      so ∙ first-append stage rest z ∙ first-refused number stage (makeAnswer 0 0 0) (firstOf rest z) refl (λ e. h (ap number found ∙ e)) ∙ sym found
+  refuses h = so ∙ first-found number stage rest (makeAnswer 0 0 0) z refl (λ e. h (ap number found ∙ e)) ∙ sym found
 
   pub passes : Numbered number stage → f .number ≡ 0 → o ≡ firstOf rest z
-  passes n e = so ∙ skip-none stage rest z (none-first number stage (makeAnswer 0 0 0) n (sym (ap number found) ∙ e) .0)
+  passes n e = so ∙ first-passed number stage rest (makeAnswer 0 0 0) z n (sym (ap number found) ∙ e)
 
 module _ (one two : Bool) (s : Submission) where
   -- 3: more than 256 holdings
