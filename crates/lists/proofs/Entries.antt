@@ -1,14 +1,16 @@
 -- What holds of every entry of a list: at each place, and from one computed test. Assumes nothing.
 use mathlib.Core.Path.{_≡_, refl, sym, _∙_}
-use mathlib.Core.Bool.{Bool, true, false, _&&_, and-eq-true-iff, false≢true}
-use mathlib.Core.List.{List, [], _∷_, _++_}
+use mathlib.Core.Logic.{_↔_}
+use mathlib.Core.Bool.{Bool, true, false, _&&_, _||_, and-eq-true-iff, false≢true}
+use mathlib.Core.List.{List, [], _∷_, _++_, map}
 use Prim.Native.Nat.{ℕ, zero, suc, _≤_, _<_}
 use native.Mathlib.Omega.{arith}
 use lib.Dec.{leb, eqb}
 use lib.ListN.{length, getD}
 use borrow.Author.Tests.{leb-true, eq-eqb, eqb-true}
-use Rattle.lists.specs.Choice.{same}
+use Rattle.lists.specs.Choice.{same, some}
 use Rattle.lists.specs.Each.{Each}
+use Rattle.lists.proofs.Tests.{neither}
 
 abbrev pub every : {A : Type 0} → (A → Bool) → List A → Bool
 every test [] = true
@@ -21,6 +23,29 @@ each-by P test f (x ∷ xs) e =
     let (a, b) = and-eq-true-iff (test x) (every test xs) .0 e in
     (f x a, each-by P test f xs b)
 
+-- no entry passes a test exactly when each has what failing it gives
+pub none-some : {A : Type 0} (P : A → Type 0) (test : A → Bool) → ((x : A) → (test x ≡ false) ↔ P x) → (xs : List A) → (some test xs ≡ false) ↔ Each P xs
+unfolding some
+none-some P test f [] = ((λ e. tt), (λ h. refl))
+none-some P test f (x ∷ xs) = (
+  λ e.
+      let (a, b) = neither (test x) (some test xs) e in
+      (f x .0 a, none-some P test f xs .0 b),
+  λ h. rw (f x .1 (h .0)) (none-some P test f xs .1 (h .1)),
+)
+
+-- tests one after another: the first, or one of those of a list
+abbrev pub oneOf : {A : Type 0} → (A → Bool) → Bool → List A → Bool
+oneOf test b [] = b
+oneOf test b (x ∷ xs) = oneOf test (b || test x) xs
+
+pub one-some : {A : Type 0} (test : A → Bool) (b : Bool) (xs : List A) → (b || some test xs) ≡ oneOf test b xs
+unfolding some
+one-some test true [] = refl
+one-some test false [] = refl
+one-some test true (x ∷ xs) = one-some test true xs
+one-some test false (x ∷ xs) = one-some test (test x) xs
+
 -- what follows for one entry follows for each
 pub each-so : {A : Type 0} (P Q : A → Type 0) → ((x : A) → P x → Q x) → (xs : List A) → Each P xs → Each Q xs
 each-so P Q f [] h = tt
@@ -29,6 +54,10 @@ each-so P Q f (x ∷ xs) h = (f x (h .0), each-so P Q f xs (h .1))
 pub each-append : {A : Type 0} (P : A → Type 0) (xs ys : List A) → Each P xs → Each P ys → Each P (xs ++ ys)
 each-append P [] ys g h = h
 each-append P (x ∷ xs) ys g h = (g .0, each-append P xs ys (g .1) h)
+
+pub each-map : {A B : Type 0} (P : B → Type 0) (f : A → B) (xs : List A) → Each (λ x. P (f x)) xs → Each P (map f xs)
+each-map P f [] h = tt
+each-map P f (x ∷ xs) h = (h .0, each-map P f xs (h .1))
 
 -- what holds of every entry holds of the one at a place, and back
 module _ {A : Type 0} (P : A → Type 0) (d : A) where
@@ -41,14 +70,15 @@ module _ {A : Type 0} (P : A → Type 0) (d : A) where
   at-each [] h = tt
   at-each (x ∷ xs) h = (h 0 (omega arith), at-each xs (λ i m. h (suc i) (omega arith)))
 
+  -- and of what is read at any place, where it holds of what is read where nothing stands
+  pub each-read : P d → (xs : List A) → Each P xs → (i : ℕ) → P (getD xs i d)
+  each-read p [] h i = p
+  each-read p (x ∷ xs) h zero = h .0
+  each-read p (x ∷ xs) h (suc i) = each-read p xs (h .1) i
+
 -- a bound on a list of numbers
 pub bounded : (m : ℕ) (l : List ℕ) → every (λ x. leb x m) l ≡ true → (i : ℕ) → getD l i 0 ≤ m
-bounded m l e i = at l (each-by (_≤ m) (λ x. leb x m) (λ x. leb-true x m) l e) i
-  where
-    at : (l : List ℕ) → Each (_≤ m) l → (i : ℕ) → getD l i 0 ≤ m
-    at [] h i = omega arith
-    at (x ∷ xs) h zero = h .0
-    at (x ∷ xs) h (suc i) = at xs (h .1) i
+bounded m l e i = each-read (_≤ m) 0 (omega arith) l (each-by (_≤ m) (λ x. leb x m) (λ x. leb-true x m) l e) i
 
 -- two lists of numbers that pass the test are one, and one list passes it
 pub same-true : (xs ys : List ℕ) → same xs ys ≡ true → xs ≡ ys

@@ -1,165 +1,98 @@
 -- The byte lengths of what is lent: what it is that neither 1 nor 2 holds, and the outcome where one of 1, 3, 9, 2 does. Assumes nothing.
-use mathlib.Core.Path.{_≡_, ap, sym, _∙_}
+use mathlib.Core.Path.{_≡_, sym, ap, _∙_}
 use mathlib.Core.Logic.{_↔_}
-use mathlib.Core.Bool.{Bool, true, false, not, _&&_, _||_, and-eq-true-iff}
+use mathlib.Core.Bool.{Bool, false, not, _||_}
 use mathlib.Core.List.{List, [], _∷_}
-use Prim.Native.Nat.{ℕ, _*_, _/_, _≤_, _<_}
+use Prim.Native.Nat.{ℕ, _*_, _/_, _≤_}
 use native.Mathlib.Omega.{arith}
 use lib.Dec.{eqb, ltb}
 use lib.ListN.{length}
-use borrow.Author.Tests.{eqb-true, eq-eqb, ltb-false, lt-ltb, le-ltb, not-false}
-use Rattle.lists.specs.Choice.{firstOf}
-use Rattle.lists.specs.Each.{Each}
+use borrow.Author.Tests.{eqb-true, eq-eqb, ltb-false, le-ltb, not-false}
+use Rattle.lists.specs.Choice.{firstOf, some}
 use Rattle.lists.proofs.Firsts.{none-first, first-append}
 use Rattle.lists.proofs.Tests.{neither}
+use Rattle.lists.proofs.Entries.{none-some, oneOf, one-some}
 use Rattle.article.specs.Answer.{makeAnswer}
 use Rattle.proposal.specs.Submission.{Submission, priced}
 use Rattle.proposal.specs.Outcome.{atPlace, sizeFaults, fromBook, faults, accepted, outcome}
 use Rattle.proposal.proofs.Places.{first-at}
-use Rattle.sizes.specs.Sizes.{Sizes, holdings, lines, Lengths, differ, tooShort, lengthFault, BookFits, ProposalFits, ListsFit}
+use Rattle.sizes.specs.Sizes.{Sizes, entriesOf, Equal, unequal, differ, Room, tooShort, Lengths, lengthFault}
 
--- tests that all hold, the first and the others
-abbrev allOf : Bool → List Bool → Bool
-allOf a [] = a
-allOf a (b ∷ bs) = allOf (a && b) bs
+-- the test of one column, and of one list
+abbrev other : ℕ → ℕ → Bool
+other n size = not (eqb size (8 * n))
 
-all-hold : (a : Bool) (bs : List Bool) → allOf a bs ≡ true → (a ≡ true) × Each (λ b. b ≡ true) bs
-all-hold a [] e = (e, tt)
-all-hold a (b ∷ bs) e =
-    let (both, rest) = all-hold (a && b) bs e in
-    let (p, q) = and-eq-true-iff a b .0 both in
-    (p, (q, rest))
+abbrev short : ℕ × ℕ → Bool
+short list = ltb (list .1 / 8) (list .0)
 
-hold-all : (a : Bool) (bs : List Bool) → a ≡ true → Each (λ b. b ≡ true) bs → allOf a bs ≡ true
-hold-all a [] p h = p
-hold-all a (b ∷ bs) p h = hold-all (a && b) bs (and-eq-true-iff a b .1 (p, h .0)) (h .1)
+pub equal-exactly : (xs : List ℕ) → (unequal xs ≡ false) ↔ Equal xs
+unfolding unequal
+equal-exactly xs = none-some (λ size. size ≡ 8 * entriesOf xs) (other (entriesOf xs)) (λ size. ((λ e. eqb-true _ _ (not-false _ e)), (λ e. ap not (eq-eqb _ _ e)))) xs
 
-module _ (z : Sizes) where
-  -- the lengths of the other columns against those of the first
-  abbrev others : List Bool
-  others =
-      eqb (z .kind) (8 * holdings z)
-      ∷ eqb (z .issuer) (8 * holdings z)
-      ∷ eqb (z .days) (8 * holdings z)
-      ∷ eqb (z .value) (8 * holdings z)
-      ∷ eqb (z .price) (8 * holdings z)
-      ∷ eqb (z .long) (8 * lines z)
-      ∷ eqb (z .short) (8 * lines z)
-      ∷ eqb (z .amount) (8 * lines z)
-      ∷ []
+pub room-exactly : (lists : List (ℕ × ℕ)) (slice : ℕ) → (tooShort lists slice ≡ false) ↔ Room lists slice
+unfolding tooShort
+room-exactly lists slice =
+    let each = none-some (λ (list : ℕ × ℕ). list .0 ≤ list .1 / 8) short (λ list. ((λ e. ltb-false _ _ e), (λ h. le-ltb _ _ h))) lists in (
+      λ e.
+          let (a, b) = neither (some short lists) (ltb slice 16) e in
+          record { each = each .0 a; answer = ltb-false _ _ b },
+      λ r. rw (each .1 (r .each), le-ltb _ _ (r .answer)),
+    )
 
-  -- 2 does not hold: the lists have the entries, and the answer slice 16 bytes
-  pub long-enough : tooShort z ≡ false → (holdings z ≤ z .remainder / 8) × (holdings z ≤ z .ranking / 8) × (16 ≤ z .answer)
-  unfolding tooShort
-  long-enough t =
-      let (lists, answer) = neither (ltb (z .remainder / 8) (holdings z) || ltb (z .ranking / 8) (holdings z)) (ltb (z .answer) 16) t in
-      let (remainder, ranking) = neither (ltb (z .remainder / 8) (holdings z)) (ltb (z .ranking / 8) (holdings z)) lists in
-      (ltb-false _ _ remainder, ltb-false _ _ ranking, ltb-false _ _ answer)
+pub differ-exactly : (holdings lines : List ℕ) → (differ holdings lines ≡ false) ↔ (Equal holdings × Equal lines)
+unfolding differ
+differ-exactly holdings lines = (
+  λ e.
+      let (a, b) = neither (unequal holdings) (unequal lines) e in
+      (equal-exactly holdings .0 a, equal-exactly lines .0 b),
+  λ h. rw (equal-exactly holdings .1 (h .0), equal-exactly lines .1 (h .1)),
+)
 
-  neither-lengths : differ z ≡ false → tooShort z ≡ false → Lengths z
-  unfolding differ
-  neither-lengths d t =
-      let (side, (kind, (issuer, (days, (value, (price, (long, (short, (amount, _))))))))) = all-hold (eqb (z .side) (8 * holdings z)) others (not-false _ d) in
-      let (remainder, ranking, answer) = long-enough t in
-      record {
-        side = eqb-true _ _ side;
-        kind = eqb-true _ _ kind;
-        issuer = eqb-true _ _ issuer;
-        days = eqb-true _ _ days;
-        value = eqb-true _ _ value;
-        price = eqb-true _ _ price;
-        long = eqb-true _ _ long;
-        short = eqb-true _ _ short;
-        amount = eqb-true _ _ amount;
-        remainder = remainder;
-        ranking = ranking;
-        answer = answer;
-      }
+-- neither 1 nor 2 holds exactly when the lengths do
+pub lengths-exactly : (z : Sizes) → ((differ (z .holdings) (z .lines) ≡ false) × (tooShort (z .lists) (z .slice) ≡ false)) ↔ Lengths z
+lengths-exactly z =
+    let equal = differ-exactly (z .holdings) (z .lines) in
+    let room = room-exactly (z .lists) (z .slice) in (
+      λ h. record { holdings = equal .0 (h .0) .0; lines = equal .0 (h .0) .1; room = room .0 (h .1) },
+      λ l. (equal .1 (l .holdings, l .lines), room .1 (l .room)),
+    )
 
-  lengths-neither : Lengths z → (differ z ≡ false) × (tooShort z ≡ false)
-  unfolding differ tooShort
-  lengths-neither l = (
-    ap not
-        (hold-all (eqb (z .side) (8 * holdings z)) others (eq-eqb _ _ (l .side))
-        (eq-eqb _ _ (l .kind), (eq-eqb _ _ (l .issuer), (eq-eqb _ _ (l .days), (eq-eqb _ _ (l .value), (eq-eqb _ _ (l .price), (eq-eqb _ _ (l .long), (eq-eqb _ _ (l .short), (eq-eqb _ _ (l .amount), tt))))))))),
-    rw (le-ltb _ _ (l .remainder), le-ltb _ _ (l .ranking), le-ltb _ _ (l .answer)),
-  )
+-- 2, and the first refusal of the lengths, by tests one after another
+pub short-tested : (list : ℕ × ℕ) (lists : List (ℕ × ℕ)) (slice : ℕ) → tooShort (list ∷ lists) slice ≡ (oneOf short (short list) lists || ltb slice 16)
+unfolding tooShort some
+short-tested list lists slice = ap (λ (b : Bool). b || ltb slice 16) (one-some short (short list) lists)
 
-  -- neither 1 nor 2 holds exactly when the lengths do
-  pub lengths : ((differ z ≡ false) × (tooShort z ≡ false)) ↔ Lengths z
-  lengths = ((λ h. neither-lengths (h .0) (h .1)), lengths-neither)
+module _ (x y : ℕ) (xs ys : List ℕ) (two : Bool) where
+  abbrev tested : Bool
+  tested = oneOf (other (x / 8)) (other (x / 8) x) xs
 
--- the first refusal of the lengths, by what was found of each
-module _ (z : Sizes) where
-  pub unequal : differ z ≡ true → 1 ≡ lengthFault z
-  unfolding lengthFault sizeFaults firstOf
-  unequal e = rw e
-
-  module _ (e : differ z ≡ false) where
-    pub many-holdings : 256 < holdings z → 3 ≡ lengthFault z
-    unfolding lengthFault sizeFaults firstOf
-    many-holdings h = rw (e, lt-ltb _ _ h)
-
-    pub many-lines : holdings z ≤ 256 → 512 < lines z → 9 ≡ lengthFault z
-    unfolding lengthFault sizeFaults firstOf
-    many-lines h m = rw (e, le-ltb _ _ h, lt-ltb _ _ m)
-
-    pub short-list : holdings z ≤ 256 → lines z ≤ 512 → tooShort z ≡ true → 2 ≡ lengthFault z
-    unfolding lengthFault sizeFaults firstOf
-    short-list h m t = rw (e, le-ltb _ _ h, le-ltb _ _ m, t)
-
-    pub no-fault : holdings z ≤ 256 → lines z ≤ 512 → tooShort z ≡ false → 0 ≡ lengthFault z
-    unfolding lengthFault sizeFaults firstOf
-    no-fault h m t = rw (e, le-ltb _ _ h, le-ltb _ _ m, t)
+  pub first-tested : {n : ℕ} → n ≡ firstOf (sizeFaults (oneOf (other (y / 8)) tested (y ∷ ys)) two (x / 8) (y / 8)) 0 → n ≡ lengthFault (x ∷ xs) (y ∷ ys) two
+  unfolding lengthFault differ unequal entriesOf some
+  first-tested e = rw (one-some (other (x / 8)) (other (x / 8) x) xs, one-some (other (y / 8)) tested (y ∷ ys)) e
 
 -- what is known when the lengths are refused for nothing
-pub record Passed (z : Sizes) : Type 0 where
-  pub holdings : holdings z ≤ 256
-  pub lines : lines z ≤ 512
-  pub differ : differ z ≡ false
-  pub short : tooShort z ≡ false
-  pub lengths : Lengths z
+pub record Fit (holdings lines : List ℕ) (two : Bool) : Type 0 where
+  pub few-holdings : entriesOf holdings ≤ 256
+  pub few-lines : entriesOf lines ≤ 512
+  pub equal-holdings : Equal holdings
+  pub equal-lines : Equal lines
+  pub alike : differ holdings lines ≡ false
+  pub room : two ≡ false
 
-pub sizes-passed : (z : Sizes) (n : ℕ) → n ≡ lengthFault z → n ≡ 0 → Passed z
+abbrev refusals : List ℕ → List ℕ → Bool → List (Bool × ℕ)
+refusals holdings lines two = sizeFaults (differ holdings lines) two (entriesOf holdings) (entriesOf lines)
+
+pub fits : {holdings lines : List ℕ} {two : Bool} → lengthFault holdings lines two ≡ 0 → Fit holdings lines two
 unfolding lengthFault sizeFaults
-sizes-passed z n f h =
-    let e : lengthFault z ≡ 0 = sym f ∙ h in
-    let (one, (three, (nine, (two, _)))) = none-first (λ (n : ℕ). n) (sizeFaults (differ z) (tooShort z) (holdings z) (lines z)) 0 (omega arith, (omega arith, (omega arith, (omega arith, tt)))) e .0 in
-    record { holdings = ltb-false _ _ three; lines = ltb-false _ _ nine; differ = one; short = two; lengths = neither-lengths z one two }
+fits {holdings} {lines} {two} e =
+    let (one, (three, (nine, (none, _)))) = none-first (λ (n : ℕ). n) (refusals holdings lines two) 0 (omega arith, (omega arith, (omega arith, (omega arith, tt)))) e .0 in
+    let (a, b) = differ-exactly holdings lines .0 one in
+    record { few-holdings = ltb-false _ _ three; few-lines = ltb-false _ _ nine; equal-holdings = a; equal-lines = b; alike = one; room = none }
 
 -- what the lengths are refused for is the outcome, whatever else there is
-pub sizes-refused : (z : Sizes) (s : Submission) (n : ℕ) → length (s .rows) ≡ holdings z → length (s .lines) ≡ lines z → n ≡ lengthFault z → (n ≡ 0 → ⊥)
-    → outcome (differ z) (tooShort z) s ≡ makeAnswer n 0 0
+pub refused : (holdings lines : List ℕ) (two : Bool) (s : Submission) (n : ℕ) → length (s .rows) ≡ entriesOf holdings → length (s .lines) ≡ entriesOf lines
+    → n ≡ lengthFault holdings lines two → (n ≡ 0 → ⊥) → outcome (differ holdings lines) two s ≡ makeAnswer n 0 0
 unfolding outcome faults lengthFault
-sizes-refused z s n p q e h =
-    rw (p, q)
-    (first-append (atPlace 0 (sizeFaults (differ z) (tooShort z) (holdings z) (lines z))) (fromBook s) (accepted (priced s) (s .lines))
-    ∙ first-at 0 (sizeFaults (differ z) (tooShort z) (holdings z) (lines z)) n e h (firstOf (fromBook s) (accepted (priced s) (s .lines))))
-
--- what the parts ask of the lengths
-module _ (z : Sizes) (passed : Passed z) where
-  pub book-fits : BookFits (z .side) (z .kind) (z .issuer) (z .days) (z .value)
-  book-fits =
-      let l = passed .lengths in
-      record {
-        few = passed .holdings;
-        same-kind = l .kind ∙ sym (l .side);
-        same-issuer = l .issuer ∙ sym (l .side);
-        same-days = l .days ∙ sym (l .side);
-        same-value = l .value ∙ sym (l .side);
-      }
-
-  pub proposal-fits : ProposalFits (z .price) (z .long) (z .short) (z .amount)
-  proposal-fits =
-      let l = passed .lengths in
-      record {
-        holdings = omega (arith, l .price, passed .holdings);
-        lines = passed .lines;
-        same-short = l .short ∙ sym (l .long);
-        same-amount = l .amount ∙ sym (l .long);
-      }
-
-  pub lists-fit : ListsFit (z .side / 8) (z .remainder) (z .ranking)
-  lists-fit =
-      let l = passed .lengths in
-      record { few = passed .holdings; long-remainder = omega (arith, l .remainder); long-ranking = omega (arith, l .ranking) }
+refused holdings lines two s n p q e h =
+    let z = accepted (priced s) (s .lines) in
+    rw (p, q) (first-append (atPlace 0 (refusals holdings lines two)) (fromBook s) z ∙ first-at 0 (refusals holdings lines two) n e h (firstOf (fromBook s) z))

@@ -22,16 +22,16 @@ pub fn lengths(
     let m = long / 8;
     let book = 8 * n;
     let lines = 8 * m;
-    let equal = (side == book)
-        & (kind == book)
-        & (issuer == book)
-        & (days == book)
-        & (value == book)
-        & (price == book)
-        & (long == lines)
-        & (short == lines)
-        & (amount == lines);
-    if !equal {
+    let unequal = (side != book)
+        | (kind != book)
+        | (issuer != book)
+        | (days != book)
+        | (value != book)
+        | (price != book)
+        | (long != lines)
+        | (short != lines)
+        | (amount != lines);
+    if unequal {
         return 1;
     }
     if n > 256 {
