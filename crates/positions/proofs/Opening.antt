@@ -38,7 +38,8 @@ use Rattle.packed.proofs.Holdings.{small}
 use Rattle.positions.specs.Opens.{OpenRoom, Opens}
 
 -- a row whose numbers were read at an entry of the columns
-pub row-read : (side kind issuer days value : List ℕ) (i : ℕ) {a b c d e : ℕ} → a ≡ wordAt side i → b ≡ wordAt kind i → c ≡ wordAt issuer i → d ≡ wordAt days i → e ≡ wordAt value i
+pub row-read : (side kind issuer days value : List ℕ) (i : ℕ) {a b c d e : ℕ}
+    → a ≡ wordAt side i → b ≡ wordAt kind i → c ≡ wordAt issuer i → d ≡ wordAt days i → e ≡ wordAt value i
     → record { side = a; kind = b; issuer = c; days = d; value = e } ≡ rowBy (numbersAt (side ∷ kind ∷ issuer ∷ days ∷ value ∷ []) i)
 unfolding rowBy numbersAt
 row-read side kind issuer days value i a b c d e = λ j. record { side = a j; kind = b j; issuer = c j; days = d j; value = e j }
@@ -47,6 +48,7 @@ row-read side kind issuer days value i a b c d e = λ j. record { side = a j; ki
 pub small-leg : {row : Row} {b : Built} {h : Holding} {leg : Leg} → Builds row b → b ≡ Made h → leg ≡ legOf h → Small leg
 small-leg g s e = rw e (small _ (made-row g s .0))
 
+-- the row of a holding, and how many there are
 abbrev row : List (List ℕ) → ℕ → Row
 row columns k = getD (rowsIn columns) k noRow
 
@@ -55,7 +57,7 @@ unfolding rowsIn
 count columns = length-to (countIn columns) _
 
 module _ (columns : List (List ℕ)) (price legs₀ left₀ : List ℕ) where
-  -- before holding i: no holding before it has a fault, and of each the leg and the value are written
+  -- before holding i, the lists as they then stand: no holding before it has a fault, and of each the leg and the value are written
   pub record Opening (legs left : List ℕ) (i : ℕ) : Type 0 where
     pub room : OpenRoom columns price legs₀ left₀
     pub legs-long : length legs ≡ length legs₀
@@ -65,6 +67,7 @@ module _ (columns : List (List ℕ)) (price legs₀ left₀ : List ℕ) where
     pub values : left ≡ front (listTo i (λ k. row columns k .value)) left₀
 
 module _ {columns : List (List ℕ)} {price legs₀ left₀ : List ℕ} where
+  -- before holding 0
   pub opening-none : OpenRoom columns price legs₀ left₀ → Opening columns price legs₀ left₀ legs₀ left₀ 0
   unfolding listTo front
   opening-none room = record { room = room; legs-long = refl; left-long = refl; passed = passed-none; coded = below-none _; values = refl }
@@ -87,13 +90,15 @@ module _ {columns : List (List ℕ)} {price legs₀ left₀ : List ℕ} where
       price-is = getD-to _ (wordAt price) i 0 (omega (arith, o .room .prices))
 
       -- its first fault is the book's
-      refused : {n : ℕ} {f : Fault} → (n ≡ 0 → ⊥) → n ≡ firstOf (holdingFaults (row columns i) (getD (decode price) i 0)) 0 → f ≡ makeFault n i 0 → Opens columns price left₀ legs left f
+      refused : {n : ℕ} {f : Fault} → (n ≡ 0 → ⊥) → n ≡ firstOf (holdingFaults (row columns i) (getD (decode price) i 0)) 0 → f ≡ makeFault n i 0
+          → Opens columns price left₀ legs left f
       unfolding bookFaults atHolding faultAnswer
       refused {n} other first s = rw s (record {
         fault = sym (passed-first (o .passed) (makeAnswer 0 0 0) here (λ w. first-at i _ n first other w));
         opened = λ z. absurd (other z);
       })
 
+      -- a row that is refused, and a price above the highest
       pub opens-row : {n : ℕ} {f : Fault} → b ≡ Refused n → f ≡ makeFault n i 0 → Opens columns price left₀ legs left f
       opens-row s t =
           let (number, other) = refused-row builds s in
@@ -138,14 +143,22 @@ module _ {columns : List (List ℕ)} {price legs₀ left₀ : List ℕ} where
       unfolding holdingAt
       written k q = o .coded k (omega (arith, whole)) ∙ sym (leg-at book k q)
 
+      all-values : listTo i (λ k. row columns k .value) ≡ map (λ r. r .value) (rowsIn columns)
+      all-values = sym (map-to (λ (r : Row). r .value) i (row columns)) ∙ ap (map (λ (r : Row). r .value)) (to-back i (rowsIn columns) noRow (sym whole))
+
+      -- no holding has a fault
       pub opens-all : {f : Fault} → f ≡ makeFault 0 0 0 → Opens columns price left₀ legs left f
       unfolding bookFaults faultAnswer priced bookOf
       opens-all s = rw s (record {
         fault = sym (first-of-none (bookFaults (rowsIn columns) (decode price)) _ (passed-all (o .passed) (omega (arith, whole))));
         opened = λ _. record {
-          bounded = record { few = in-limits .holdings; held = omega (arith, count columns, o .room .legs-held, o .legs-long); rate = λ k q. rw (written k q) (rate-at book in-limits k q) };
+          bounded = record {
+            few = in-limits .holdings;
+            held = omega (arith, count columns, o .room .legs-held, o .legs-long);
+            rate = λ k q. rw (written k q) (rate-at book in-limits k q);
+          };
           legs = record { count = refl; leg = written };
-          values = o .values ∙ ap (λ (xs : List ℕ). front xs left₀) (sym (map-to (λ (x : Row). x .value) i _) ∙ ap (map _) (to-back i (rowsIn columns) noRow (sym whole)));
+          values = o .values ∙ ap (λ (xs : List ℕ). front xs left₀) all-values;
           values-high = λ k q. rw (value-at book k) (in-limits .each-row k q .value-high);
           prices-high = in-limits .prices;
         };

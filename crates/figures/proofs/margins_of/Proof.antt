@@ -32,7 +32,8 @@ module _ {n : ℕ} {legs left old : List ℕ} (lent : MarginsLent n legs left ol
   unfolding leftMargin
   is-left = rw e
 
-  more : {margins : List ℕ} {total : ℕ} → Margins i legs left old margins total → Margins (i + 1) legs left old (set margins i (leg .rate * entry left i)) (total + leg .rate * entry left i)
+  more : {margins : List ℕ} {total : ℕ} → Margins i legs left old margins total
+      → Margins (i + 1) legs left old (set margins i (leg .rate * entry left i)) (total + leg .rate * entry left i)
   more {margins} {total} m = record {
     each = laid-more i _ _ margins old (omega (arith, lent .margins-held)) is-left (m .each);
     sum = ap (λ (x : ℕ). total + x) is-left ∙ sumTo-more _ i total (m .sum);
@@ -51,7 +52,7 @@ mul-margin-2 c =
 add-total : tie.Need-add-total Inv-loop μ-loop
 add-total c =
     let turn = c .before .before .before .before in
-    record { fits = omega (arith, high (turn .before .before .before .before .before .pre) (turn .loop-test .taken) (c .before .before .leg-in .ensures), turn .before .loop .inv .2 .sum-high) }
+    record { fits = omega (arith, high (turn .before .before .before .before .before .pre) (turn .loop-test .taken) (c .before .before .leg-in .ensures)) }
 
 loop-again : tie.Need-loop-again Inv-loop μ-loop
 loop-again c =

@@ -26,13 +26,15 @@ returns : tie.Need-returns Inv-loop μ-loop
 returns c =
     let made = c .before .before .before .before in
     let turn = made .before .before .before .before .before .before in
-    opens-row (turn .before .loop .inv .1) (omega arith) (search row-read) (made .holding-of .ensures) (c .before .before .built .given .1) (c .fault-at .ensures)
+    opens-row (turn .before .loop .inv .1) (omega arith) (search row-read) (made .holding-of .ensures)
+    (c .before .before .built .given .1) (c .fault-at .ensures)
 
 returns-2 : tie.Need-returns-2 Inv-loop μ-loop
 returns-2 c =
     let made = c .before .before .before .before .before .before in
     let turn = made .before .before .before .before .before .before in
-    opens-price (turn .before .loop .inv .1) (omega arith) (search row-read) (made .holding-of .ensures) (c .before .before .before .before .built2 .given .1) (c .before .before .word6 .ensures) (omega arith) (c .fault-at2 .ensures)
+    opens-price (turn .before .loop .inv .1) (omega arith) (search row-read) (made .holding-of .ensures)
+    (c .before .before .before .before .built2 .given .1) (c .before .before .word6 .ensures) (omega arith) (c .fault-at2 .ensures)
 
 code-of-requires : tie.Need-code-of-requires Inv-loop μ-loop
 code-of-requires c κs =
@@ -42,8 +44,11 @@ code-of-requires c κs =
 loop-again : tie.Need-loop-again Inv-loop μ-loop
 loop-again c =
     let made = c .before .before .before .before .before .before .before in
-    let turn = made .before .before .before .before .before .before in
-    (turn .before .loop .inv .0, opening-more (turn .before .loop .inv .1) (omega arith) (search row-read) (made .holding-of .ensures) _ (c .before .before .before .before .before .built2 .given .1) (c .before .before .before .word6 .ensures) (omega arith) (c .before .leg-of .ensures .0) (c .code-of .ensures))
+    let turn = made .before .before .before .before .before .before in (
+      turn .before .loop .inv .0,
+      opening-more (turn .before .loop .inv .1) (omega arith) (search row-read) (made .holding-of .ensures) _
+          (c .before .before .before .before .before .built2 .given .1) (c .before .before .before .word6 .ensures) (omega arith) (c .before .leg-of .ensures .0) (c .code-of .ensures),
+    )
 
 returns-3 : tie.Need-returns-3 Inv-loop μ-loop
 returns-3 c = opens-all (c .before .before .loop .inv .1) (omega arith) (c .fault-at3 .ensures)
