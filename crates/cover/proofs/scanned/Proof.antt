@@ -1,5 +1,5 @@
--- `scanned` finds the first gap: each turn passes a row that is no long's, that the scan finds covered, or in which the exact search finds
--- no gap. Assumes nothing.
+-- `scanned` finds the first uncovered pair: each turn passes a holding that is not long, a long that the scan finds covered, or one that the
+-- exact search finds covered. Assumes nothing.
 use mathlib.Core.Logic.{⊎-elim}
 use mathlib.Core.Path.{refl}
 use Prim.Native.Nat.{_-_}
