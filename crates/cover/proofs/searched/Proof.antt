@@ -21,7 +21,9 @@ fault-at-requires : tie.Need-fault-at-requires Inv-loop μ-loop
 fault-at-requires c κs = search needs
 
 returns : tie.Need-returns Inv-loop μ-loop
-returns c = rw (c .fault-at .ensures) (finds-open (c .before .before .before .before .loop .inv) (c .before .before .before .loop-test .taken) (c .before .before .first-open .ensures) (c .before .if1 .taken))
+returns c =
+    let turn = c .before .before .before in
+    rw (c .fault-at .ensures) (finds-open (turn .before .loop .inv) (turn .loop-test .taken) (c .before .before .first-open .ensures) (c .before .if1 .taken))
 
 add-long : tie.Need-add-long Inv-loop μ-loop
 add-long c = search needs
