@@ -47,7 +47,7 @@ other-covered legs price i found h j = rw (not-long (legAt legs i) (legAt legs j
 module _ {n : ℕ} {legs : List ℕ} (price : List ℕ) {b : PricedBook} (h : LegsOf b n legs) (p : Same n (wordAt price) (b .price)) where
   module _ (i j : ℕ) (f : i < n) (g : j < n) where
     test : uncovered b i j ≡ ltb (wordAt price i + wordAt price j) (savingOf (legAt legs i) (legAt legs j))
-    test = uncovered-saving b i j ∙ rw (h .leg i f, h .leg j g, p i f, p j g) refl
+    test = uncovered-saving b i j ∙ rw (h .leg i f, h .leg j g, p i f, p j g)
 
     pair-none : PairCovered legs price i j → None (atPair b i j)
     unfolding atPair
