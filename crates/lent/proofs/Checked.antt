@@ -1,54 +1,58 @@
--- From the parts to what the exported check promises: refused by the lengths, and judged. Assumes nothing.
-use mathlib.Core.Path.{_≡_, refl, sym, ap, _∙_}
-use mathlib.Core.Bool.{Bool, true, false, cond}
-use mathlib.Core.List.{List, [], _++_}
-use Prim.Native.Nat.{ℕ, _/_}
-use lib.Dec.{eqb}
-use lib.ListN.{length, take, drop}
+-- From the check's answer and the two lists to what is promised of what is lent. Assumes nothing.
+use mathlib.Core.Path.{_≡_, refl, sym, ap, subst, _∙_}
+use mathlib.Core.Bool.{Bool, false}
+use mathlib.Core.List.{List, _++_}
+use Prim.Native.Nat.{ℕ, _*_, _≤_}
+use native.Mathlib.Omega.{arith}
+use lib.ListN.{length, take, drop, length-append}
 use lib.Seq.{take-at}
-use Rattle.lists.specs.Tables.{front, zeros}
+use borrow.Author.Tests.{eq-eqb}
+use Rattle.lists.specs.Tables.{front}
 use Rattle.lists.proofs.Tables.{length-to}
 use Rattle.article.specs.Answer.{Answer, makeAnswer}
-use Rattle.proposal.specs.Submission.{bookOf, submitted, priced}
-use Rattle.proposal.specs.Figures.{remainder, remaindersOf, ranked}
-use Rattle.proposal.specs.Outcome.{outcome}
-use Rattle.proposal.specs.declared.Book.{Book}
-use Rattle.proposal.specs.declared.Proposal.{Proposal}
-use Rattle.verdict.specs.Judges.{verdictOf, written, Judges}
-use Rattle.verdict.specs.declared.Verdict.the-variants.{Accepted, Refused}
-use Rattle.verdict.specs.declared.Judgement.{Judgement}
-use Rattle.verdict.proofs.Judged.{written-none, ranked-length, all-ranked}
 use Rattle.words.specs.Words.{encode}
-use Rattle.lent.specs.Columns.{Columns, submission, HoldsRows, HoldsLines}
-use Rattle.sizes.specs.Sizes.{differ, tooShort, lengthFault}
-use Rattle.lent.specs.Lists.{Lent, makeLent, Answers, countWritten, Publishes}
-use Rattle.host.specs.Boundary.{sizesOf, outcomeOf, Checks}
-use Rattle.lent.proofs.Columns.{submitted-read, holdings-read, lines-read, entries-read}
-use Rattle.host.proofs.Returned.{returned-demands}
-use Rattle.sizes.proofs.Sizes.{Passed, long-enough, lengths, sizes-refused}
+use Rattle.columns.specs.Columns.{Columns, countIn, rowsIn, submission}
+use Rattle.columns.proofs.Columns.{column-entries}
+use Rattle.sizes.proofs.Sizes.{room-exactly, lengths-exactly}
+use Rattle.proposal.specs.Submission.{bookOf, priced}
+use Rattle.proposal.specs.Figures.{remaindersOf, ranked}
+use Rattle.verdict.specs.Judges.{verdictOf, written, outcomeIn, Scratch, Judges}
+use Rattle.verdict.specs.declared.Verdict.{Verdict}
+use Rattle.verdict.specs.declared.Verdict.the-variants.{Accepted, Refused}
+use Rattle.verdict.proofs.Judged.{written-none, ranked-length, all-ranked}
+use Rattle.lent.specs.Lists.{Lent, makeLent, Answers}
+use Rattle.lent.specs.Boundary.{sizesOf, one, two, outcomeOf, Checks}
+use Rattle.lent.proofs.Returned.{returned-demands}
 
 -- a refusal leaves a list as it was
 nothing-written : (a : Answer) (xs old : List ℕ) → (a .number ≡ 0 → ⊥) → old ≡ front (encode (written a xs)) old
 unfolding front encode
 nothing-written a xs old h = rw (written-none a xs h)
 
--- of a judgement's list, what is published is what is written
-published-list : (a : Answer) (n : ℕ) (xs : List ℕ) → length xs ≡ n → take (countWritten (verdictOf a) n) (front (written a xs) (zeros 256)) ≡ written a xs
-unfolding verdictOf written front
-published-list a n xs e = by (eqb (a .number) 0)
-  where
-    by : (t : Bool) → take (countWritten (cond t (Accepted (a .first) (a .second)) (Refused (a .number) (a .first) (a .second))) n) (cond t xs [] ++ drop (length (cond t xs [])) (zeros 256)) ≡ cond t xs []
-    by true = take-at xs _ n e
-    by false = refl
+-- a verdict is not of both cases
+is-refused : Verdict → Type 0
+is-refused (Accepted units cents) = ⊥
+is-refused (Refused number place second) = Unit {0}
+
+refused-number : {number place second : ℕ} (a : Answer) → makeAnswer number place second ≡ a → Refused number place second ≡ verdictOf a → a .number ≡ 0 → ⊥
+unfolding verdictOf is-refused
+refused-number a e v z =
+    let other : Refused _ _ _ ≡ Accepted (a .first) (a .second) = v ∙ rw (eq-eqb _ _ z) in
+    subst is-refused other tt
+
+-- a list with others written at its front holds them
+held : (xs now old : List ℕ) (n : ℕ) → now ≡ front xs old → length xs ≡ n → n ≤ length now
+unfolding front
+held xs now old n e l = omega (arith, ap (λ (ys : List ℕ). length ys) e, length-append xs (drop (length xs) old))
 
 module _ (c : Columns) where
-  count-read : priced (submission c) .count ≡ length (c .side) / 8
-  unfolding priced bookOf
-  count-read = holdings-read c
+  count-is : priced (submission c) .count ≡ countIn (c .holdings)
+  unfolding priced bookOf submission rowsIn
+  count-is = length-to (countIn (c .holdings)) _
 
-  remainders-length : length (remaindersOf (priced (submission c)) (submission c .lines)) ≡ length (c .side) / 8
+  remainders-length : length (remaindersOf (priced (submission c)) (submission c .lines)) ≡ countIn (c .holdings)
   unfolding remaindersOf
-  remainders-length = length-to (priced (submission c) .count) (remainder (priced (submission c)) (submission c .lines)) ∙ count-read
+  remainders-length = length-to (priced (submission c) .count) _ ∙ count-is
 
   module _ (before : Lent) where
     -- the answer on the outcome, and the two lists, are all that is promised
@@ -56,13 +60,13 @@ module _ (c : Columns) where
         → remainder′ ≡ front (encode (written (outcomeOf c before) (remaindersOf (priced (submission c)) (submission c .lines)))) (before .remainder)
         → ranking′ ≡ front (encode (written (outcomeOf c before) (ranked (priced (submission c)) (submission c .lines)))) (before .ranking)
         → Checks c before (makeLent remainder′ ranking′ out′) r
-    unfolding outcomeOf sizesOf
+    unfolding outcomeOf one two sizesOf
     checks-all remainder′ ranking′ out′ r returned p q =
         let z = sizesOf c before in
-        let d = returned-demands (differ z) (tooShort z) (submission c) (before .answer) out′ r (λ e. long-enough z e .2) returned in
-        let l = lengths z in
+        let d = returned-demands (one c) (two c before) (submission c) (before .answer) out′ r (λ e. room-exactly (z .lists) (z .slice) .0 e .answer) returned in
+        let l = lengths-exactly z in
         record {
-          submitted = entries-read c;
+          submitted = column-entries c;
           returned = returned;
           remainder = p;
           ranking = q;
@@ -74,29 +78,46 @@ module _ (c : Columns) where
           keeps = d;
         }
 
-    -- refused by the lengths
-    pub refused-checks : (number r : ℕ) (out′ : List ℕ) → number ≡ lengthFault (sizesOf c before) → (number ≡ 0 → ⊥)
-        → Answers (makeAnswer number 0 0) (before .answer) out′ r → Checks c before (makeLent (before .remainder) (before .ranking) out′) r
-    unfolding outcomeOf
-    refused-checks number r out′ e h returned =
-        let o : outcomeOf c before ≡ makeAnswer number 0 0 = unfold sizesOf in sizes-refused (sizesOf c before) (submission c) number (holdings-read c) (lines-read c) e h in
-        let none : outcomeOf c before .number ≡ 0 → ⊥ = λ z. h (sym (ap (λ (a : Answer). a .number) o) ∙ z) in
-        checks-all _ _ _ r (rw o returned) (nothing-written _ _ _ none) (nothing-written _ _ _ none)
+    -- refused: neither list is written
+    pub refused-checks : {s s′ : Scratch} {number place second r : ℕ} {out′ : List ℕ} → Judges (two c before) c s s′ (Refused number place second)
+        → Answers (makeAnswer number place second) (before .answer) out′ r → Checks c before (makeLent (before .remainder) (before .ranking) out′) r
+    unfolding outcomeOf outcomeIn one
+    refused-checks judges returned =
+        let none = refused-number (outcomeOf c before) (judges .answer) (judges .verdict) in
+        checks-all _ _ _ _ (rw (← judges .answer) returned) (nothing-written _ _ _ none) (nothing-written _ _ _ none)
 
-    -- judged by the check
-    pub judged-checks : (remainder′ ranking′ out′ : List ℕ) (book : Book) (proposal : Proposal) (j : Judgement) (r : ℕ) → Passed (sizesOf c before)
-        → HoldsRows (c .side) (c .kind) (c .issuer) (c .days) (c .value) book → HoldsLines (c .price) (c .long) (c .short) (c .amount) proposal
-        → Judges (submitted book proposal) j → Publishes j (length (c .side) / 8) before (makeLent remainder′ ranking′ out′) r → Checks c before (makeLent remainder′ ranking′ out′) r
-    unfolding outcomeOf
-    judged-checks remainder′ ranking′ out′ book proposal j r passed rows lines judges p =
-        let n = length (c .side) / 8 in
-        let e : length (c .price) ≡ length (c .side) = unfold sizesOf in passed .lengths .price ∙ sym (passed .lengths .side) in
-        let judged : Judges (submission c) j = rw (submitted-read c book proposal e rows lines) at judges in
-        let o : outcomeOf c before ≡ outcome false false (submission c) = rw (passed .differ, passed .short) in
-        let left : take (countWritten (j .verdict) n) (j .remainders) ≡ written (outcomeOf c before) (remaindersOf (priced (submission c)) (submission c .lines)) =
-        rw (judged .verdict, judged .remainders, o) (published-list (outcome false false (submission c)) n _ remainders-length) in
-        let order : take (countWritten (j .verdict) n) (j .ranking) ≡ written (outcomeOf c before) (ranked (priced (submission c)) (submission c .lines)) =
-        rw (judged .verdict, judged .ranking, o) (published-list (outcome false false (submission c)) n _ (ranked-length (submission c) ∙ count-read)) in
-        checks-all remainder′ ranking′ out′ r (rw (o, ← judged .answer) (p .returned))
-        (p .remainder ∙ ap (λ (ys : List ℕ). front (encode ys) (before .remainder)) left)
-        (p .ranking ∙ ap (λ (ys : List ℕ). front (encode ys) (before .ranking)) order)
+    -- accepted: the lists are long enough, and have what the check left in its scratch
+    module _ {s s′ : Scratch} {units cents : ℕ} (judges : Judges (two c before) c s s′ (Accepted units cents)) where
+      accepted : outcomeOf c before .number ≡ 0
+      unfolding outcomeOf outcomeIn one
+      accepted = sym (ap (λ (a : Answer). a .number) (judges .answer))
+
+      pub remainder-room : 8 * countIn (c .holdings) ≤ length (before .remainder)
+      unfolding two sizesOf
+      remainder-room = omega (arith, room-exactly (sizesOf c before .lists) (sizesOf c before .slice) .0 (judges .keeps .exactly .0 refl .0 .1) .each .0)
+
+      pub ranking-room : 8 * countIn (c .holdings) ≤ length (before .ranking)
+      unfolding two sizesOf
+      ranking-room = omega (arith, room-exactly (sizesOf c before .lists) (sizesOf c before .slice) .0 (judges .keeps .exactly .0 refl .0 .1) .each .1 .0)
+
+      pub left-held : countIn (c .holdings) ≤ length (s′ .left)
+      left-held = held _ _ _ _ (judges .worked refl .remainders) remainders-length
+
+      pub ranks-held : countIn (c .holdings) ≤ length (s′ .ranks)
+      ranks-held = held _ _ _ _ (judges .worked refl .ranking) (ranked-length (submission c) ∙ count-is)
+
+      -- what is written of the scratch is what was put at its front
+      in-list : (xs now old bytes : List ℕ) → now ≡ front xs old → length xs ≡ countIn (c .holdings)
+          → front (encode (take (countIn (c .holdings)) now)) bytes ≡ front (encode (written (outcomeOf c before) xs)) bytes
+      unfolding front written
+      in-list xs now old bytes e n =
+          rw (eq-eqb (outcomeOf c before .number) 0 accepted) (ap (λ (ys : List ℕ). front (encode ys) bytes) (ap (take (countIn (c .holdings))) e ∙ take-at xs _ _ n))
+
+      pub accepted-checks : {remainder′ ranking′ out′ : List ℕ} {r : ℕ} → remainder′ ≡ front (encode (take (countIn (c .holdings)) (s′ .left))) (before .remainder)
+          → ranking′ ≡ front (encode (take (countIn (c .holdings)) (s′ .ranks))) (before .ranking) → Answers (makeAnswer 0 units cents) (before .answer) out′ r
+          → Checks c before (makeLent remainder′ ranking′ out′) r
+      unfolding outcomeOf outcomeIn one
+      accepted-checks p q returned =
+          checks-all _ _ _ _ (rw (← judges .answer) returned)
+          (p ∙ in-list _ _ _ _ (judges .worked refl .remainders) remainders-length)
+          (q ∙ in-list _ _ _ _ (judges .worked refl .ranking) (ranked-length (submission c) ∙ count-is))

@@ -1,3 +1,3 @@
 pub mod Answers
-pub mod Columns
-pub mod Published
+pub mod Returned
+pub mod Checked
