@@ -13,6 +13,7 @@ use Rattle.article.specs.Answer.{Answer, makeAnswer}
 use Rattle.words.specs.Words.{encode}
 use Rattle.columns.specs.Columns.{Columns, countIn, rowsIn, submission}
 use Rattle.columns.proofs.Columns.{column-entries}
+use Rattle.sizes.specs.Sizes.{Room}
 use Rattle.sizes.proofs.Sizes.{room-exactly, lengths-exactly}
 use Rattle.proposal.specs.Submission.{bookOf, priced}
 use Rattle.proposal.specs.Figures.{remaindersOf, ranked}
@@ -46,11 +47,14 @@ unfolding front
 held xs now old n e l = omega (arith, ap (λ (ys : List ℕ). length ys) e, length-append xs (drop (length xs) old))
 
 module _ (c : Columns) where
-  count-is : priced (submission c) .count ≡ countIn (c .holdings)
-  unfolding priced bookOf submission rowsIn
-  count-is = length-to (countIn (c .holdings)) _
+  abbrev n : ℕ
+  n = countIn (c .holdings)
 
-  remainders-length : length (remaindersOf (priced (submission c)) (submission c .lines)) ≡ countIn (c .holdings)
+  count-is : priced (submission c) .count ≡ n
+  unfolding priced bookOf submission rowsIn
+  count-is = length-to n _
+
+  remainders-length : length (remaindersOf (priced (submission c)) (submission c .lines)) ≡ n
   unfolding remaindersOf
   remainders-length = length-to (priced (submission c) .count) _ ∙ count-is
 
@@ -78,46 +82,55 @@ module _ (c : Columns) where
           keeps = d;
         }
 
-    -- refused: neither list is written
-    pub refused-checks : {s s′ : Scratch} {number place second r : ℕ} {out′ : List ℕ} → Judges (two c before) c s s′ (Refused number place second)
-        → Answers (makeAnswer number place second) (before .answer) out′ r → Checks c before (makeLent (before .remainder) (before .ranking) out′) r
-    unfolding outcomeOf outcomeIn one
-    refused-checks judges returned =
-        let none = refused-number (outcomeOf c before) (judges .answer) (judges .verdict) in
-        checks-all _ _ _ _ (rw (← judges .answer) returned) (nothing-written _ _ _ none) (nothing-written _ _ _ none)
+    -- what the check says of what is lent, by its case
+    module _ {t : Bool} {s s′ : Scratch} {v : Verdict} (same : t ≡ two c before) (given : Judges t c s s′ v) where
+      judged-as : {w : Verdict} → v ≡ w → Judges (two c before) c s s′ w
+      judged-as e = rw (← same, ← e) given
 
-    -- accepted: the lists are long enough, and have what the check left in its scratch
-    module _ {s s′ : Scratch} {units cents : ℕ} (judges : Judges (two c before) c s s′ (Accepted units cents)) where
-      accepted : outcomeOf c before .number ≡ 0
+      -- refused: neither list is written
+      pub refused-checks : {number place second r : ℕ} {out′ : List ℕ} → v ≡ Refused number place second → Answers (makeAnswer number place second) (before .answer) out′ r
+          → Checks c before (makeLent (before .remainder) (before .ranking) out′) r
       unfolding outcomeOf outcomeIn one
-      accepted = sym (ap (λ (a : Answer). a .number) (judges .answer))
+      refused-checks e returned =
+          let judges = judged-as e in
+          let none = refused-number (outcomeOf c before) (judges .answer) (judges .verdict) in
+          checks-all _ _ _ _ (rw (← judges .answer) returned) (nothing-written _ _ _ none) (nothing-written _ _ _ none)
 
-      pub remainder-room : 8 * countIn (c .holdings) ≤ length (before .remainder)
-      unfolding two sizesOf
-      remainder-room = omega (arith, room-exactly (sizesOf c before .lists) (sizesOf c before .slice) .0 (judges .keeps .exactly .0 refl .0 .1) .each .0)
+      -- accepted: the lists are long enough, and have what the check left in its scratch
+      module _ {units cents : ℕ} (e : v ≡ Accepted units cents) where
+        judges : Judges (two c before) c s s′ (Accepted units cents)
+        judges = judged-as e
 
-      pub ranking-room : 8 * countIn (c .holdings) ≤ length (before .ranking)
-      unfolding two sizesOf
-      ranking-room = omega (arith, room-exactly (sizesOf c before .lists) (sizesOf c before .slice) .0 (judges .keeps .exactly .0 refl .0 .1) .each .1 .0)
+        accepted : outcomeOf c before .number ≡ 0
+        unfolding outcomeOf outcomeIn one
+        accepted = sym (ap (λ (a : Answer). a .number) (judges .answer))
 
-      pub left-held : countIn (c .holdings) ≤ length (s′ .left)
-      left-held = held _ _ _ _ (judges .worked refl .remainders) remainders-length
+        room : Room (sizesOf c before .lists) (sizesOf c before .slice)
+        unfolding two
+        room = room-exactly _ _ .0 (judges .keeps .exactly .0 refl .0 .1)
 
-      pub ranks-held : countIn (c .holdings) ≤ length (s′ .ranks)
-      ranks-held = held _ _ _ _ (judges .worked refl .ranking) (ranked-length (submission c) ∙ count-is)
+        order-length : length (ranked (priced (submission c)) (submission c .lines)) ≡ n
+        order-length = ranked-length (submission c) ∙ count-is
 
-      -- what is written of the scratch is what was put at its front
-      in-list : (xs now old bytes : List ℕ) → now ≡ front xs old → length xs ≡ countIn (c .holdings)
-          → front (encode (take (countIn (c .holdings)) now)) bytes ≡ front (encode (written (outcomeOf c before) xs)) bytes
-      unfolding front written
-      in-list xs now old bytes e n =
-          rw (eq-eqb (outcomeOf c before .number) 0 accepted) (ap (λ (ys : List ℕ). front (encode ys) bytes) (ap (take (countIn (c .holdings))) e ∙ take-at xs _ _ n))
+        pub remainder-room : (n ≤ length (s′ .left)) × (8 * n ≤ length (before .remainder))
+        unfolding sizesOf
+        remainder-room = (held _ _ _ _ (judges .worked refl .remainders) remainders-length, omega (arith, room .each .0))
 
-      pub accepted-checks : {remainder′ ranking′ out′ : List ℕ} {r : ℕ} → remainder′ ≡ front (encode (take (countIn (c .holdings)) (s′ .left))) (before .remainder)
-          → ranking′ ≡ front (encode (take (countIn (c .holdings)) (s′ .ranks))) (before .ranking) → Answers (makeAnswer 0 units cents) (before .answer) out′ r
-          → Checks c before (makeLent remainder′ ranking′ out′) r
-      unfolding outcomeOf outcomeIn one
-      accepted-checks p q returned =
-          checks-all _ _ _ _ (rw (← judges .answer) returned)
-          (p ∙ in-list _ _ _ _ (judges .worked refl .remainders) remainders-length)
-          (q ∙ in-list _ _ _ _ (judges .worked refl .ranking) (ranked-length (submission c) ∙ count-is))
+        pub ranking-room : (n ≤ length (s′ .ranks)) × (8 * n ≤ length (before .ranking))
+        unfolding sizesOf
+        ranking-room = (held _ _ _ _ (judges .worked refl .ranking) order-length, omega (arith, room .each .1 .0))
+
+        -- what is written of the scratch is what was put at its front
+        in-list : (xs now old bytes : List ℕ) → now ≡ front xs old → length xs ≡ n → front (encode (take n now)) bytes ≡ front (encode (written (outcomeOf c before) xs)) bytes
+        unfolding front written
+        in-list xs now old bytes f l =
+            rw (eq-eqb (outcomeOf c before .number) 0 accepted) (ap (λ (ys : List ℕ). front (encode ys) bytes) (ap (take n) f ∙ take-at xs _ _ l))
+
+        pub accepted-checks : {remainder′ ranking′ out′ : List ℕ} {r : ℕ} → remainder′ ≡ front (encode (take n (s′ .left))) (before .remainder)
+            → ranking′ ≡ front (encode (take n (s′ .ranks))) (before .ranking) → Answers (makeAnswer 0 units cents) (before .answer) out′ r
+            → Checks c before (makeLent remainder′ ranking′ out′) r
+        unfolding outcomeOf outcomeIn one
+        accepted-checks p q returned =
+            checks-all _ _ _ _ (rw (← judges .answer) returned)
+            (p ∙ in-list _ _ _ _ (judges .worked refl .remainders) remainders-length)
+            (q ∙ in-list _ _ _ _ (judges .worked refl .ranking) order-length)

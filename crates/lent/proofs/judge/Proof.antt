@@ -1,0 +1,81 @@
+-- `judge` checks what is lent, and writes what is accepted. Assumes nothing.
+use borrow.Author.Needs.{needs}
+use Rattle.words.specs.Words.{entries}
+use Rattle.columns.specs.Columns.{countIn}
+use Rattle.lent.specs.Lists.{Lent, makeLent}
+use Rattle.lent.specs.Boundary.{two, sizesOf}
+use Rattle.lent.proofs.Checked.{refused-checks, remainder-room, ranking-room, accepted-checks}
+use Rattle.lent.proofs.judge.Statement.{statement}
+use Rattle.lent.proofs.judge.Tie as tie
+
+-- from where the check's case is looked at back to the check, and to what 2 is
+abbrev checked : tie.After-slice-known11 → tie.After-check
+checked c = c .before .before .before .before .before .before .before .before
+
+abbrev tested : tie.After-check → tie.After-lists-too-short
+tested c = c .before .before .before .before .before
+
+-- the lists as they were lent
+abbrev lists : tie.After-lists-too-short → Lent
+lists c =
+    let start = c .before .before .before .before .before .before .before .before .before .before .before .before .before .before .before .before .before in
+    makeLent (start .args .remainder .now) (start .args .ranking .now) (start .args .answer .now)
+
+write-words-requires : tie.Need-write-words-requires
+unfolding countIn entries two sizesOf
+write-words-requires c κs =
+    let v = c .before .before .before in
+    let k = checked (v .before .before) in
+    remainder-room _ (lists (tested k)) (tested k .lists-too-short .ensures) (k .check .ensures) (v .verdict .given .1)
+
+write-words-requires-2 : tie.Need-write-words-requires-2
+unfolding countIn entries two sizesOf
+write-words-requires-2 c κs =
+    let v = c .before .before .before .before .before .before .before .before in
+    let k = checked (v .before .before) in
+    ranking-room _ (lists (tested k)) (tested k .lists-too-short .ensures) (k .check .ensures) (v .verdict .given .1)
+
+returns : tie.Need-returns
+unfolding countIn entries two sizesOf
+returns c =
+    let a = c .before .before in
+    let q = a .before .before .before .before in
+    let p = q .before .before .before .before .before in
+    let v = p .before .before .before .before in
+    let k = checked (v .before .before) in
+    accepted-checks _ _ (tested k .lists-too-short .ensures) (k .check .ensures) (v .verdict .given .1) (p .write-words .ensures) (q .write-words2 .ensures) (a .put-answer .ensures)
+
+returns-2 : tie.Need-returns-2
+unfolding countIn entries two sizesOf
+returns-2 c =
+    let a = c .before .before in
+    let v = a .before .before .before in
+    let k = checked (v .before .before) in
+    refused-checks _ _ (tested k .lists-too-short .ensures) (k .check .ensures) (v .verdict2 .given .1) (a .put-answer2 .ensures)
+
+pub judge-spec : {M : Type 1} → statement M
+judge-spec =
+    tie.close
+    (tie.spec
+    (λ c κs. search needs)
+    (λ c κs. search needs)
+    (λ c. search needs)
+    write-words-requires
+    write-words-requires-2
+    (λ c κs. search needs)
+    (λ c. search needs)
+    (λ c. search needs)
+    (λ c. search needs)
+    (λ c. search needs)
+    (λ c. search needs)
+    (λ c. search needs)
+    (λ c. search needs)
+    returns
+    (λ c. search needs)
+    (λ c κs. search needs)
+    (λ c. search needs)
+    (λ c. search needs)
+    (λ c. search needs)
+    (λ c. search needs)
+    (λ c. search needs)
+    returns-2)
