@@ -1,77 +1,45 @@
--- Columns of rows and of lines, written one number after another. Assumes nothing.
+-- Columns written one number after another, and one column after another. Assumes nothing.
 use mathlib.Core.Path.{_≡_, refl, sym, ap, _∙_}
-use mathlib.Core.List.{List, map}
-use Prim.Native.Nat.{ℕ, zero, suc, _+_, _≤_}
+use mathlib.Core.List.{List, [], _∷_, map}
+use Prim.Native.Nat.{ℕ, suc, _+_, _≤_}
 use native.Mathlib.Numerals.{add-one}
-use native.Mathlib.Omega.{arith}
 use lib.ListN.{length, getD, take}
-use lib.Seq.{ext-getD}
 use Rattle.lists.specs.Tables.{listTo, front}
-use Rattle.lists.proofs.Tables.{length-to, getD-to, take-to, map-to}
-use Rattle.holding.specs.declared.Row.{Row}
-use Rattle.pairing.specs.declared.Line.{Line}
-use Rattle.proposal.specs.Submission.{noRow, noLine, rowsOf, pricesOf, linesOf}
-use Rattle.proposal.specs.declared.Book.{Book}
-use Rattle.proposal.specs.declared.Proposal.{Proposal}
+use Rattle.lists.proofs.Tables.{length-to, to-back, take-to, map-to}
 use Rattle.words.specs.Words.{withWord, encode}
 use Rattle.words.proofs.Encoded.{word-more}
-use Rattle.columns.specs.Columns.{BookColumns, LineColumns, makeBookColumns, makeLineColumns, column, filledBook, filledLines, rowNumber, lineNumber, rowColumn, lineColumn}
-
--- the last column of each
-pub row-last : (j : ℕ) (row : Row) → 4 ≤ j → row .value ≡ rowNumber j row
-row-last zero row h = absurd (omega arith)
-row-last (suc zero) row h = absurd (omega arith)
-row-last (suc (suc zero)) row h = absurd (omega arith)
-row-last (suc (suc (suc zero))) row h = absurd (omega arith)
-row-last (suc (suc (suc (suc j)))) row h = refl
-
-pub line-last : (j : ℕ) (line : Line) → 2 ≤ j → line .amount ≡ lineNumber j line
-line-last zero line h = absurd (omega arith)
-line-last (suc zero) line h = absurd (omega arith)
-line-last (suc (suc j)) line h = refl
+use Rattle.columns.specs.Columns.{column, filledFrom}
 
 -- no number is written, and one more
-pub numbers-none : (f : ℕ → ℕ) (old : List ℕ) → old ≡ front (encode (listTo 0 f)) old
-unfolding listTo front encode
+pub numbers-none : (f : ℕ → ℕ) (old : List ℕ) → old ≡ column (listTo 0 f) old
+unfolding column listTo front encode
 numbers-none f old = refl
 
-pub numbers-more : (f : ℕ → ℕ) (old : List ℕ) {so-far after : List ℕ} {i v : ℕ} → so-far ≡ front (encode (listTo i f)) old → v ≡ f i → after ≡ withWord so-far i v
-    → after ≡ front (encode (listTo (i + 1) f)) old
-unfolding listTo
+pub numbers-more : (f : ℕ → ℕ) (old : List ℕ) {so-far after : List ℕ} {i v : ℕ} → so-far ≡ column (listTo i f) old → v ≡ f i → after ≡ withWord so-far i v
+    → after ≡ column (listTo (i + 1) f) old
+unfolding column listTo
 numbers-more f old {i = i} e n w =
     let at : withWord (front (encode (listTo i f)) old) i (f i) ≡ front (encode (listTo (suc i) f)) old = rw (length-to i f) at (word-more (listTo i f) old (f i)) in
     w ∙ rw (e, n, add-one) at
 
 -- the first n of an array
 pub firsts-take : (n : ℕ) (xs : List ℕ) → n ≤ length xs → take n xs ≡ listTo n (λ k. getD xs k 0)
-firsts-take n xs h =
-    let all : xs ≡ listTo (length xs) (λ k. getD xs k 0) = ext-getD 0 xs _ (sym (length-to (length xs) (λ k. getD xs k 0))) (λ k l. sym (getD-to (length xs) (λ k. getD xs k 0) k 0 l)) in
-    ap (λ (ys : List ℕ). take n ys) all ∙ take-to (length xs) n (λ k. getD xs k 0) h
+firsts-take n xs h = ap (λ (ys : List ℕ). take n ys) (sym (to-back (length xs) xs 0 refl)) ∙ take-to (length xs) n (λ k. getD xs k 0) h
 
--- every column of a book is written, and every column of a proposal
-module _ (book : Book) (proposal : Proposal) (old : BookColumns) where
-  pub book-written : {side kind issuer days value price : List ℕ} → length (proposal .prices) ≡ 256 → book .count ≤ 256
-      → side ≡ front (encode (listTo (book .count) (rowColumn 0 (book .rows)))) (old .side)
-      → kind ≡ front (encode (listTo (book .count) (rowColumn 1 (book .rows)))) (old .kind)
-      → issuer ≡ front (encode (listTo (book .count) (rowColumn 2 (book .rows)))) (old .issuer)
-      → days ≡ front (encode (listTo (book .count) (rowColumn 3 (book .rows)))) (old .days)
-      → value ≡ front (encode (listTo (book .count) (rowColumn 4 (book .rows)))) (old .value)
-      → price ≡ front (encode (take (book .count) (proposal .prices))) (old .price)
-      → makeBookColumns side kind issuer days value price ≡ filledBook (rowsOf book) (pricesOf book (proposal .prices)) old
-  unfolding filledBook column rowsOf pricesOf
-  book-written {price = price} long few s k i d v p =
-      let by : (j : ℕ) → listTo (book .count) (rowColumn j (book .rows)) ≡ map (rowNumber j) (listTo (book .count) (λ m. getD (book .rows) m noRow)) =
-      λ j. sym (map-to (rowNumber j) (book .count) (λ m. getD (book .rows) m noRow)) in
-      let q : price ≡ front (encode (listTo (book .count) (λ m. getD (proposal .prices) m 0))) (old .price) = p ∙ rw (firsts-take (book .count) (proposal .prices) (omega arith)) in
-      rw (s, k, i, d, v, q, by 0, by 1, by 2, by 3, by 4)
+-- of n entries each column, from column j on, is written
+module _ {A : Type 0} (numbers : A → List ℕ) (n : ℕ) (f : ℕ → A) where
+  abbrev pub Written : ℕ → List (List ℕ) → List (List ℕ) → Type 0
+  Written j [] [] = Unit {0}
+  Written j [] (old ∷ olds) = ⊥
+  Written j (c ∷ cs) [] = ⊥
+  Written j (c ∷ cs) (old ∷ olds) = (c ≡ column (listTo n (λ k. getD (numbers (f k)) j 0)) old) × Written (suc j) cs olds
 
-pub lines-written : (proposal : Proposal) (old : LineColumns) {long short amount : List ℕ}
-    → long ≡ front (encode (listTo (proposal .count) (lineColumn 0 (proposal .lines)))) (old .long)
-    → short ≡ front (encode (listTo (proposal .count) (lineColumn 1 (proposal .lines)))) (old .short)
-    → amount ≡ front (encode (listTo (proposal .count) (lineColumn 2 (proposal .lines)))) (old .amount)
-    → makeLineColumns long short amount ≡ filledLines (linesOf proposal) old
-unfolding filledLines column linesOf
-lines-written proposal old l s a =
-    let by : (j : ℕ) → listTo (proposal .count) (lineColumn j (proposal .lines)) ≡ map (lineNumber j) (listTo (proposal .count) (λ m. getD (proposal .lines) m noLine)) =
-    λ j. sym (map-to (lineNumber j) (proposal .count) (λ m. getD (proposal .lines) m noLine)) in
-    rw (l, s, a, by 0, by 1, by 2)
+  pub each-written : (j : ℕ) (cs olds : List (List ℕ)) → Written j cs olds → cs ≡ filledFrom j (map numbers (listTo n f)) olds
+  unfolding filledFrom
+  each-written j [] [] w = refl
+  each-written j [] (old ∷ olds) w = absurd w
+  each-written j (c ∷ cs) [] w = absurd w
+  each-written j (c ∷ cs) (old ∷ olds) (e, w) =
+      let number : List ℕ → ℕ = λ ns. getD ns j 0 in
+      let by : map number (map numbers (listTo n f)) ≡ listTo n (λ k. number (numbers (f k))) = rw (map-to numbers n f) (map-to number n (λ k. numbers (f k))) in
+      λ i. (e ∙ ap (λ (xs : List ℕ). column xs old) (sym by)) i ∷ each-written (suc j) cs olds w i

@@ -1,53 +1,124 @@
--- What is written into the columns of a book and of a proposal is read back at each entry. Assumes nothing.
-use mathlib.Core.Path.{_≡_, _∙_}
-use mathlib.Core.List.{List, [], _∷_, map}
-use Prim.Native.Nat.{ℕ, _<_}
+-- What is written into columns is read back at each entry, and as a whole where nothing is lent past it. Assumes nothing.
+use mathlib.Core.Path.{_≡_, refl, sym, ap, _∙_}
+use mathlib.Core.List.{List, [], _∷_, map, append-nil}
+use Prim.Native.Nat.{ℕ, zero, suc, _+_, _*_, _/_, _<_, _^_}
 use native.Mathlib.Omega.{arith}
-use lib.ListN.{length, getD, length-map}
+use lib.ListN.{length, getD, take, drop, length-map, drop-of-length-le}
+use lib.Seq.{ext-getD, drop-nil, drop-cons, take-at}
 use Rattle.lists.specs.Each.{Each}
-use Rattle.lists.proofs.Entries.{each-so}
-use Rattle.lists.proofs.Tables.{getD-map-in}
+use Rattle.lists.specs.Tables.{listTo, front}
+use Rattle.lists.proofs.Entries.{each-so, each-map, each-read}
+use Rattle.lists.proofs.Tables.{to-eq, to-back, getD-map-in}
+use Rattle.holding.specs.Holding.{numbersOf, rowBy}
 use Rattle.holding.specs.declared.Row.{Row}
+use Rattle.holding.proofs.Rows.{row-back}
 use Rattle.pairing.specs.declared.Line.{Line}
-use Rattle.proposal.specs.Submission.{noRow, noLine}
-use Rattle.words.specs.Words.{wordAt}
-use Rattle.words.proofs.ReadBack.{read-back}
-use Rattle.columns.specs.Columns.{BookColumns, LineColumns, column, filledBook, filledLines, HoldingWritten, LineWritten, Fits, RowFits, LineFits}
+use Rattle.proposal.specs.Submission.{Submission, noRow, noLine, lineNumbers, lineBy}
+use Rattle.proposal.proofs.PricedBooks.{line-back}
+use Rattle.words.specs.Words.{wordAt, entries, decode, encode}
+use Rattle.words.proofs.Encoded.{length-encode}
+use Rattle.words.proofs.ReadBack.{read-back, decode-encode}
+use Rattle.columns.specs.Columns.{Columns, makeColumns, countIn, numbersAt, rowsIn, linesIn, submission, RowAt, LineAt, column, filledFrom, filled}
+use Rattle.columns.proofs.Columns.{row-at, line-at}
 
-each-map : {A : Type 0} (P : ℕ → Type 0) (f : A → ℕ) (xs : List A) → Each (λ x. P (f x)) xs → Each P (map f xs)
-each-map P f [] h = tt
-each-map P f (x ∷ xs) h = (h .0, each-map P f xs (h .1))
+-- numbers that eight bytes hold
+abbrev pub Fits : List ℕ → Type 0
+Fits xs = Each (λ x. x < 2 ^ 64) xs
 
--- one number of each entry of a list
-number-back : {A : Type 0} (f : A → ℕ) (xs : List A) (none : A) (old : List ℕ) → Each (λ x. Fits (f x)) xs → (k : ℕ) → k < length xs
-    → wordAt (column (map f xs) old) k ≡ f (getD xs k none)
+pub price-read : (prices old : List ℕ) → Fits prices → (k : ℕ) → k < length prices → wordAt (column prices old) k ≡ getD prices k 0
 unfolding column
-number-back f xs none old fit k h =
-    read-back (map f xs) old (each-map Fits f xs fit) k (omega (arith, length-map xs f)) ∙ getD-map-in f xs k none 0 h
+price-read prices old fit k h = read-back prices old fit k h
 
-module _ (rows : List Row) (prices : List ℕ) (old : BookColumns) where
-  pub holding-written : Each RowFits rows → Each Fits prices → length prices ≡ length rows → (k : ℕ) → k < length rows
-      → HoldingWritten (filledBook rows prices old) k (getD rows k noRow) (getD prices k 0)
-  unfolding filledBook
-  holding-written fit dear same k h =
-      let by : (f : Row → ℕ) → ((r : Row) → RowFits r → Fits (f r)) → (bytes : List ℕ) → wordAt (column (map f rows) bytes) k ≡ f (getD rows k noRow) =
-      λ f g bytes. number-back f rows noRow bytes (each-so RowFits (λ r. Fits (f r)) g rows fit) k h in
-      record {
-        at-side = by (λ r. r .side) (λ r g. g .fit-side) (old .side);
-        at-kind = by (λ r. r .kind) (λ r g. g .fit-kind) (old .kind);
-        at-issuer = by (λ r. r .issuer) (λ r g. g .fit-issuer) (old .issuer);
-        at-days = by (λ r. r .days) (λ r g. g .fit-days) (old .days);
-        at-value = by (λ r. r .value) (λ r g. g .fit-value) (old .value);
-        at-price = unfold column in read-back prices (old .price) dear k (omega (arith, same));
-      }
+-- the bytes of the numbers alone, which are those of a column that held nothing
+pub cut-column : (xs old : List ℕ) → take (8 * length xs) (column xs old) ≡ encode xs
+unfolding column front
+cut-column xs old = take-at (encode xs) _ (8 * length xs) (length-encode xs)
 
-pub line-written : (lines : List Line) (old : LineColumns) → Each LineFits lines → (k : ℕ) → k < length lines → LineWritten (filledLines lines old) k (getD lines k noLine)
-unfolding filledLines
-line-written lines old fit k h =
-    let by : (f : Line → ℕ) → ((l : Line) → LineFits l → Fits (f l)) → (bytes : List ℕ) → wordAt (column (map f lines) bytes) k ≡ f (getD lines k noLine) =
-    λ f g bytes. number-back f lines noLine bytes (each-so LineFits (λ l. Fits (f l)) g lines fit) k h in
-    record {
-      at-long = by (λ l. l .long) (λ l g. g .fit-long) (old .long);
-      at-short = by (λ l. l .short) (λ l g. g .fit-short) (old .short);
-      at-amount = by (λ l. l .amount) (λ l g. g .fit-amount) (old .amount);
-    }
+bare-column : (xs : List ℕ) → column xs [] ≡ encode xs
+unfolding column front
+bare-column xs = rw drop-nil (append-nil (encode xs))
+
+-- number j of an entry
+abbrev nth : ℕ → List ℕ → ℕ
+nth j xs = getD xs j 0
+
+-- the numbers of each entry, from number j on
+module _ (ns : List (List ℕ)) where
+  numbers-read : Each Fits ns → (k : ℕ) → k < length ns → (j : ℕ) (olds : List (List ℕ)) → length (getD ns k []) ≡ j + length olds
+      → numbersAt (filledFrom j ns olds) k ≡ drop j (getD ns k [])
+  unfolding numbersAt filledFrom
+  numbers-read fit k h j [] e = sym (drop-of-length-le (getD ns k []) {i = j} (omega (arith, e)))
+  numbers-read fit k h j (old ∷ olds) e =
+      let each = each-map _ (nth j) ns (each-so Fits (λ xs. nth j xs < 2 ^ 64) (λ xs f. each-read (λ x. x < 2 ^ 64) 0 (omega arith) xs f j) ns fit) in
+      let first = price-read (map (nth j) ns) old each k (omega (arith, length-map ns (nth j))) ∙ getD-map-in (nth j) ns k [] 0 h in
+      rw (drop-cons (getD ns k []) j 0 (omega (arith, e))) (λ i. first i ∷ numbers-read fit k h (suc j) olds (omega (arith, e)) i)
+
+  -- cut behind them, the columns are those that held nothing
+  cut-filled : (j : ℕ) (olds : List (List ℕ)) → map (λ c. take (8 * length ns) c) (filledFrom j ns olds) ≡ filledFrom j ns (map (λ c. []) olds)
+  unfolding filledFrom
+  cut-filled j [] = refl
+  cut-filled j (old ∷ olds) =
+      let first : take (8 * length ns) (column (map (nth j) ns) old) ≡ column (map (nth j) ns) [] = rw (length-map ns (nth j)) at (cut-column (map (nth j) ns) old) ∙ sym (bare-column (map (nth j) ns)) in
+      λ i. first i ∷ cut-filled (suc j) olds i
+
+  count-filled : (olds : List (List ℕ)) → countIn (filledFrom 0 ns ([] ∷ olds)) ≡ length ns
+  unfolding countIn entries filledFrom
+  count-filled olds = rw (bare-column (map (nth 0) ns)) (omega (arith, length-encode (map (nth 0) ns), length-map ns (nth 0)))
+
+-- entries of m + 1 numbers, that the numbers make again
+module _ {A : Type 0} (numbers : A → List ℕ) (by : List ℕ → A) (back : (x : A) → by (numbers x) ≡ x) (m : ℕ) (many : (x : A) → length (numbers x) ≡ suc m) (none : A) (xs : List A)
+    (fit : Each (λ x. Fits (numbers x)) xs) where
+  -- each is read back
+  entry-read : (k : ℕ) → k < length xs → (olds : List (List ℕ)) → length olds ≡ suc m → getD xs k none ≡ by (numbersAt (filledFrom 0 (map numbers xs) olds) k)
+  entry-read k h olds e =
+      let at : getD (map numbers xs) k [] ≡ numbers (getD xs k none) = getD-map-in numbers xs k none [] h in
+      let read = numbers-read (map numbers xs) (each-map Fits numbers xs fit) k (omega (arith, length-map xs numbers)) 0 olds (rw at (omega (arith, many (getD xs k none), e))) in
+      sym (back (getD xs k none)) ∙ ap by (sym (read ∙ at))
+
+  -- and so are all
+  entries-read : (olds columns : List (List ℕ)) → length olds ≡ suc m → columns ≡ map (λ c. take (8 * length xs) c) (filledFrom 0 (map numbers xs) olds)
+      → listTo (countIn columns) (λ k. by (numbersAt columns k)) ≡ xs
+  entries-read [] columns e p = absurd (omega (arith, e))
+  entries-read (old ∷ olds) columns e p =
+      let bare : List (List ℕ) = map (λ c. []) (old ∷ olds) in
+      let cut : columns ≡ filledFrom 0 (map numbers xs) bare = p ∙ rw (length-map xs numbers) at (cut-filled (map numbers xs) 0 (old ∷ olds)) in
+      rw (cut, count-filled (map numbers xs) _, length-map xs numbers)
+      (to-eq (length xs) _ _ (λ k h. sym (entry-read k h bare (length-map (old ∷ olds) (λ c. []) ∙ e))) ∙ to-back (length xs) xs none refl)
+
+five : (r : Row) → length (numbersOf r) ≡ 5
+unfolding numbersOf
+five r = refl
+
+three : (l : Line) → length (lineNumbers l) ≡ 3
+unfolding lineNumbers
+three l = refl
+
+-- holdings, and lines, that were written are read back
+pub rows-read : (rows : List Row) → Each (λ r. Fits (numbersOf r)) rows → (k : ℕ) → k < length rows → (columns : List (List ℕ)) → length columns ≡ 5
+    → RowAt (filledFrom 0 (map numbersOf rows) columns) k (getD rows k noRow)
+rows-read rows fit k h columns e = row-at _ k _ (entry-read numbersOf rowBy row-back 4 five noRow rows fit k h columns e)
+
+pub lines-read : (lines : List Line) → Each (λ l. Fits (lineNumbers l)) lines → (k : ℕ) → k < length lines → (columns : List (List ℕ)) → length columns ≡ 3
+    → LineAt (filledFrom 0 (map lineNumbers lines) columns) k (getD lines k noLine)
+lines-read lines fit k h columns e = line-at _ k _ (entry-read lineNumbers lineBy line-back 2 three noLine lines fit k h columns e)
+
+-- what is submitted in numbers that eight bytes hold, and its columns cut behind what was written
+pub record SubmissionFits (s : Submission) : Type 0 where
+  pub rows : Each (λ r. Fits (numbersOf r)) (s .rows)
+  pub prices : Fits (s .prices)
+  pub lines : Each (λ l. Fits (lineNumbers l)) (s .lines)
+
+abbrev pub cut : Submission → Columns → Columns
+cut s c = record {
+  holdings = map (λ bytes. take (8 * length (s .rows)) bytes) (c .holdings);
+  price = take (8 * length (s .prices)) (c .price);
+  lines = map (λ bytes. take (8 * length (s .lines)) bytes) (c .lines);
+}
+
+pub submission-filled : (s : Submission) → SubmissionFits s → (old : Columns) → length (old .holdings) ≡ 5 → length (old .lines) ≡ 3 → submission (cut s (filled s old)) ≡ s
+unfolding submission rowsIn linesIn filled
+submission-filled s fit old f t =
+    let rows = entries-read numbersOf rowBy row-back 4 five noRow (s .rows) (fit .rows) (old .holdings) _ f refl in
+    let prices : decode (take (8 * length (s .prices)) (column (s .prices) (old .price))) ≡ s .prices = rw (cut-column (s .prices) (old .price)) (decode-encode (s .prices) (fit .prices)) in
+    let lines = entries-read lineNumbers lineBy line-back 2 three noLine (s .lines) (fit .lines) (old .lines) _ t refl in
+    λ i. record { rows = rows i; prices = prices i; lines = lines i }

@@ -2,7 +2,7 @@
 use mathlib.Core.Path.{_≡_, refl, sym, _∙_}
 use mathlib.Core.Logic.{_↔_}
 use mathlib.Core.Bool.{Bool, true, false, _&&_, _||_, and-eq-true-iff, false≢true}
-use mathlib.Core.List.{List, [], _∷_, _++_}
+use mathlib.Core.List.{List, [], _∷_, _++_, map}
 use Prim.Native.Nat.{ℕ, zero, suc, _≤_, _<_}
 use native.Mathlib.Omega.{arith}
 use lib.Dec.{leb, eqb}
@@ -55,6 +55,10 @@ pub each-append : {A : Type 0} (P : A → Type 0) (xs ys : List A) → Each P xs
 each-append P [] ys g h = h
 each-append P (x ∷ xs) ys g h = (g .0, each-append P xs ys (g .1) h)
 
+pub each-map : {A B : Type 0} (P : B → Type 0) (f : A → B) (xs : List A) → Each (λ x. P (f x)) xs → Each P (map f xs)
+each-map P f [] h = tt
+each-map P f (x ∷ xs) h = (h .0, each-map P f xs (h .1))
+
 -- what holds of every entry holds of the one at a place, and back
 module _ {A : Type 0} (P : A → Type 0) (d : A) where
   pub each-at : (xs : List A) → Each P xs → (i : ℕ) → i < length xs → P (getD xs i d)
@@ -66,14 +70,15 @@ module _ {A : Type 0} (P : A → Type 0) (d : A) where
   at-each [] h = tt
   at-each (x ∷ xs) h = (h 0 (omega arith), at-each xs (λ i m. h (suc i) (omega arith)))
 
+  -- and of what is read at any place, where it holds of what is read where nothing stands
+  pub each-read : P d → (xs : List A) → Each P xs → (i : ℕ) → P (getD xs i d)
+  each-read p [] h i = p
+  each-read p (x ∷ xs) h zero = h .0
+  each-read p (x ∷ xs) h (suc i) = each-read p xs (h .1) i
+
 -- a bound on a list of numbers
 pub bounded : (m : ℕ) (l : List ℕ) → every (λ x. leb x m) l ≡ true → (i : ℕ) → getD l i 0 ≤ m
-bounded m l e i = at l (each-by (_≤ m) (λ x. leb x m) (λ x. leb-true x m) l e) i
-  where
-    at : (l : List ℕ) → Each (_≤ m) l → (i : ℕ) → getD l i 0 ≤ m
-    at [] h i = omega arith
-    at (x ∷ xs) h zero = h .0
-    at (x ∷ xs) h (suc i) = at xs (h .1) i
+bounded m l e i = each-read (_≤ m) 0 (omega arith) l (each-by (_≤ m) (λ x. leb x m) (λ x. leb-true x m) l e) i
 
 -- two lists of numbers that pass the test are one, and one list passes it
 pub same-true : (xs ys : List ℕ) → same xs ys ≡ true → xs ≡ ys

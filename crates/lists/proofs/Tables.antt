@@ -1,12 +1,12 @@
 -- Laws of a list given by index, and of a list at the front of zeros. Assumes nothing.
-use mathlib.Core.Path.{_≡_, refl, sym, _∙_}
+use mathlib.Core.Path.{_≡_, refl, sym, ap, _∙_}
 use mathlib.Core.Logic.{⊎-elim}
 use mathlib.Core.List.{List, [], _∷_, _++_, map}
-use Prim.Native.Nat.{ℕ, zero, suc, _+_, _≤_, _<_}
+use Prim.Native.Nat.{ℕ, zero, suc, _+_, _-_, _≤_, _<_}
 use native.Mathlib.Nat.{eq-or-lt-of-le}
 use native.Mathlib.Omega.{arith}
 use lib.ListN.{length, getD, take, drop, replicate, length-append, length-replicate, length-drop, List·getD-append, List·getD-eq-default}
-use lib.Seq.{getD-at, take-append-le, take-all, ext-getD, getD-drop}
+use lib.Seq.{getD-at, drop-at, take-append-le, take-all, ext-getD, getD-drop, getD-append-add}
 use Rattle.lists.specs.Tables.{listTo, front, zeros}
 use Rattle.lists.proofs.Tests.{by-end}
 
@@ -110,3 +110,38 @@ length-front m xs h =
 pub front-of-zeros : (m : ℕ) (xs ys : List ℕ) → length ys ≡ m → length xs ≤ m → ((k : ℕ) → getD ys k 0 ≡ getD xs k 0) → ys ≡ front xs (zeros m)
 front-of-zeros m xs ys l h e =
     ext-getD 0 ys (front xs (zeros m)) (l ∙ sym (length-front m xs h)) (λ k q. e k ∙ sym (getD-front m xs k))
+
+-- a list at the front of another
+module _ (xs old : List ℕ) where
+  pub front-at : (k : ℕ) → k < length xs → getD (front xs old) k 0 ≡ getD xs k 0
+  unfolding front
+  front-at k h = List·getD-append xs _ 0 k h
+
+  pub front-past : (k : ℕ) → length xs ≤ k → getD (front xs old) k 0 ≡ getD old k 0
+  unfolding front
+  front-past k h =
+      let here : k ≡ length xs + (k - length xs) = omega arith in
+      ap (λ (j : ℕ). getD (front xs old) j 0) here
+      ∙ getD-append-add xs (drop (length xs) old) (k - length xs) 0
+      ∙ getD-drop (length xs) old (k - length xs) 0
+      ∙ ap (λ (j : ℕ). getD old j 0) (sym here)
+
+  pub front-long : length xs ≤ length old → length (front xs old) ≡ length old
+  unfolding front
+  front-long h = length-append xs (drop (length xs) old) ∙ omega (arith, length-drop (length xs) old)
+
+  -- over what was at the front already
+  pub front-again : (ys : List ℕ) → length xs ≡ length ys → front xs (front ys old) ≡ front xs old
+  unfolding front
+  front-again ys e = ap (xs ++_) (rw e (drop-at ys (drop (length ys) old) (length ys) refl))
+
+-- a list that reads as f below n, and from n on as it did, is f's first n entries at the front of what it was
+module _ (n : ℕ) (f : ℕ → ℕ) (xs old : List ℕ) (room : n ≤ length old) where
+  pub in-front : length xs ≡ length old → ((k : ℕ) → k < n → getD xs k 0 ≡ f k) → ((k : ℕ) → n ≤ k → getD xs k 0 ≡ getD old k 0)
+      → xs ≡ front (listTo n f) old
+  in-front e below past =
+      let long = length-to n f in
+      ext-getD 0 xs (front (listTo n f) old) (e ∙ sym (front-long (listTo n f) old (omega (arith, long))))
+      (λ k _. by-end (λ (j : ℕ). getD xs j 0 ≡ getD (front (listTo n f) old) j 0) n
+      (λ j h. below j h ∙ sym (front-at (listTo n f) old j (omega (arith, long)) ∙ getD-to n f j 0 h))
+      (λ j h. past j h ∙ sym (front-past (listTo n f) old j (omega (arith, long)))) k)

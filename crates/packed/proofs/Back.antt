@@ -1,5 +1,5 @@
 -- A leg is read back from its code. Assumes nothing.
-use mathlib.Core.Path.{_≡_, refl}
+use mathlib.Core.Path.{_≡_}
 use Prim.Native.Nat.{ℕ, _+_, _*_, _/_, _%_, _<_}
 use native.Mathlib.Omega.{arith}
 use Rattle.article.specs.declared.pair.Leg.{Leg}
@@ -17,13 +17,13 @@ pub back : (l : Leg) → Small l → legIn (l .rate + 65536 * l .period + 167772
 unfolding legIn
 back l s =
     let c = l .rate + 65536 * l .period + 16777216 * l .side + 4294967296 * l .kind + 1099511627776 * l .issuer in
-    let rate : c % 65536 ≡ l .rate = omega (arith, s .rate) in
     let from-period : c / 65536 ≡ l .period + 256 * (l .side + 256 * l .kind + 65536 * l .issuer) = omega (arith, s .rate) in
     let from-side : c / 16777216 ≡ l .side + 256 * (l .kind + 256 * l .issuer) = omega (arith, s .rate, s .period) in
     let from-kind : c / 4294967296 ≡ l .kind + 256 * l .issuer = omega (arith, s .rate, s .period, s .side) in
     let from-issuer : c / 1099511627776 ≡ l .issuer = omega (arith, s .rate, s .period, s .side, s .kind) in
-    let period : (c / 65536) % 256 ≡ l .period = byte _ _ _ from-period (s .period) in
-    let side : (c / 16777216) % 256 ≡ l .side = byte _ _ _ from-side (s .side) in
-    let kind : (c / 4294967296) % 256 ≡ l .kind = byte _ _ _ from-kind (s .kind) in
-    let issuer : (c / 1099511627776) % 65536 ≡ l .issuer = two-bytes _ _ from-issuer (s .issuer) in
-    rw (rate, period, side, kind, issuer) refl
+    let rate : legIn c .rate ≡ l .rate = omega (arith, s .rate) in
+    let period : legIn c .period ≡ l .period = byte _ _ _ from-period (s .period) in
+    let side : legIn c .side ≡ l .side = byte _ _ _ from-side (s .side) in
+    let kind : legIn c .kind ≡ l .kind = byte _ _ _ from-kind (s .kind) in
+    let issuer : legIn c .issuer ≡ l .issuer = two-bytes _ _ from-issuer (s .issuer) in
+    λ i. record { side = side i; kind = kind i; issuer = issuer i; period = period i; rate = rate i }

@@ -4,17 +4,14 @@ use mathlib.Core.Bool.{Bool, true, false}
 use mathlib.Core.List.{List, [], _∷_}
 use Prim.Native.Nat.{ℕ}
 use native.Mathlib.Omega.{arith}
-use lib.Dec.{ltb}
 use Rattle.lists.specs.Choice.{firstOf}
-use Rattle.lists.proofs.Firsts.{None, Numbered, Listed, none-first, numbered-append}
-use Rattle.holding.specs.Holding.{rowFaults}
+use Rattle.lists.proofs.Firsts.{None, Numbered, Listed, none-first}
+use Rattle.holding.specs.Holding.{identityFaults, termFaults, worthFaults, rowFaults}
 use Rattle.holding.specs.declared.Row.{Row}
-use Rattle.holding.proofs.Ranges.{row-listed}
 use Rattle.article.specs.Answer.{Answer, makeAnswer}
 use Rattle.article.specs.declared.pair.Leg.{Leg}
 use Rattle.pairing.specs.declared.Line.{Line}
 use Rattle.proposal.specs.Submission.{PricedBook}
-use Rattle.proposal.specs.Figures.{priceLimit}
 use Rattle.proposal.specs.Outcome.{atPlace, holdingFaults, pairFaults, lineFaults}
 
 module _ (p : ℕ) where
@@ -45,8 +42,8 @@ module _ (p : ℕ) where
   first-at ((false, m) ∷ fs) n e h w = first-at fs n e h w
 
 pub holding-listed : (r : Row) (price : ℕ) → Listed (holdingFaults r price)
-unfolding holdingFaults
-holding-listed r price = numbered-append (λ (n : ℕ). n) (rowFaults r) ((ltb priceLimit price, 10) ∷ []) (row-listed r) (omega arith, tt)
+unfolding holdingFaults rowFaults identityFaults termFaults worthFaults
+holding-listed r price = (omega arith, (omega arith, (omega arith, (omega arith, (omega arith, (omega arith, tt))))))
 
 pub pair-listed : (l s : Leg) (amount a b : ℕ) → Listed (pairFaults l s amount a b)
 unfolding pairFaults

@@ -32,8 +32,7 @@ equal-exactly xs = none-some (λ size. size ≡ 8 * entriesOf xs) (other (entrie
 pub room-exactly : (lists : List (ℕ × ℕ)) (slice : ℕ) → (tooShort lists slice ≡ false) ↔ Room lists slice
 unfolding tooShort
 room-exactly lists slice =
-    let each = none-some (λ (list : ℕ × ℕ). list .0 ≤ list .1 / 8) short (λ list. ((λ e. ltb-false _ _ e), (λ h. le-ltb _ _ h))) lists in
-    (
+    let each = none-some (λ (list : ℕ × ℕ). list .0 ≤ list .1 / 8) short (λ list. ((λ e. ltb-false _ _ e), (λ h. le-ltb _ _ h))) lists in (
       λ e.
           let (a, b) = neither (some short lists) (ltb slice 16) e in
           record { each = each .0 a; answer = ltb-false _ _ b },
@@ -53,8 +52,7 @@ differ-exactly holdings lines = (
 pub lengths-exactly : (z : Sizes) → ((differ (z .holdings) (z .lines) ≡ false) × (tooShort (z .lists) (z .slice) ≡ false)) ↔ Lengths z
 lengths-exactly z =
     let equal = differ-exactly (z .holdings) (z .lines) in
-    let room = room-exactly (z .lists) (z .slice) in
-    (
+    let room = room-exactly (z .lists) (z .slice) in (
       λ h. record { holdings = equal .0 (h .0) .0; lines = equal .0 (h .0) .1; room = room .0 (h .1) },
       λ l. (equal .1 (l .holdings, l .lines), room .1 (l .room)),
     )

@@ -1,20 +1,21 @@
--- The answer on one line: each refusal where those before it do not hold, then the line taken off; and what an answer says. Assumes nothing.
+-- What the answer on one line says: the first refusal that holds, or that none holds and the line is taken off. Assumes nothing.
 use mathlib.Core.Path.{_≡_, refl, ap}
-use mathlib.Core.Bool.{Bool, true, false, and-eq-true-iff}
+use mathlib.Core.Bool.{Bool, true, false}
 use mathlib.Core.List.{List, [], _∷_}
-use Prim.Native.Nat.{ℕ, _+_, _-_, _*_, _≤_, _<_}
+use Prim.Native.Nat.{ℕ, _*_, _≤_}
 use native.Mathlib.Nat.{le-trans, mul-le-mul}
 use native.Mathlib.Omega.{arith}
-use lib.Dec.{ltb, eqb}
-use borrow.Author.Tests.{not-false, ltb-false, eqb-true}
+use lib.Dec.{ltb}
+use borrow.Author.Tests.{not-false, ltb-false}
 use Rattle.lists.specs.Choice.{firstOf}
-use Rattle.lists.proofs.Tests.{tests, neither}
+use Rattle.lists.proofs.Tests.{neither}
 use Rattle.lists.proofs.Firsts.{None, Listed}
-use Rattle.article.specs.Pair.{isLong, isShort, allowed, pairRate, savingRate}
+use Rattle.holding.specs.Holding.{valueLimit}
+use Rattle.article.specs.Pair.{allowed, pairRateOf, savingRateOf, rateLimit, savingLimit}
 use Rattle.article.specs.declared.pair.Leg.{Leg}
-use Rattle.article.proofs.Legs.{allowed-high}
+use Rattle.article.proofs.Legs.{allowed-meets, allowed-high}
 use Rattle.article.proofs.PairRates.{saving-high}
-use Rattle.article.proofs.Told.{Told}
+use Rattle.proposal.specs.Figures.{marginLimit, savedLimit}
 use Rattle.proposal.specs.Outcome.{pairFaults}
 use Rattle.proposal.proofs.Places.{pair-listed}
 use Rattle.tally.specs.Applied.{refusals, taken, appliedOf, Ready, Applies}
@@ -24,52 +25,11 @@ use Rattle.tally.specs.declared.Applied.the-variants.{Taken, Refused}
 
 -- one line adds no more units and no more saving than the highest rates times the highest value
 pub record High (amount rate save : ℕ) : Type 0 where
-  pub units : rate * amount ≤ 21900 * 100000000000
-  pub saving : save * amount ≤ 43800 * 100000000000
+  pub units : rate * amount ≤ marginLimit
+  pub saving : save * amount ≤ savedLimit
 
-pub high : {amount rate save : ℕ} → amount ≤ 100000000000 → rate ≤ 21900 → save ≤ 43800 → High amount rate save
+pub high : {amount rate save : ℕ} → amount ≤ valueLimit → rate ≤ rateLimit → save ≤ savingLimit → High amount rate save
 high amount rate save = record { units = mul-le-mul rate amount; saving = mul-le-mul save amount }
-
-module _ {t : Tally} {amount : ℕ} {long short : Leg} where
-  -- refusals 12 to 15 in turn; then the line taken off
-  pub not-long : (long .side ≡ 0 → ⊥) → Applies t amount long short (Refused 12)
-  unfolding appliedOf refusals pairFaults firstOf isLong isShort
-  not-long h = record { answer = search tests }
-
-  module _ (a-long : long .side ≡ 0) where
-    pub not-short : (short .side ≡ 1 → ⊥) → Applies t amount long short (Refused 12)
-    unfolding appliedOf refusals pairFaults firstOf isLong isShort
-    not-short h = record { answer = search tests }
-
-    module _ (a-short : short .side ≡ 1) where
-      pub not-allowed : allowed long short ≡ false → Applies t amount long short (Refused 13)
-      unfolding appliedOf refusals pairFaults firstOf isLong isShort
-      not-allowed h = record { answer = search (tests, h) }
-
-      module _ (may : allowed long short ≡ true) where
-        pub no-amount : amount ≡ 0 → Applies t amount long short (Refused 14)
-        unfolding appliedOf refusals pairFaults firstOf isLong isShort
-        no-amount z = record { answer = search (tests, may) }
-
-        module _ (some : amount ≡ 0 → ⊥) where
-          pub above-long : t .«long_left» < amount → Applies t amount long short (Refused 15)
-          unfolding appliedOf refusals pairFaults firstOf isLong isShort
-          above-long h = record { answer = search (tests, may) }
-
-          module _ (within : amount ≤ t .«long_left») where
-            pub above-short : t .«short_left» < amount → Applies t amount long short (Refused 15)
-            unfolding appliedOf refusals pairFaults firstOf isLong isShort
-            above-short h = record { answer = search (tests, may) }
-
-            pub accepted : amount ≤ t .«short_left» → {rate save : ℕ} → Told long short rate save
-                → Applies t amount long short (Taken (record {
-                  «long_left» = t .«long_left» - amount;
-                  «short_left» = t .«short_left» - amount;
-                  units = t .units + rate * amount;
-                  saving = t .saving + save * amount;
-                }))
-            unfolding appliedOf refusals pairFaults firstOf isLong isShort taken
-            accepted h told = record { answer = rw (told .pair-rate, told .saving-rate) (search (tests, may)) }
 
 -- what is answered by a number is the first refusal, whatever follows; what is answered by a tally, no refusal
 first-refused : (fs : List (Bool × ℕ)) (t : Tally) (n : ℕ) → Refused n ≡ firstOf (refusals fs) (Taken t) → Listed fs → (n ≡ firstOf fs 0) × (1 ≤ n)
@@ -92,39 +52,34 @@ first-taken ((false, m) ∷ fs) t t′ e =
     let (n, s) = first-taken fs t t′ e in
     ((refl, n), s)
 
--- no refusal holds: the pair is allowed, and its long has the amount; its two legs differ
+-- no refusal holds: the pair is allowed, and its long has the amount
 passed : (l s : Leg) (amount a b : ℕ) → None (pairFaults l s amount a b) → (allowed l s ≡ true) × (amount ≤ a)
 unfolding pairFaults
 passed l s amount a b none =
     (not-false (allowed l s) (none .1 .0), ltb-false a amount (neither (ltb a amount) (ltb b amount) (none .1 .1 .1 .0) .0))
 
-differ : (l s : Leg) (amount a b : ℕ) → None (pairFaults l s amount a b) → l ≡ s → ⊥
-unfolding pairFaults isLong isShort
-differ l s amount a b none e =
-    let (zero, one) = and-eq-true-iff (eqb (l .side) 0) (eqb (s .side) 1) .0 (not-false _ (none .0)) in
-    omega (arith, eqb-true (l .side) 0 zero, eqb-true (s .side) 1 one, ap (λ (x : Leg). x .side) e)
-
 -- a line taken off: no refusal holds, the new tally, two legs, and bounds of what the line adds
 pub record Took (t : Tally) (amount : ℕ) (long short : Leg) (after : Tally) : Type 0 where
-  pub none : None (pairFaults long short amount (t .«long_left») (t .«short_left»))
+  pub none : None (pairFaults long short amount (t .long) (t .short))
   pub tally : after ≡ taken t amount long short
   pub apart : long ≡ short → ⊥
-  pub high : High amount (pairRate long short) (savingRate long short)
+  pub high : High amount (pairRateOf long short) (savingRateOf long short)
 
 module _ {t : Tally} {amount : ℕ} {long short : Leg} {r : Applied} (applies : Applies t amount long short r) where
-  pub refused : {n : ℕ} → r ≡ Refused n → (n ≡ firstOf (pairFaults long short amount (t .«long_left») (t .«short_left»)) 0) × (1 ≤ n)
+  pub refused : {n : ℕ} → r ≡ Refused n → (n ≡ firstOf (pairFaults long short amount (t .long) (t .short)) 0) × (1 ≤ n)
   unfolding appliedOf
   refused {n} e = first-refused _ (taken t amount long short) n (rw e at (applies .answer)) (pair-listed _ _ _ _ _)
 
   pub took : {after : Tally} → Ready t long short → r ≡ Taken after → Took t amount long short after
   unfolding appliedOf
   took {after} ready e =
-      let (none, is) = first-taken (pairFaults long short amount (t .«long_left») (t .«short_left»)) (taken t amount long short) after (rw e at (applies .answer)) in
+      let (none, is) = first-taken (pairFaults long short amount (t .long) (t .short)) (taken t amount long short) after (rw e at (applies .answer)) in
       let (may, within) = passed long short amount _ _ none in
+      let meets = allowed-meets long short may in
       record {
         none = none;
         tally = is;
-        apart = differ long short amount _ _ none;
+        apart = λ same. omega (arith, meets .long, meets .short, ap (λ (x : Leg). x .side) same);
         high = high (le-trans within (ready .left))
             (allowed-high long short may (ready .long-rate) (ready .short-rate)) (saving-high long short (ready .long-rate) (ready .short-rate));
       }

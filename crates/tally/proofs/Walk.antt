@@ -12,38 +12,39 @@ use Rattle.lists.specs.Sums.{sumOf}
 use Rattle.lists.specs.Tables.{listTo, front}
 use Rattle.lists.proofs.Tests.{tests}
 use Rattle.lists.proofs.Sums.{sumOf-more}
-use Rattle.lists.proofs.Tables.{length-to, getD-to, take-to}
+use Rattle.lists.proofs.Tables.{length-to, getD-to, take-to, in-front}
 use Rattle.lists.proofs.Firsts.{first-of-none}
 use Rattle.lists.proofs.Passed.{Passed, passed-none, passed-more, passed-first, passed-all}
-use Rattle.article.specs.Answer.{answer}
-use Rattle.article.specs.Pair.{pairRate, savingRate, RateInRange}
+use Rattle.holding.specs.Holding.{valueLimit}
+use Rattle.article.specs.Answer.{makeAnswer}
+use Rattle.article.specs.Pair.{pairRateOf, savingRateOf}
 use Rattle.article.specs.declared.pair.Leg.{Leg}
 use Rattle.pairing.specs.Pairing as pairing
 use Rattle.pairing.specs.declared.Line.{Line}
 use Rattle.pairing.proofs.Used.{used-append}
 use Rattle.proposal.specs.Submission.{PricedBook, termsOf, noLine}
-use Rattle.proposal.specs.Figures.{remainder, remaindersOf}
-use Rattle.proposal.specs.Outcome.{answerOf, atPlace, pairFaults, lineFaults, atLine, linesFaults}
+use Rattle.proposal.specs.Figures.{marginLimit, savedLimit, remainder, remaindersOf}
+use Rattle.proposal.specs.Outcome.{faultAnswer, atPlace, pairFaults, lineFaults, atLine, linesFaults}
 use Rattle.proposal.proofs.Places.{zero-at, first-at, line-listed}
 use Rattle.proposal.proofs.PricedBooks.{saving-rate}
-use Rattle.packed.specs.Packed.{legIn}
+use Rattle.packed.specs.Held.{Legs, LegsOf, Same, AtMost, entry, legAt}
 use Rattle.tally.specs.Applied.{taken, Ready, Applies}
-use Rattle.tally.specs.Lines.{Holds, stoppedAt, takenLines, Takes}
+use Rattle.tally.specs.Lines.{stoppedAt, takenLines, Takes}
 use Rattle.tally.specs.declared.Tally.{Tally}
 use Rattle.tally.specs.declared.Applied.{Applied}
 use Rattle.tally.specs.declared.Applied.the-variants.{Taken, Refused}
 use Rattle.tally.specs.declared.Walked.{Walked}
 use Rattle.tally.proofs.OneLine.{refused, took}
-use Rattle.tally.proofs.Left.{length-written, written-at, written-past, in-front}
+use Rattle.tally.proofs.Left.{length-written, written-at, written-past}
 
 -- the numbers of the walk at line i, whatever book it is of: what is left, units u and saving s
 pub record Going (n : ℕ) (before left : List ℕ) (u s i : ℕ) : Type 0 where
   pub long : length left ≡ length before
   pub kept : (k : ℕ) → n ≤ k → getD left k 0 ≡ getD before k 0
-  pub high : (k : ℕ) → k < n → getD left k 0 ≤ 100000000000
+  pub high : AtMost valueLimit n (entry left)
   -- no line added more than the highest rates times the highest value
-  pub units : u ≤ i * (21900 * 100000000000)
-  pub saving : s ≤ i * (43800 * 100000000000)
+  pub units : u ≤ i * marginLimit
+  pub saving : s ≤ i * savedLimit
 
 -- what they are to a book: no line before i has a fault, and the numbers are those of the lines before i
 pub record Walking (b : PricedBook) (line : ℕ → Line) (m : ℕ) (left : List ℕ) (u s i : ℕ) : Type 0 where
@@ -52,6 +53,10 @@ pub record Walking (b : PricedBook) (line : ℕ → Line) (m : ℕ) (left : List
   pub saving : s ≡ pairing.saving (termsOf b) (listTo i line)
   pub remains : (k : ℕ) → k < b .count → getD left k 0 ≡ remainder b (listTo i line) k
 
+-- a book whose legs and values are lent
+abbrev Holds : ℕ → List ℕ → List ℕ → PricedBook → Type 0
+Holds n legs before b = LegsOf b n legs × Same n (entry before) (b .value)
+
 -- the invariant
 pub record Walk (n : ℕ) (legs before : List ℕ) (line : ℕ → Line) (m : ℕ) (left : List ℕ) (u s i : ℕ) : Type 0 where
   pub few : i ≤ m
@@ -59,7 +64,7 @@ pub record Walk (n : ℕ) (legs before : List ℕ) (line : ℕ → Line) (m : �
   pub walking : (b : PricedBook) → Holds n legs before b → Walking b line m left u s i
 
 -- before any line
-pub starts : {n : ℕ} {legs before : List ℕ} {line : ℕ → Line} {m : ℕ} → ((k : ℕ) → k < n → getD before k 0 ≤ 100000000000)
+pub starts : {n : ℕ} {legs before : List ℕ} {line : ℕ → Line} {m : ℕ} → AtMost valueLimit n (entry before)
     → Walk n legs before line m before 0 0 0
 unfolding listTo remainder pairing.used pairing.pairUnits pairing.saving sumOf
 starts high = record {
@@ -69,7 +74,7 @@ starts high = record {
     passed = passed-none;
     units = refl;
     saving = refl;
-    remains = λ k q. h .value k (rw (← h .count) q) ∙ omega arith;
+    remains = λ k q. h .1 k (rw (← h .0 .count) q) ∙ omega arith;
   };
 }
 
@@ -84,22 +89,22 @@ module _ {n : ℕ} {legs before : List ℕ} {line : ℕ → Line} {m : ℕ} {lef
   left-list : (b : PricedBook) → Holds n legs before b → left ≡ front (remaindersOf b (listTo i line)) before
   unfolding remaindersOf
   left-list b h =
-      in-front (b .count) (remainder b (listTo i line)) left before (omega (arith, h .count)) (walk .going .long) (walk .walking b h .remains)
-      (λ k q. walk .going .kept k (omega (arith, h .count)))
+      in-front (b .count) (remainder b (listTo i line)) left before (omega (arith, h .0 .count)) (walk .going .long) (walk .walking b h .remains)
+      (λ k q. walk .going .kept k (omega (arith, h .0 .count)))
 
   -- after m lines without fault
   pub ends : {r : Walked} → m ≤ i → m ≤ 512 → r ≡ stoppedAt 0 0 u s → Takes n legs before (listTo m line) left r
-  unfolding stoppedAt answerOf linesFaults takenLines
+  unfolding stoppedAt faultAnswer linesFaults takenLines
   ends h few e =
       let all : i ≡ m = omega (arith, walk .few) in
       rw e (record {
-        walks = λ b holds.
-            let w = walk .walking b holds in
+        walks = λ b legs values.
+            let w = walk .walking b (legs, values) in
             record {
-              fault = rw (length-to m line) (sym (first-of-none _ (answer 0 0 0) (passed-all (w .passed) h)));
+              fault = rw (length-to m line) (sym (first-of-none _ (makeAnswer 0 0 0) (passed-all (w .passed) h)));
               units = rw (← all) (w .units);
               saving = rw (← all) (w .saving);
-              left = rw (← all) (left-list b holds);
+              left = rw (← all) (left-list b (legs, values));
             };
         units-high = omega (arith, walk .going .units);
         left-high = walk .going .high;
@@ -107,12 +112,12 @@ module _ {n : ℕ} {legs before : List ℕ} {line : ℕ → Line} {m : ℕ} {lef
 
 -- one line more: its units, its saving, and its amounts off what remains
 module _ (b : PricedBook) (lines : List Line) (l : Line) where
-  units-more : pairing.pairUnits (termsOf b) lines + pairRate (b .leg (l .long)) (b .leg (l .short)) * l .amount
+  units-more : pairing.pairUnits (termsOf b) lines + pairRateOf (b .leg (l .long)) (b .leg (l .short)) * l .amount
       ≡ pairing.pairUnits (termsOf b) (lines ++ (l ∷ []))
   unfolding termsOf pairing.pairUnits
-  units-more = sumOf-more lines l (λ x. pairRate (b .leg (x .long)) (b .leg (x .short)) * x .amount)
+  units-more = sumOf-more lines l (λ x. pairRateOf (b .leg (x .long)) (b .leg (x .short)) * x .amount)
 
-  saving-more : pairing.saving (termsOf b) lines + savingRate (b .leg (l .long)) (b .leg (l .short)) * l .amount
+  saving-more : pairing.saving (termsOf b) lines + savingRateOf (b .leg (l .long)) (b .leg (l .short)) * l .amount
       ≡ pairing.saving (termsOf b) (lines ++ (l ∷ []))
   unfolding pairing.saving
   saving-more =
@@ -125,7 +130,7 @@ module _ (b : PricedBook) (lines : List Line) (l : Line) where
 -- a turn of the walk
 pub record Turn (n : ℕ) (legs before : List ℕ) (line : ℕ → Line) (m : ℕ) (left : List ℕ) (u s i : ℕ) : Type 0 where
   pub room : n ≤ length before
-  pub rate : (k : ℕ) → k < n → RateInRange (legIn (getD legs k 0))
+  pub bounded : Legs n legs
   pub walk : Walk n legs before line m left u s i
   pub more : i < m
   pub few : m ≤ 512
@@ -135,27 +140,27 @@ pub record Read (n : ℕ) (legs : List ℕ) (line l : Line) (long short : Leg) :
   pub is : line ≡ l
   pub first : l .long < n
   pub second : l .short < n
-  pub long-leg : long ≡ legIn (getD legs (l .long) 0)
-  pub short-leg : short ≡ legIn (getD legs (l .short) 0)
+  pub long-leg : long ≡ legAt legs (l .long)
+  pub short-leg : short ≡ legAt legs (l .short)
 
 -- the tally of a line's two holdings
 abbrev pub tallyAt : List ℕ → Line → ℕ → ℕ → Tally
-tallyAt left l u s = record { «long_left» = getD left (l .long) 0; «short_left» = getD left (l .short) 0; units = u; saving = s }
+tallyAt left l u s = record { long = getD left (l .long) 0; short = getD left (l .short) 0; units = u; saving = s }
 
 module _ {n : ℕ} {legs before : List ℕ} {line : ℕ → Line} {m : ℕ} {left : List ℕ} {u s i : ℕ} (turn : Turn n legs before line m left u s i) where
   -- at a line with a fault
   pub stops : {number : ℕ} {r : Walked} → ((b : PricedBook) → Holds n legs before b → number ≡ firstOf (lineFaults b (listTo i line) (line i)) 0)
       → (number ≡ 0 → ⊥) → r ≡ stoppedAt number i u s → Takes n legs before (listTo m line) left r
-  unfolding stoppedAt answerOf linesFaults takenLines
+  unfolding stoppedAt faultAnswer linesFaults takenLines
   stops {number} first some e = rw e (record {
-    walks = λ b holds.
-        let w = turn .walk .walking b holds in
+    walks = λ b legs values.
+        let w = turn .walk .walking b (legs, values) in
         record {
           fault = rw (length-to m line)
-              (sym (passed-first (w .passed) (answer 0 0 0) (turn .more) (λ z. rw (at-line b line m i (turn .more)) (first-at i _ number (first b holds) some z))));
+              (sym (passed-first (w .passed) (makeAnswer 0 0 0) (turn .more) (λ z. rw (at-line b line m i (turn .more)) (first-at i _ number (first b (legs, values)) some z))));
           units = rw (ne-eqb number 0 some, take-to m i line (omega (arith, turn .more))) (w .units);
           saving = rw (ne-eqb number 0 some, take-to m i line (omega (arith, turn .more))) (w .saving);
-          left = rw (ne-eqb number 0 some, take-to m i line (omega (arith, turn .more))) (left-list (turn .room) (turn .walk) b holds);
+          left = rw (ne-eqb number 0 some, take-to m i line (omega (arith, turn .more))) (left-list (turn .room) (turn .walk) b (legs, values));
         };
     units-high = omega (arith, turn .walk .going .units, turn .more, turn .few);
     left-high = turn .walk .going .high;
@@ -164,17 +169,17 @@ module _ {n : ℕ} {legs before : List ℕ} {line : ℕ → Line} {m : ℕ} {lef
   -- a number that is not in the book
   pub no-long : {r : Walked} → n ≤ line i .long → r ≡ stoppedAt 11 i u s → Takes n legs before (listTo m line) left r
   unfolding lineFaults firstOf
-  no-long h = stops (λ b holds. rw (holds .count) (search tests)) (λ z. omega arith)
+  no-long h = stops (λ b holds. rw (holds .0 .count) (search tests)) (λ z. omega arith)
 
   pub no-short : {r : Walked} → line i .long < n → n ≤ line i .short → r ≡ stoppedAt 11 i u s → Takes n legs before (listTo m line) left r
   unfolding lineFaults firstOf
-  no-short p h = stops (λ b holds. rw (holds .count) (search tests)) (λ z. omega arith)
+  no-short p h = stops (λ b holds. rw (holds .0 .count) (search tests)) (λ z. omega arith)
 
   module _ {l : Line} {long short : Leg} (read : Read n legs (line i) l long short) where
     pub ready : Ready (tallyAt left l u s) long short
     ready = record {
-      long-rate = rw (read .long-leg) (turn .rate (l .long) (read .first));
-      short-rate = rw (read .short-leg) (turn .rate (l .short) (read .second));
+      long-rate = rw (read .long-leg) (turn .bounded .rate (l .long) (read .first));
+      short-rate = rw (read .short-leg) (turn .bounded .rate (l .short) (read .second));
       left = turn .walk .going .high (l .long) (read .first);
       units = omega (arith, turn .walk .going .units, turn .more, turn .few);
       saving = omega (arith, turn .walk .going .saving, turn .more, turn .few);
@@ -183,18 +188,18 @@ module _ {n : ℕ} {legs before : List ℕ} {line : ℕ → Line} {m : ℕ} {lef
     -- the refusals of the line in a book are those on its legs and on what is left
     module _ (b : PricedBook) (holds : Holds n legs before b) where
       first-leg : b .leg (l .long) ≡ long
-      first-leg = sym (read .long-leg ∙ holds .leg (l .long) (read .first))
+      first-leg = sym (read .long-leg ∙ holds .0 .leg (l .long) (read .first))
 
       second-leg : b .leg (l .short) ≡ short
-      second-leg = sym (read .short-leg ∙ holds .leg (l .short) (read .second))
+      second-leg = sym (read .short-leg ∙ holds .0 .leg (l .short) (read .second))
 
       line-faults : firstOf (lineFaults b (listTo i line) (line i)) 0
           ≡ firstOf (pairFaults long short (l .amount) (getD left (l .long) 0) (getD left (l .short) 0)) 0
       unfolding lineFaults firstOf
       line-faults =
           let remains = turn .walk .walking b holds .remains in
-          let p : l .long < b .count = omega (arith, holds .count, read .first) in
-          let q : l .short < b .count = omega (arith, holds .count, read .second) in
+          let p : l .long < b .count = omega (arith, holds .0 .count, read .first) in
+          let q : l .short < b .count = omega (arith, holds .0 .count, read .second) in
           rw (
             read .is,
             lt-ltb (l .long) (b .count) p,
@@ -214,12 +219,12 @@ module _ {n : ℕ} {legs before : List ℕ} {line : ℕ → Line} {m : ℕ} {lef
 
       -- the line is taken off
       pub goes : {after : Tally} → r ≡ Taken after
-          → Walk n legs before line m (set (set left (l .long) (after .«long_left»)) (l .short) (after .«short_left»)) (after .units) (after .saving) (i + 1)
+          → Walk n legs before line m (set (set left (l .long) (after .long)) (l .short) (after .short)) (after .units) (after .saving) (i + 1)
       unfolding taken listTo
       goes e =
           let done = took applies ready e in
           let going = turn .walk .going in
-          let apart : l .long ≡ l .short → ⊥ = λ same. done .apart (read .long-leg ∙ ap (λ (k : ℕ). legIn (getD legs k 0)) same ∙ sym (read .short-leg)) in
+          let apart : l .long ≡ l .short → ⊥ = λ same. done .apart (read .long-leg ∙ ap (legAt legs) same ∙ sym (read .short-leg)) in
           let p : l .long < length left = omega (arith, going .long, turn .room, read .first) in
           let q : l .short < length left = omega (arith, going .long, turn .room, read .second) in
           rw (done .tally) (record {

@@ -1,184 +1,312 @@
 -- The check phase by phase: what each phase found decides, or hands on to the next. Assumes nothing.
 use mathlib.Core.Path.{_≡_, refl, sym, ap, subst, _∙_}
-use mathlib.Core.Bool.{false}
-use Prim.Native.Nat.{ℕ, _+_, _*_, _≤_, _<_}
+use mathlib.Core.Bool.{Bool}
+use mathlib.Core.List.{List, [], _∷_, _++_, map}
+use Prim.Native.Nat.{ℕ, _+_, _*_, _/_, _≤_, _<_}
 use native.Mathlib.Omega.{arith}
-use lib.ListN.{length}
+use lib.ListN.{length, getD, length-map}
 use borrow.Author.Tests.{eq-eqb}
 use Rattle.lists.specs.Choice.{firstOf}
+use Rattle.lists.specs.Each.{Each}
+use Rattle.lists.specs.Tables.{listTo, front}
 use Rattle.lists.specs.Sums.{sumTo}
-use Rattle.lists.specs.Tables.{listTo, front, zeros}
-use Rattle.lists.proofs.Tables.{getD-every}
+use Rattle.lists.proofs.Sums.{sumTo-eq}
+use Rattle.lists.proofs.Tables.{length-to, getD-to, to-eq, front-at, front-long, front-again}
 use Rattle.article.specs.Answer.{Answer}
+use Rattle.article.specs.declared.pair.Leg.{Leg}
+use Rattle.holding.specs.Holding.{valueLimit}
+use Rattle.holding.specs.declared.Row.{Row}
+use Rattle.pairing.specs.Pairing.{pairUnits, saving, pricedTotal}
 use Rattle.ranking.specs.Ranking.{rankingOf}
-use Rattle.pairing.specs.Pairing.{saving, pricedTotal}
-use Rattle.proposal.specs.Submission.{Submission, PricedBook, bookOf, termsOf, priced, submitted, rowsOf, pricesOf, linesOf}
-use Rattle.proposal.specs.Figures.{remainder, margin, unitsOf, ranked}
-use Rattle.proposal.specs.Outcome.{faultAnswer, bookFaults, linesFaults, uncoveredPairs, totalsFaults, fromPairs, fromLines, fromBook, firstFault, accepted, outcome}
-use Rattle.proposal.specs.declared.Book.{Book}
-use Rattle.proposal.specs.declared.Proposal.{Proposal}
+use Rattle.ranking.proofs.Ranking.{ranking-same}
+use Rattle.words.specs.Words.{wordAt, entries, decode}
+use Rattle.columns.specs.Columns.{Columns, makeColumns, countIn, rowsIn, linesIn, submission, holdingSizes, lineSizes}
+use Rattle.sizes.specs.Sizes.{entriesOf, differ, lengthFault}
+use Rattle.sizes.proofs.Sizes as sizes
+use Rattle.packed.specs.Held.{legAt, Legs, LegsOf, Same, AtMost, entry}
+use Rattle.proposal.specs.Submission.{Submission, PricedBook, bookOf, termsOf, priced}
+use Rattle.proposal.specs.Figures.{priceLimit, marginLimit, remainder, margin, remaindersOf, marginsOf, unitsOf, ranked, RoundedUp}
+use Rattle.proposal.specs.Outcome.{makeFault, faultAnswer, bookFaults, linesFaults, uncoveredPairs, totalsFaults, fromPairs, fromLines, fromBook, firstFault, accepted, outcome}
 use Rattle.proposal.specs.declared.Fault.{Fault}
-use Rattle.proposal.proofs.PricedBooks.{rows-count, lines-count}
 use Rattle.proposal.proofs.Clear.{book-numbered, lines-numbered, uncovered-numbered}
-use Rattle.proposal.proofs.Stages.{refuses, passes, many-holdings, many-lines, from-holdings, totals-differ, totals-equal}
-use Rattle.positions.specs.Positions.{heldBook, Opens}
-use Rattle.positions.specs.declared.Positions.{Positions}
-use Rattle.positions.specs.declared.Opened.{Opened}
-use Rattle.tally.specs.Tally.{tallyOf, takenLines, Walks}
-use Rattle.tally.specs.declared.Tally.{Tally}
+use Rattle.proposal.proofs.Stages.{refuses, passes, from-holdings, totals-differ, totals-equal}
+use Rattle.positions.specs.Opens.{OpenRoom, Opened, Opens}
+use Rattle.tally.specs.Lines.{LinesLent, takenLines, Walks, Takes}
 use Rattle.tally.specs.declared.Walked.{Walked}
-use Rattle.figures.specs.Totals.{leftMargin, Totals}
-use Rattle.figures.specs.declared.Figures.{Figures}
-use Rattle.verdict.specs.Judges.{whole, refusalOf, Judges}
-use Rattle.verdict.specs.declared.Judgement.{Judgement}
+use Rattle.cover.specs.Cover.{Priced, Finds, Valued, Totals}
+use Rattle.figures.specs.Margins.{MarginsLent, leftMargin, Margins}
+use Rattle.verdict.specs.Judges.{refusalOf, outcomeIn, Room, Scratch, makeScratch, Judges}
+use Rattle.verdict.specs.declared.Verdict.{Verdict}
 use Rattle.verdict.specs.declared.Verdict.the-variants.{Accepted}
-use Rattle.verdict.proofs.Judged.{refusal-judged, nothing-past, figures-judged}
+use Rattle.verdict.proofs.Judged.{ranked-length, refusal-judged, figures-judged}
 
-module _ (book : Book) (proposal : Proposal) where
+-- columns of as many bytes each have an entry for each number below n
+long-enough : (n : ℕ) (columns : List (List ℕ)) → Each (λ size. size ≡ 8 * n) (map length columns) → Each (λ c. 8 * n ≤ length c) columns
+long-enough n [] h = tt
+long-enough n (c ∷ cs) h = (omega (arith, h .0), long-enough n cs (h .1))
+
+before-last : (n : ℕ) (columns : List (List ℕ)) (last : List ℕ) → Each (λ size. size ≡ 8 * n) (map length (columns ++ (last ∷ [])))
+    → Each (λ size. size ≡ 8 * n) (map length columns) × (length last ≡ 8 * n)
+before-last n [] last h = (tt, h .0)
+before-last n (c ∷ cs) last h =
+    let (rest, end) = before-last n cs last (h .1) in
+    ((h .0, rest), end)
+
+-- columns of holdings and of lines, the first of each by name
+module _ (two : Bool) (side : List ℕ) (rest : List (List ℕ)) (price long : List ℕ) (more : List (List ℕ)) where
+  abbrev c : Columns
+  c = makeColumns (side ∷ rest) price (long ∷ more)
+
   abbrev s : Submission
-  s = submitted book proposal
+  s = submission c
 
-  rows-are : length (s .rows) ≡ book .count
-  unfolding submitted
-  rows-are = rows-count book
+  abbrev b : PricedBook
+  b = priced s
 
-  lines-are : length (s .lines) ≡ proposal .count
-  unfolding submitted
-  lines-are = lines-count proposal
+  abbrev n : ℕ
+  n = length side / 8
+
+  abbrev figures : Answer
+  figures = accepted b (s .lines)
+
+  rows-are : length (s .rows) ≡ n
+  unfolding submission rowsIn countIn entries
+  rows-are = length-to n _
+
+  lines-are : length (s .lines) ≡ length long / 8
+  unfolding submission linesIn countIn entries
+  lines-are = length-to (length long / 8) _
+
+  count-is : b .count ≡ n
+  unfolding priced bookOf
+  count-is = rows-are
 
   -- a fault that is the outcome
-  refused-by : (f : Fault) {r : Judgement} → (f .number ≡ 0 → ⊥) → outcome false false s ≡ faultAnswer f → r ≡ refusalOf f → Judges s r
-  refused-by f h e g = rw g (refusal-judged s f h e)
+  refused-by : (f : Fault) {before after : Scratch} {r : Verdict} → (f .number ≡ 0 → ⊥) → outcomeIn two c ≡ faultAnswer f → r ≡ refusalOf f → Judges two c before after r
+  refused-by f h e g = rw g (refusal-judged two c _ _ f h e)
 
-  pub holdings-refused : {r : Judgement} → 256 < book .count → r ≡ refusalOf (whole 3) → Judges s r
-  unfolding faultAnswer
-  holdings-refused h = refused-by (whole 3) (λ z. omega arith) (many-holdings false false s refl (omega (arith, rows-are)))
+  -- lengths that fit: the holdings decide
+  pub record Sized : Type 0 where
+    pub few : n ≤ 256
+    pub few-lines : length long / 8 ≤ 512
+    pub each : Each (λ column. 8 * n ≤ length column) (side ∷ rest)
+    pub prices : length price ≡ 8 * n
+    pub each-line : Each (λ column. 8 * (length long / 8) ≤ length column) (long ∷ more)
+    pub next : outcomeIn two c ≡ firstOf (fromBook s) figures
 
-  pub lines-refused : {r : Judgement} → book .count ≤ 256 → 512 < proposal .count → r ≡ refusalOf (whole 9) → Judges s r
-  unfolding faultAnswer
-  lines-refused few h = refused-by (whole 9) (λ z. omega arith) (many-lines false false s refl (omega (arith, rows-are)) (omega (arith, lines-are)))
+  module _ {number : ℕ} (found : number ≡ lengthFault (holdingSizes c) (lineSizes c) two) where
+    pub lengths-refused : {before after : Scratch} {r : Verdict} → (number ≡ 0 → ⊥) → r ≡ refusalOf (makeFault number 0 0) → Judges two c before after r
+    unfolding faultAnswer outcomeIn
+    lengths-refused h =
+        refused-by (makeFault number 0 0) h
+        (sizes.refused (holdingSizes c) (lineSizes c) two s number (unfold holdingSizes entriesOf in rows-are) (unfold lineSizes entriesOf in lines-are) found h)
 
-  -- what decides where nothing is refused
-  abbrev figures : Answer
-  figures = accepted (priced s) (s .lines)
+    pub lengths-fit : number ≡ 0 → Sized
+    unfolding outcomeIn holdingSizes lineSizes entriesOf
+    lengths-fit e =
+        let fit = sizes.fits {holdings = holdingSizes c} {lines = lineSizes c} {two = two} (sym found ∙ e) in
+        let (columns, last) = before-last n (side ∷ rest) price (fit .equal-holdings) in
+        record {
+          few = fit .few-holdings;
+          few-lines = fit .few-lines;
+          each = long-enough n (side ∷ rest) columns;
+          prices = last;
+          each-line = long-enough (length long / 8) (long ∷ more) (fit .equal-lines);
+          next = from-holdings (differ (holdingSizes c) (lineSizes c)) two s (fit .alike) (fit .room) (omega (arith, rows-are, fit .few-holdings)) (omega (arith, lines-are, fit .few-lines));
+        }
 
-  -- the positions of a book without fault: the lines decide
-  pub record Held (p : Positions) : Type 0 where
-    pub few : priced s .count ≤ 256
-    pub same : heldBook p ≡ priced s
-    pub next : outcome false false s ≡ firstOf (fromLines s) figures
+  -- a book without fault: the lines decide
+  pub record Held (left₀ legs left : List ℕ) : Type 0 where
+    pub sized : Sized
+    pub room : n ≤ length left₀
+    pub opened : Opened (s .rows) (s .prices) left₀ legs left
+    pub next : outcomeIn two c ≡ firstOf (fromLines s) figures
 
-  -- with the tally of lines without fault: the pairs decide
-  pub record Tallied (p : Positions) (t : Tally) : Type 0 where
-    pub held : Held p
-    pub same : t ≡ tallyOf (priced s) (s .lines)
-    pub next : outcome false false s ≡ firstOf (fromPairs s) figures
+  module _ (z : Sized) {left₀ legs left : List ℕ} (room : n ≤ length left₀) {f : Fault} (opens : Opens (side ∷ rest) price left₀ legs left f) where
+    book-found : faultAnswer f ≡ firstFault (bookFaults (s .rows) (s .prices))
+    unfolding submission
+    book-found = opens .fault
 
-  -- and every pair covered: the totals decide
-  pub record Covered (p : Positions) (t : Tally) : Type 0 where
-    pub tallied : Tallied p t
-    pub next : outcome false false s ≡ firstOf (totalsFaults (priced s) (s .lines)) figures
-
-  -- the holdings
-  module _ (few : book .count ≤ 256) (short : proposal .count ≤ 512) {o : Opened} (opens : Opens (rowsOf book) (pricesOf book (proposal .prices)) o) where
-    first : outcome false false s ≡ firstOf (fromBook s) figures
-    first = from-holdings false false s refl refl (omega (arith, rows-are)) (omega (arith, lines-are))
-
-    found : faultAnswer (o .fault) ≡ firstFault (bookFaults (s .rows) (s .prices))
-    unfolding submitted
-    found = opens .fault
-
-    pub book-refused : {r : Judgement} → (o .fault .number ≡ 0 → ⊥) → r ≡ refusalOf (o .fault) → Judges s r
+    pub book-refused : {before after : Scratch} {r : Verdict} → (f .number ≡ 0 → ⊥) → r ≡ refusalOf f → Judges two c before after r
     unfolding faultAnswer
-    book-refused h = refused-by (o .fault) h (refuses _ (bookFaults (s .rows) (s .prices)) (fromLines s) figures first _ found h)
+    book-refused h = refused-by f h (refuses _ (bookFaults (s .rows) (s .prices)) (fromLines s) figures (z .next) _ book-found h)
 
-    pub book-held : o .fault .number ≡ 0 → Held (o .positions)
-    unfolding faultAnswer priced bookOf submitted
+    pub book-held : f .number ≡ 0 → Held left₀ legs left
+    unfolding faultAnswer submission
     book-held e = record {
-      few = omega (arith, rows-are);
-      same = rw (eq-eqb _ _ e) at (opens .positions);
-      next = passes _ (bookFaults (s .rows) (s .prices)) (fromLines s) figures first _ found (book-numbered false false s) e;
+      sized = z;
+      room = room;
+      opened = opens .opened e;
+      next = passes _ (bookFaults (s .rows) (s .prices)) (fromLines s) figures (z .next) _ book-found (book-numbered two two s) e;
     }
 
-  -- the lines
-  module _ {p : Positions} (held : Held p) {w : Walked} (walks : Walks (heldBook p) (linesOf proposal) w) where
-    of-book : Walks (priced s) (s .lines) w
-    unfolding submitted
-    of-book = subst (λ (b : PricedBook). Walks b (linesOf proposal) w) (held .same) walks
+  -- what is lent of such a book
+  module _ {left₀ legs left : List ℕ} (h : Held left₀ legs left) where
+    bounded : Legs n legs
+    bounded = subst (λ (m : ℕ). Legs m legs) rows-are (h .opened .bounded)
 
-    pub line-refused : {r : Judgement} → (w .fault .number ≡ 0 → ⊥) → r ≡ refusalOf (w .fault) → Judges s r
-    unfolding faultAnswer
-    line-refused h = refused-by (w .fault) h (refuses _ (linesFaults (priced s) (s .lines)) (fromPairs s) figures (held .next) _ (of-book .fault) h)
+    legs-of : LegsOf b n legs
+    unfolding priced
+    legs-of = subst (λ (m : ℕ). LegsOf b m legs) rows-are (h .opened .legs)
 
-    pub lines-tallied : w .fault .number ≡ 0 → Tallied p (w .tally)
-    unfolding faultAnswer takenLines
-    lines-tallied e = record {
-      held = held;
-      same = rw (eq-eqb _ _ e) at (of-book .tally);
-      next = passes _ (linesFaults (priced s) (s .lines)) (fromPairs s) figures (held .next) _ (of-book .fault) (lines-numbered false false s) e;
+    values : List ℕ
+    values = map (λ (r : Row). r .value) (s .rows)
+
+    values-length : length values ≡ n
+    unfolding values
+    values-length = length-map (s .rows) (λ (r : Row). r .value) ∙ rows-are
+
+    values-are : left ≡ front values left₀
+    unfolding values
+    values-are = h .opened .values
+
+    value-is : Same n (entry left) (b .value)
+    unfolding priced bookOf values
+    value-is k q = ap (λ (xs : List ℕ). getD xs k 0) values-are ∙ front-at values left₀ k (omega (arith, values-length))
+
+    left-long : length left ≡ length left₀
+    left-long = ap (λ (xs : List ℕ). length xs) values-are ∙ front-long values left₀ (omega (arith, values-length, h .room))
+
+    price-is : Same n (wordAt price) (b .price)
+    unfolding priced bookOf submission decode entries
+    price-is k q = sym (getD-to (length price / 8) (wordAt price) k 0 (omega (arith, h .sized .prices)))
+
+    pub lines-lent : LinesLent n legs left (long ∷ more)
+    unfolding countIn entries priced
+    lines-lent = record {
+      bounded = bounded;
+      held = omega (arith, left-long, h .room);
+      high = λ k q. rw (value-is k q) (h .opened .values-high k (omega (arith, rows-are)));
+      few = h .sized .few-lines;
+      each = h .sized .each-line;
     }
 
-  -- the pairs
-  module _ {p : Positions} {t : Tally} (tallied : Tallied p t) (g : Fault) (looks : faultAnswer g ≡ firstFault (uncoveredPairs (heldBook p))) where
-    uncovered-found : faultAnswer g ≡ firstFault (uncoveredPairs (priced s))
-    uncovered-found = rw (tallied .held .same) at looks
-
-    pub uncovered-refused : {r : Judgement} → (g .number ≡ 0 → ⊥) → r ≡ refusalOf g → Judges s r
-    unfolding faultAnswer
-    uncovered-refused h = refused-by g h (refuses _ (uncoveredPairs (priced s)) (totalsFaults (priced s) (s .lines)) figures (tallied .next) _ uncovered-found h)
-
-    pub pairs-covered : g .number ≡ 0 → Covered p t
-    unfolding faultAnswer
-    pairs-covered e = record {
-      tallied = tallied;
-      next = passes _ (uncoveredPairs (priced s)) (totalsFaults (priced s) (s .lines)) figures (tallied .next) _ uncovered-found (uncovered-numbered false false s) e;
+    pub prices-lent : Priced n legs price
+    unfolding priced
+    prices-lent = record {
+      bounded = bounded;
+      held = omega (arith, h .sized .prices);
+      high = λ k q. rw (price-is k q) (h .opened .prices-high k (omega (arith, rows-are)));
     }
 
-  -- the totals, and the figures
-  module _ {p : Positions} {t : Tally} (covered : Covered p t) (total : ℕ) (adds : total ≡ pricedTotal (termsOf (heldBook p)) (heldBook p .price)) where
-    same-book : heldBook p ≡ priced s
-    same-book = covered .tallied .held .same
+    entries-are : entries price ≡ n
+    unfolding entries
+    entries-are = omega (arith, h .sized .prices)
 
-    same-tally : t ≡ tallyOf (priced s) (s .lines)
-    same-tally = covered .tallied .same
+    -- the column of values by name
+    module _ {value : List ℕ} (here : Same n (wordAt value) (b .value)) where
+      pub values-lent : 8 * n ≤ length value → Valued price value
+      unfolding priced
+      values-lent long = record {
+        count = omega (arith, entries-are, h .sized .few);
+        held = omega (arith, entries-are);
+        prices = rw entries-are (prices-lent .high);
+        values = rw entries-are (λ k q. rw (here k q) (h .opened .values-high k (omega (arith, rows-are))));
+      }
 
-    total-found : total ≡ pricedTotal (termsOf (priced s)) (priced s .price)
-    total-found = rw same-book at adds
+      pub total-of : {total : ℕ} → Totals price value total → total ≡ pricedTotal (termsOf b) (b .price)
+      total-of totals = totals .total b (count-is ∙ sym entries-are) (rw entries-are price-is) (rw entries-are here)
 
-    saving-found : t .saving ≡ saving (termsOf (priced s)) (s .lines)
-    unfolding tallyOf
-    saving-found = ap (λ (x : Tally). x .saving) same-tally
+    -- the lines, whose remainders go over the values
+    module _ {left′ : List ℕ} {w : Walked} (takes : Takes n legs left (linesIn (long ∷ more)) left′ w) where
+      walks : Walks b (s .lines) left left′ w
+      unfolding submission
+      walks = takes .walks b legs-of value-is
 
-    pub totals-refused : {r : Judgement} → (total ≡ t .saving → ⊥) → r ≡ refusalOf (whole 17) → Judges s r
-    unfolding faultAnswer
-    totals-refused h =
-        refused-by (whole 17) (λ e. omega arith)
-        (totals-differ (priced s) (s .lines) _ figures (covered .next) (λ e. h (total-found ∙ e ∙ sym saving-found)))
+      pub line-refused : {before after : Scratch} {r : Verdict} → (w .fault .number ≡ 0 → ⊥) → r ≡ refusalOf (w .fault) → Judges two c before after r
+      unfolding faultAnswer
+      line-refused g = refused-by (w .fault) g (refuses _ (linesFaults b (s .lines)) (fromPairs s) figures (h .next) _ (walks .fault) g)
 
-    -- what the tally has left is the remainders, and so the margins are theirs
-    margin-found : (k : ℕ) → leftMargin (heldBook p) t k ≡ margin (priced s) (s .lines) k
-    unfolding leftMargin tallyOf margin
-    margin-found k =
-        rw (same-book, same-tally)
-        (ap (λ (x : ℕ). priced s .leg k .rate * x)
-        (getD-every 256 (remainder (priced s) (s .lines)) 0 (λ j q. nothing-past s j (omega (arith, covered .tallied .held .few))) k))
+      module _ (e : w .fault .number ≡ 0) where
+        all-taken : takenLines w (s .lines) ≡ s .lines
+        unfolding takenLines
+        all-taken = rw (eq-eqb _ _ e)
 
-    margins-found : leftMargin (heldBook p) t ≡ margin (priced s) (s .lines)
-    margins-found = λ i k. margin-found k i
+        pub lines-next : outcomeIn two c ≡ firstOf (fromPairs s) figures
+        unfolding faultAnswer
+        lines-next = passes _ (linesFaults b (s .lines)) (fromPairs s) figures (h .next) _ (walks .fault) (lines-numbered two two s) e
 
-    units-found : t .units + sumTo (heldBook p .count) (leftMargin (heldBook p) t) ≡ unitsOf (priced s) (s .lines)
-    unfolding unitsOf tallyOf
-    units-found = rw (margins-found, same-book, same-tally)
+        remainders-length : length (remaindersOf b (s .lines)) ≡ n
+        unfolding remaindersOf
+        remainders-length = length-to (b .count) _ ∙ count-is
 
-    ranking-found : front (rankingOf (leftMargin (heldBook p) t) (heldBook p .count)) (zeros 256) ≡ front (ranked (priced s) (s .lines)) (zeros 256)
-    unfolding ranked
-    ranking-found = rw (margins-found, same-book)
+        pub remainders-are : left′ ≡ front (remaindersOf b (s .lines)) left₀
+        remainders-are =
+            walks .left ∙ rw (all-taken, values-are) (front-again (remaindersOf b (s .lines)) left₀ values (remainders-length ∙ sym values-length))
 
-    pub all-judged : {f : Figures} → total ≡ t .saving → Totals (heldBook p) t f
-        → Judges s (record { verdict = Accepted (f .units) (f .cents); remainders = t .left; ranking = f .ranking; margins = f .margins })
-    unfolding tallyOf
-    all-judged {f} e totals =
-        figures-judged s (f .units) (f .cents) (t .left) (f .ranking) (f .margins) (covered .tallied .held .few)
-        (totals-equal (priced s) (s .lines) _ figures (covered .next) (sym total-found ∙ e ∙ saving-found))
-        (totals .units ∙ units-found) (totals .cents) (ap (λ (x : Tally). x .left) same-tally) (totals .ranking ∙ ranking-found)
-        (totals .margins ∙ ap (listTo 256) margins-found)
+        pub margins-lent : {margins : List ℕ} → n ≤ length margins → MarginsLent n legs left′ margins
+        margins-lent m = record {
+          bounded = bounded;
+          left-held = omega (arith, ap (λ (xs : List ℕ). length xs) remainders-are, front-long (remaindersOf b (s .lines)) left₀ (omega (arith, remainders-length, h .room)), h .room);
+          left-high = takes .left-high;
+          margins-held = m;
+        }
+
+        -- the pairs
+        module _ (g : Fault) (finds : Finds n legs price g) where
+          pair-found : faultAnswer g ≡ firstFault (uncoveredPairs b)
+          pair-found = finds .found b legs-of price-is
+
+          pub pair-refused : {before after : Scratch} {r : Verdict} → (g .number ≡ 0 → ⊥) → r ≡ refusalOf g → Judges two c before after r
+          unfolding faultAnswer
+          pair-refused q = refused-by g q (refuses _ (uncoveredPairs b) (totalsFaults b (s .lines)) figures lines-next _ pair-found q)
+
+          pub pairs-next : g .number ≡ 0 → outcomeIn two c ≡ firstOf (totalsFaults b (s .lines)) figures
+          unfolding faultAnswer
+          pairs-next q = passes _ (uncoveredPairs b) (totalsFaults b (s .lines)) figures lines-next _ pair-found (uncovered-numbered two two s) q
+
+        -- the totals
+        module _ (next : outcomeIn two c ≡ firstOf (totalsFaults b (s .lines)) figures) (total : ℕ) (total-found : total ≡ pricedTotal (termsOf b) (b .price)) where
+          saving-found : w .saving ≡ saving (termsOf b) (s .lines)
+          saving-found = walks .saving ∙ rw all-taken
+
+          pub totals-refused : {before after : Scratch} {r : Verdict} → (total ≡ w .saving → ⊥) → r ≡ refusalOf (makeFault 17 0 0) → Judges two c before after r
+          unfolding faultAnswer
+          totals-refused q =
+              refused-by (makeFault 17 0 0) (λ z. omega arith) (totals-differ b (s .lines) _ figures next (λ z. q (total-found ∙ z ∙ sym saving-found)))
+
+          -- the figures
+          module _ {margins₀ margins : List ℕ} {sum : ℕ} (found : Margins n legs left′ margins₀ margins sum) where
+            margin-is : (k : ℕ) → k < n → leftMargin legs left′ k ≡ margin b (s .lines) k
+            unfolding leftMargin margin remaindersOf
+            margin-is k q =
+                let rate = ap (λ (l : Leg). l .rate) (legs-of .leg k q) in
+                let left-is : entry left′ k ≡ remainder b (s .lines) k =
+                ap (λ (xs : List ℕ). getD xs k 0) remainders-are
+                ∙ front-at (remaindersOf b (s .lines)) left₀ k (omega (arith, remainders-length))
+                ∙ getD-to (b .count) (remainder b (s .lines)) k 0 (omega (arith, count-is)) in
+                rw (rate, left-is)
+
+            -- the list of margins is the book's
+            listed : listTo n (leftMargin legs left′) ≡ marginsOf b (s .lines)
+            unfolding marginsOf
+            listed = to-eq n _ _ margin-is ∙ ap (λ (m : ℕ). listTo m (margin b (s .lines))) (sym count-is)
+
+            listed-is : (k : ℕ) → k < n → entry margins k ≡ margin b (s .lines) k
+            listed-is k q =
+                ap (λ (xs : List ℕ). getD xs k 0) (found .each)
+                ∙ front-at _ margins₀ k (omega (arith, length-to n (leftMargin legs left′)))
+                ∙ getD-to n (leftMargin legs left′) k 0 q
+                ∙ margin-is k q
+
+            units-are : w .units + sum ≡ unitsOf b (s .lines)
+            unfolding unitsOf
+            units-are =
+                let pairs : w .units ≡ pairUnits (termsOf b) (s .lines) = walks .units ∙ rw all-taken in
+                let left-over : sum ≡ sumTo (b .count) (margin b (s .lines)) =
+                found .sum ∙ sumTo-eq n _ _ margin-is ∙ ap (λ (m : ℕ). sumTo m (margin b (s .lines))) (sym count-is) in
+                rw (pairs, left-over)
+
+            ranking-is : rankingOf (entry margins) n ≡ ranked b (s .lines)
+            unfolding ranked
+            ranking-is = ranking-same _ _ n listed-is ∙ ap (rankingOf (margin b (s .lines))) (sym count-is)
+
+            pub all-judged : {ranks₀ ranks : List ℕ} {units cents : ℕ} → ranks ≡ front (rankingOf (entry margins) n) ranks₀ → total ≡ w .saving → units ≡ w .units + sum → RoundedUp units cents
+                → Judges two c (makeScratch left₀ margins₀ ranks₀) (makeScratch left′ margins ranks) (Accepted units cents)
+            all-judged {ranks₀} {units = units} {cents} p q u r =
+                figures-judged two c _ _ units cents (totals-equal b (s .lines) _ figures next (sym total-found ∙ q ∙ saving-found)) (u ∙ units-are) r
+                record {
+                  remainders = remainders-are;
+                  margins = found .each ∙ ap (λ (xs : List ℕ). front xs margins₀) listed;
+                  ranking = p ∙ ap (λ (xs : List ℕ). front xs ranks₀) ranking-is;
+                }

@@ -31,7 +31,7 @@ unfoldable pub written : Answer → List ℕ → List ℕ
 written a xs = cond (eqb (a .number) 0) xs []
 
 -- a refusal: its number and places
-unfoldable pub refusalOf : Fault → Verdict
+abbrev pub refusalOf : Fault → Verdict
 refusalOf f = Refused (f .number) (f .place) (f .second)
 
 -- the outcome of what the columns hold; `two` says whether 2 holds of what is lent

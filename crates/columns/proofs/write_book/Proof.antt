@@ -1,15 +1,26 @@
 -- `write_book` writes each column at the front of its list. Assumes nothing.
-use mathlib.Core.Path.{_≡_}
+use mathlib.Core.Path.{_≡_, _∙_}
+use native.Mathlib.Omega.{arith}
 use lib.ListN.{length}
 use borrow.Author.Needs.{needs}
-use Rattle.columns.proofs.Encoded.{book-written}
+use Rattle.holding.specs.Holding.{numbersOf}
+use Rattle.proposal.specs.Submission.{rowsOf, pricesOf}
+use Rattle.columns.specs.Columns.{column}
+use Rattle.columns.proofs.Encoded.{firsts-take, each-written}
 use Rattle.columns.proofs.write_book.Statement.{statement}
 use Rattle.columns.proofs.write_book.Tie as tie
 
--- every holding of the array has a price
+-- the start, from the prices and from the last two columns
 abbrev start : tie.After-write-words-arg → tie.Start
 start c = c .before .before .before .before .before .before .before .before .before
 
+abbrev of-days : tie.After-write-rows-arg4 → tie.After-write-words-arg
+of-days c = c .before .before .before .before .before .before .before .before .before .before .before .before .before .before .before .before .before
+
+abbrev of-value : tie.After-write-rows-arg5 → tie.After-write-words-arg
+of-value c = of-days (c .before .before .before .before)
+
+-- every holding of the array has a price
 long : (c : tie.After-write-words-arg) → length (start c .args .proposal .prices) ≡ 256
 long c = search needs
 
@@ -19,6 +30,7 @@ write-words-requires c κs =
     (search needs, search needs)
 
 returns : tie.Need-returns
+unfolding rowsOf pricesOf column
 returns c =
     let value = c .before .before in
     let days = value .before .before .before .before in
@@ -26,8 +38,13 @@ returns c =
     let kind = issuer .before .before .before .before in
     let side = kind .before .before .before .before in
     let price = side .before .before .before .before .before in
-    book-written _ (start (price .before) .args .proposal) _ (long (price .before)) (start (price .before) .pre .few) (side .write-rows .ensures) (kind .write-rows2 .ensures) (issuer .write-rows3 .ensures) (days .write-rows4 .ensures) (value .write-rows5 .ensures)
-    (price .write-words .ensures)
+    let first = start (price .before) in
+    record {
+      rows =
+          each-written numbersOf _ _ 0 _ _
+          (side .write-rows .ensures, (kind .write-rows2 .ensures, (issuer .write-rows3 .ensures, (days .write-rows4 .ensures, (value .write-rows5 .ensures, tt)))));
+      prices = price .write-words .ensures ∙ rw (firsts-take (first .args .book .count) (first .args .proposal .prices) (omega (arith, long (price .before), first .pre .few)));
+    }
 
 pub write-book-spec : {M : Type 1} → statement M
 write-book-spec =
@@ -38,8 +55,8 @@ write-book-spec =
     (λ c κs. search needs)
     (λ c κs. search needs)
     (λ c κs. search needs)
-    (λ c κs. search needs)
-    (λ c κs. search needs)
+    (λ c κs. let room = start (of-days c) .pre .each .1 .1 .1 .0 in search needs)
+    (λ c κs. let room = start (of-value c) .pre .each .1 .1 .1 .1 .0 in search needs)
     (λ c. search needs)
     (λ c. search needs)
     (λ c. search needs)

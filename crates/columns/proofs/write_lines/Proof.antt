@@ -4,15 +4,15 @@ use Prim.Native.Nat.{_-_, _≤_}
 use native.Mathlib.Omega.{arith}
 use lib.ListN.{length}
 use borrow.Author.Needs.{needs}
-use Rattle.lists.specs.Tables.{listTo, front}
-use Rattle.words.specs.Words.{encode}
-use Rattle.columns.specs.Columns.{lineColumn}
+use Rattle.lists.specs.Tables.{listTo}
+use Rattle.columns.specs.Columns.{column}
+use Rattle.columns.specs.Writing.{lineNumber}
 use Rattle.columns.proofs.Encoded.{numbers-none, numbers-more}
 use Rattle.columns.proofs.write_lines.Statement.{statement}
 use Rattle.columns.proofs.write_lines.Tie as tie
 
 abbrev Inv-loop : tie.InvT-loop
-Inv-loop n j bytes₀ lines i₀ bytes i = (i ≤ n) × (length bytes ≡ length bytes₀) × (bytes ≡ front (encode (listTo i (lineColumn j lines))) bytes₀)
+Inv-loop n j bytes₀ lines i₀ bytes i = (i ≤ n) × (length bytes ≡ length bytes₀) × (bytes ≡ column (listTo i (lineNumber j lines)) bytes₀)
 
 abbrev μ-loop : tie.MeasureT-loop
 μ-loop n j bytes₀ lines i₀ bytes i = n - i
@@ -22,7 +22,7 @@ loop-again c =
     let put = c .before .before in
     let turn = put .before .before .before .before .before in
     let start = turn .before .before .args in
-    (omega arith, omega arith, numbers-more (lineColumn (start .j) (start .t1)) _ (turn .loop .inv .2) (put .before .line-number .ensures) (put .put-word .ensures))
+    (omega arith, omega arith, numbers-more (lineNumber (start .j) (start .t1)) _ (turn .loop .inv .2) (put .before .line-number .ensures) (put .put-word .ensures))
 
 returns : tie.Need-returns Inv-loop μ-loop
 returns c =

@@ -1,15 +1,17 @@
 -- `write_proposal` writes each column at the front of its list. Assumes nothing.
 use borrow.Author.Needs.{needs}
-use Rattle.columns.proofs.Encoded.{lines-written}
+use Rattle.proposal.specs.Submission.{lineNumbers, linesOf}
+use Rattle.columns.proofs.Encoded.{each-written}
 use Rattle.columns.proofs.write_proposal.Statement.{statement}
 use Rattle.columns.proofs.write_proposal.Tie as tie
 
 returns : tie.Need-returns
+unfolding linesOf
 returns c =
     let amount = c .before .before in
     let short = amount .before .before .before .before in
     let long = short .before .before .before .before in
-    lines-written _ _ (long .write-lines .ensures) (short .write-lines2 .ensures) (amount .write-lines3 .ensures)
+    each-written lineNumbers _ _ 0 _ _ (long .write-lines .ensures, (short .write-lines2 .ensures, (amount .write-lines3 .ensures, tt)))
 
 pub write-proposal-spec : {M : Type 1} → statement M
 write-proposal-spec =

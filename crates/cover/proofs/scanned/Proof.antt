@@ -6,7 +6,7 @@ use Prim.Native.Nat.{_-_}
 use native.Mathlib.Omega.{arith}
 use borrow.Author.Needs.{needs}
 use Rattle.cover.proofs.Filled.{period-low, rate-low, scan-closed}
-use Rattle.cover.proofs.Gaps.{Closed, closed-none, closed-row, closed-other, closed-more, finds-gap, finds-none}
+use Rattle.cover.proofs.Uncovered.{Closed, closed-none, closed-row, closed-other, closed-more, finds-open, finds-none}
 use Rattle.cover.proofs.scanned.Statement.{statement}
 use Rattle.cover.proofs.scanned.Tie as tie
 
@@ -44,26 +44,26 @@ cast-row-open-2 : tie.Need-cast-row-open-2 Inv-loop μ-loop
 cast-row-open-2 c =
     let turn = c .before .before .before .before .before .before .before in
     let start = turn .before .before .before .before in
-    omega (arith, c .before .before .word .ensures, start .pre .0 .price-high _ (turn .loop-test .taken))
+    omega (arith, c .before .before .word .ensures, start .pre .0 .high _ (turn .loop-test .taken))
 
 row-open-requires : tie.Need-row-open-requires Inv-loop μ-loop
 row-open-requires c κs =
     let turn = c .before .before .before .before .before .before .before in
     let start = turn .before .before .before .before in
     let leg = c .before .before .before .before .before .leg-in .ensures in
-    let (columns, shorts) = start .pre in
-    (omega (arith, shorts .few, columns .count), (rate-low _ columns (turn .loop-test .taken) leg, shorts .rates-high))
+    let (priced, shorts) = start .pre in
+    (omega (arith, shorts .few, priced .bounded .few), (rate-low _ priced (turn .loop-test .taken) leg, shorts .rates-high))
 
-row-gap-requires : tie.Need-row-gap-requires Inv-loop μ-loop
-row-gap-requires c κs = search needs
+first-open-requires : tie.Need-first-open-requires Inv-loop μ-loop
+first-open-requires c κs = search needs
 
-gap-at-requires : tie.Need-gap-at-requires Inv-loop μ-loop
-gap-at-requires c κs = search needs
+fault-at-requires : tie.Need-fault-at-requires Inv-loop μ-loop
+fault-at-requires c κs = search needs
 
 returns : tie.Need-returns Inv-loop μ-loop
 returns c =
     let turn = c .before .before .before .before .before .before .before .before .before .before .before .before in
-    rw (c .gap-at .ensures) (finds-gap (turn .before .loop .inv) (turn .loop-test .taken) (c .before .before .row-gap .ensures) (c .before .if3 .taken))
+    rw (c .fault-at .ensures) (finds-open (turn .before .loop .inv) (turn .loop-test .taken) (c .before .before .first-open .ensures) (c .before .if3 .taken))
 
 add-i : tie.Need-add-i Inv-loop μ-loop
 add-i c = search needs
@@ -86,11 +86,11 @@ loop-again c =
     (λ w. closed-other closed taken (rw leg at (w .left))))
     (c .if1 .came)
 
-no-gap-requires : tie.Need-no-gap-requires Inv-loop μ-loop
-no-gap-requires c κs = search needs
+fault-at-requires-2 : tie.Need-fault-at-requires-2 Inv-loop μ-loop
+fault-at-requires-2 c κs = search needs
 
 returns-2 : tie.Need-returns-2 Inv-loop μ-loop
-returns-2 c = rw (c .no-gap .ensures) (finds-none (c .before .before .loop .inv) (c .before .loop-test .left))
+returns-2 c = rw (c .fault-at2 .ensures) (finds-none (c .before .before .loop .inv) (c .before .loop-test .left))
 
 pub scanned-spec : {M : Type 1} → statement M
 scanned-spec =
@@ -107,11 +107,11 @@ scanned-spec =
     cast-row-open
     cast-row-open-2
     row-open-requires
-    row-gap-requires
-    gap-at-requires
+    first-open-requires
+    fault-at-requires
     returns
     add-i
     loop-less
     loop-again
-    no-gap-requires
+    fault-at-requires-2
     returns-2)

@@ -53,7 +53,7 @@ cast-prices : tie.Need-cast-prices Inv-loop μ-loop
 cast-prices c =
     let turn = c .before .before .before .before .before .before .before in
     let start = turn .before .before .before .before in
-    omega (arith, c .word .ensures, start .pre .0 .price-high _ (turn .loop-test .taken))
+    omega (arith, c .word .ensures, start .pre .0 .high _ (turn .loop-test .taken))
 
 mul-prices : tie.Need-mul-prices Inv-loop μ-loop
 mul-prices c = search needs
@@ -73,13 +73,12 @@ loop-less c = search needs
 loop-again : tie.Need-loop-again Inv-loop μ-loop
 loop-again c =
     let turn = c .before .before .before .before in
-    let start = turn .before .before .before .before in
     let filling = turn .before .loop .inv in
     let leg = c .before .before .leg-in .ensures in
-    let columns = start .pre .0 in
+    let priced = turn .before .before .before .before .pre .0 in
     ⊎-elim
-    (λ w. filling-more filling leg (turn .loop-test .taken) columns (w .1 .ensures) (w .3 .ensures) (w .4) (w .5) (w .6) (w .7))
-    (λ w. filling-other filling leg (turn .loop-test .taken) (w .0 .left) (w .1) (w .2) (w .3) (w .4))
+    (λ w. rw (w .4, w .5, w .6, w .7) (filling-more filling leg (turn .loop-test .taken) priced (w .1 .ensures) (w .3 .ensures)))
+    (λ w. rw (w .1, w .2, w .3, w .4) (filling-other filling leg (turn .loop-test .taken) (w .0 .left)))
     (c .if1 .came)
 
 returns : tie.Need-returns Inv-loop μ-loop

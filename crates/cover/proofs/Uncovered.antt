@@ -1,4 +1,4 @@
--- The allowed pairs of a book that its prices do not cover, looked for in the columns that hold it. Assumes nothing.
+-- The allowed pairs of a book that its prices do not cover, looked for in the lists that hold it. Assumes nothing.
 use mathlib.Core.Path.{_≡_, refl, sym, _∙_}
 use mathlib.Core.Bool.{Bool, true, false, cond, _&&_}
 use mathlib.Core.List.{List}
@@ -10,27 +10,28 @@ use borrow.Author.Tests.{lt-ltb, le-ltb, ne-eqb}
 use Rattle.lists.specs.Choice.{firstOf}
 use Rattle.lists.proofs.Firsts.{None, first-of-none, none-in-turn, first-in-turn}
 use Rattle.words.specs.Words.{wordAt}
-use Rattle.article.specs.Answer.{Answer, answer}
-use Rattle.article.specs.Pair.{isLong, allowed, savingRate}
+use Rattle.article.specs.Answer.{Answer, makeAnswer}
+use Rattle.article.specs.Pair.{isLong, allowed, savingRateOf}
 use Rattle.article.specs.declared.pair.Leg.{Leg}
 use Rattle.savings.specs.Savings.{savingOf}
 use Rattle.proposal.proofs.PricedBooks.{saving-rate}
 use Rattle.proposal.specs.Submission.{PricedBook}
-use Rattle.proposal.specs.Outcome.{answerOf, uncovered, atPair, atLong, gaps}
-use Rattle.cover.specs.Columns.{legAt, Holds, PairCovered, FirstOpen, gapAt, noGap, Finds}
+use Rattle.proposal.specs.Outcome.{makeFault, faultAnswer, uncovered, atPair, atLong, uncoveredPairs}
+use Rattle.packed.specs.Held.{legAt, LegsOf, Same}
+use Rattle.cover.specs.Cover.{PairCovered, FirstOpen, Finds}
 
 -- a pair is uncovered where its two prices add up to less than its legs save
 uncovered-saving : (b : PricedBook) (i j : ℕ) → uncovered b i j ≡ ltb (b .price i + b .price j) (savingOf (b .leg i) (b .leg j))
 unfolding uncovered savingOf
 uncovered-saving b i j =
-    rw (saving-rate b i j) (by (allowed (b .leg i) (b .leg j)) (b .price i + b .price j) (savingRate (b .leg i) (b .leg j)))
+    rw (saving-rate b i j) (by (allowed (b .leg i) (b .leg j)) (b .price i + b .price j) (savingRateOf (b .leg i) (b .leg j)))
   where
     by : (t : Bool) (x y : ℕ) → (t && ltb x y) ≡ ltb x (cond t y 0)
     by true x y = refl
     by false x y = sym (le-ltb x 0 (omega arith))
 
 -- the refusal of an uncovered pair
-at-pair : (b : PricedBook) {i j : ℕ} → uncovered b i j ≡ true → (v : Answer) → firstOf (atPair b i j) v ≡ answer 16 i j
+at-pair : (b : PricedBook) {i j : ℕ} → uncovered b i j ≡ true → (v : Answer) → firstOf (atPair b i j) v ≡ makeAnswer 16 i j
 unfolding atPair firstOf
 at-pair b e v = rw e
 
@@ -39,10 +40,11 @@ pub not-long : (l s : Leg) → (l .side ≡ 0 → ⊥) → savingOf l s ≡ 0
 unfolding savingOf allowed isLong
 not-long l s h = rw (ne-eqb _ _ h)
 
-module _ {n : ℕ} {legs price : List ℕ} where
-  module _ {b : PricedBook} (h : Holds b n legs price) (i j : ℕ) (f : i < n) (g : j < n) where
+-- a book that the lists hold
+module _ {n : ℕ} {legs : List ℕ} (price : List ℕ) {b : PricedBook} (h : LegsOf b n legs) (p : Same n (wordAt price) (b .price)) where
+  module _ (i j : ℕ) (f : i < n) (g : j < n) where
     test : uncovered b i j ≡ ltb (wordAt price i + wordAt price j) (savingOf (legAt legs i) (legAt legs j))
-    test = uncovered-saving b i j ∙ rw (h .leg-same i f, h .leg-same j g, h .price-same i f, h .price-same j g) refl
+    test = uncovered-saving b i j ∙ rw (h .leg i f, h .leg j g, p i f, p j g) refl
 
     pair-none : PairCovered legs price i j → None (atPair b i j)
     unfolding atPair
@@ -50,6 +52,12 @@ module _ {n : ℕ} {legs price : List ℕ} where
 
     pair-open : wordAt price i + wordAt price j < savingOf (legAt legs i) (legAt legs j) → uncovered b i j ≡ true
     pair-open c = test ∙ lt-ltb _ _ c
+
+  row-none : (i : ℕ) → i < n → ((j : ℕ) → j < n → PairCovered legs price i j) → None (atLong b i)
+  unfolding atLong
+  row-none i f c =
+      let count = h .count in
+      none-in-turn (atPair b i) (b .count) (λ j g. pair-none i j f (omega arith) (c j (omega arith)))
 
 -- the first i holdings are covered, as the long, with every holding
 pub record Closed (n : ℕ) (legs price : List ℕ) (i : ℕ) : Type 0 where
@@ -72,26 +80,25 @@ module _ {n : ℕ} {legs price : List ℕ} where
     pub closed-other : i < n → (legAt legs i .side ≡ 0 → ⊥) → Closed n legs price (i + 1)
     closed-other h e = closed-more h (λ j l. rw (not-long (legAt legs i) (legAt legs j) e) (omega arith))
 
-    pub finds-gap : {j : ℕ} → i < n → FirstOpen n legs price i j → j < n → Finds n legs price (gapAt i j)
-    unfolding answerOf gaps atLong
-    finds-gap {j} h o g = record {
-      found = λ b held.
+    pub finds-open : {j : ℕ} → i < n → FirstOpen n legs price i j → j < n → Finds n legs price (makeFault 16 i j)
+    unfolding faultAnswer uncoveredPairs atLong
+    finds-open {j} h o g = record {
+      found = λ b held prices.
           let count = held .count in
-          sym (first-in-turn (atLong b) (b .count) i (answer 16 i j) (answer 0 0 0) (omega arith)
-          (λ k l. none-in-turn (atPair b k) (b .count) (λ m f. pair-none held k m (omega arith) (omega arith) (c .rows k l m (omega arith))))
-          (λ w. first-in-turn (atPair b i) (b .count) j (answer 16 i j) w (omega arith)
-          (λ k l. pair-none held i k (omega arith) (omega arith) (o .covered k l))
-          (λ v. at-pair b (pair-open held i j h g (o .short g)) v)));
+          sym (first-in-turn (atLong b) (b .count) i (makeAnswer 16 i j) (makeAnswer 0 0 0) (omega arith)
+          (λ k l. row-none price held prices k (omega arith) (c .rows k l))
+          (λ w. first-in-turn (atPair b i) (b .count) j (makeAnswer 16 i j) w (omega arith)
+          (λ k l. pair-none price held prices i k (omega arith) (omega arith) (o .covered k l))
+          (λ v. at-pair b (pair-open price held prices i j h g (o .short g)) v)));
     }
 
-    pub finds-none : n ≤ i → Finds n legs price noGap
-    unfolding answerOf gaps atLong
+    pub finds-none : n ≤ i → Finds n legs price (makeFault 0 0 0)
+    unfolding faultAnswer uncoveredPairs
     finds-none e = record {
-      found = λ b held.
+      found = λ b held prices.
           let count = held .count in
-          sym (first-of-none (gaps b) (answer 0 0 0)
-          (none-in-turn (atLong b) (b .count)
-          (λ k l. none-in-turn (atPair b k) (b .count) (λ m f. pair-none held k m (omega arith) (omega arith) (c .rows k (omega arith) m (omega arith))))));
+          sym (first-of-none (uncoveredPairs b) (makeAnswer 0 0 0)
+          (none-in-turn (atLong b) (b .count) (λ k l. row-none price held prices k (omega arith) (c .rows k (omega arith)))));
     }
 
 -- row i is searched short by short: what the two legs were found to be and to save, and the two prices

@@ -1,12 +1,12 @@
--- `row_gap` finds the first short that the long is not covered with: each turn passes one. Assumes nothing.
+-- `first_open` finds the first short that the long is not covered with: each turn passes one. Assumes nothing.
 use Prim.Native.Nat.{ℕ, _-_, _<_}
 use native.Mathlib.Omega.{arith}
 use borrow.Author.Count.{below-more}
 use borrow.Author.Needs.{needs}
-use Rattle.cover.specs.Columns.{PairCovered}
-use Rattle.cover.proofs.Gaps.{first-more, first-all, first-here, first-other}
-use Rattle.cover.proofs.row_gap.Statement.{statement}
-use Rattle.cover.proofs.row_gap.Tie as tie
+use Rattle.cover.specs.Cover.{PairCovered}
+use Rattle.cover.proofs.Uncovered.{first-more, first-all, first-here, first-other}
+use Rattle.cover.proofs.first_open.Statement.{statement}
+use Rattle.cover.proofs.first_open.Tie as tie
 
 abbrev Inv-loop : tie.InvT-loop
 Inv-loop n legs price i long first j₀ j = (k : ℕ) → k < j → PairCovered legs price i k
@@ -47,14 +47,14 @@ word-requires-2 c κs = search needs
 add-if2 : tie.Need-add-if2 Inv-loop μ-loop
 add-if2 c =
     let start = c .before .before .before .before .before .before .before .before .before .before .before .before in
-    omega (arith, c .before .before .before .before .before .word .ensures, c .word2 .ensures, start .pre .0 .price-high _ (start .pre .1), start .pre .0 .price-high _ (c .before .before .before .loop-test .taken))
+    omega (arith, c .before .before .before .before .before .word .ensures, c .word2 .ensures, start .pre .0 .high _ (start .pre .1), start .pre .0 .high _ (c .before .before .before .loop-test .taken))
 
 saving-requires : tie.Need-saving-requires Inv-loop μ-loop
 saving-requires c κs =
     let start = c .before .before .before .before .before .before .before .before .before .before .before .before in
     let long = c .before .before .before .before .before .before .before .before .leg-in .ensures in
     let short = c .before .leg-in2 .ensures in
-    (rw long (start .pre .0 .rate-high _ (start .pre .1)), rw short (start .pre .0 .rate-high _ (c .before .before .before .loop-test .taken)))
+    (rw long (start .pre .0 .bounded .rate _ (start .pre .1)), rw short (start .pre .0 .bounded .rate _ (c .before .before .before .loop-test .taken)))
 
 returns-2 : tie.Need-returns-2 Inv-loop μ-loop
 returns-2 c =
@@ -87,8 +87,8 @@ loop-again c =
 returns-3 : tie.Need-returns-3 Inv-loop μ-loop
 returns-3 c = first-all _ _ _ (c .before .loop .inv) (c .loop-test .left)
 
-pub row-gap-spec : {M : Type 1} → statement M
-row-gap-spec =
+pub first-open-spec : {M : Type 1} → statement M
+first-open-spec =
     tie.close
     (tie.spec
     Inv-loop

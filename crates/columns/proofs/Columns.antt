@@ -1,0 +1,52 @@
+-- Columns of bytes hold what is submitted, entry by entry. Assumes nothing.
+use mathlib.Core.Path.{_≡_, ap, _∙_}
+use mathlib.Core.List.{List, []}
+use Prim.Native.Nat.{ℕ, _*_}
+use lib.ListN.{getD, take, drop, List·getD-map}
+use lib.Seq.{take-nil, drop-nil}
+use Rattle.lists.proofs.Tables.{length-to, getD-to}
+use Rattle.holding.specs.Holding.{rowBy}
+use Rattle.holding.specs.declared.Row.{Row}
+use Rattle.pairing.specs.declared.Line.{Line}
+use Rattle.proposal.specs.Submission.{noRow, noLine, lineBy}
+use Rattle.words.specs.Words.{number, wordAt, entries, decode}
+use Rattle.columns.specs.Columns.{Columns, columnAt, countIn, numbersAt, rowsIn, linesIn, submission, RowAt, LineAt, ColumnEntries}
+
+-- no bytes make 0, so a column that is not there reads as 0 everywhere
+nothing-there : (k : ℕ) → wordAt [] k ≡ 0
+unfolding wordAt number
+nothing-there k = rw (drop-nil {A = ℕ} (8 * k))
+
+module _ (columns : List (List ℕ)) (k : ℕ) where
+  -- the numbers at an entry, one of each column
+  number-at : (j : ℕ) → getD (numbersAt columns k) j 0 ≡ wordAt (columnAt columns j) k
+  unfolding numbersAt
+  number-at j = rw (nothing-there k) at (List·getD-map (λ c. wordAt c k) columns j [])
+
+  pub row-at : (r : Row) → r ≡ rowBy (numbersAt columns k) → RowAt columns k r
+  unfolding rowBy
+  row-at r e = record {
+    side = ap (λ (r : Row). r .side) e ∙ number-at 0;
+    kind = ap (λ (r : Row). r .kind) e ∙ number-at 1;
+    issuer = ap (λ (r : Row). r .issuer) e ∙ number-at 2;
+    days = ap (λ (r : Row). r .days) e ∙ number-at 3;
+    value = ap (λ (r : Row). r .value) e ∙ number-at 4;
+  }
+
+  pub line-at : (l : Line) → l ≡ lineBy (numbersAt columns k) → LineAt columns k l
+  unfolding lineBy
+  line-at l e = record {
+    long = ap (λ (l : Line). l .long) e ∙ number-at 0;
+    short = ap (λ (l : Line). l .short) e ∙ number-at 1;
+    amount = ap (λ (l : Line). l .amount) e ∙ number-at 2;
+  }
+
+pub column-entries : (c : Columns) → ColumnEntries c
+unfolding submission rowsIn linesIn countIn decode entries
+column-entries c = record {
+  holdings = length-to _ _;
+  lines = length-to _ _;
+  holding = λ k h. row-at (c .holdings) k _ (getD-to _ _ k noRow h);
+  price = λ k h. getD-to _ _ k 0 h;
+  line = λ k h. line-at (c .lines) k _ (getD-to _ _ k noLine h);
+}
