@@ -4,14 +4,14 @@ use mathlib.Core.Bool.{Bool, true, false, cond}
 use mathlib.Core.List.{List, [], _∷_, _++_, flatMap}
 use Prim.Native.Nat.{ℕ, _≤_, _<_}
 use lib.Dec.{eqb}
-use lib.ListN.{length, getD, take, drop, List·getD-append}
+use lib.ListN.{length, getD, take}
 use borrow.Author.Tests.{eqb-true}
 use Rattle.lists.specs.Each.{Each}
 use Rattle.lists.specs.Order.{ordered}
 use Rattle.lists.specs.Tables.{listTo, front}
 use Rattle.lists.proofs.Entries.{each-so}
-use Rattle.lists.proofs.Order.{ordered-below, ordered-length}
-use Rattle.lists.proofs.Tables.{length-to, getD-to, to-eq, to-back, take-to}
+use Rattle.lists.proofs.Order.{ordered-below}
+use Rattle.lists.proofs.Tables.{length-to, getD-to, to-eq, to-back, take-to, front-at}
 use Rattle.article.specs.Answer.{Answer}
 use Rattle.columns.specs.Columns.{Columns, submission}
 use Rattle.ranking.specs.Ranking.{ranksBefore, rankingOf}
@@ -19,6 +19,7 @@ use Rattle.proposal.specs.Submission.{Submission, bookOf, priced}
 use Rattle.proposal.specs.Figures.{remainder, margin, remaindersOf, marginsOf, ranked}
 use Rattle.verdict.specs.Judges.{answerOf, outcomeIn, Scratch, Worked, Judges}
 use Rattle.verdict.specs.declared.Verdict.{Verdict}
+use Rattle.verdict.proofs.Judged.{ranked-length}
 use Rattle.report.specs.Report.{marginLine, refusalLine, printedLines, bookLine, printedOf, judgedLine, reportOf}
 
 -- the R lines count where the answer is accepted
@@ -35,11 +36,7 @@ unfolding flatMap
 same-texts f g [] h = refl
 same-texts f g (x ∷ xs) h = rw (h .0, same-texts f g xs (h .1))
 
--- what is written at the front is read there
-front-at : (xs old : List ℕ) (k : ℕ) → k < length xs → getD (front xs old) k 0 ≡ getD xs k 0
-unfolding front
-front-at xs old k h = List·getD-append xs (drop (length xs) old) 0 k h
-
+-- what is read of lists at the front
 reads : (n : ℕ) (f : ℕ → ℕ) (old : List ℕ) (k : ℕ) → k < n → getD (front (listTo n f) old) k 0 ≡ f k
 reads n f old k h = front-at (listTo n f) old k (rw (length-to n f) h) ∙ getD-to n f k 0 h
 
@@ -47,18 +44,14 @@ first-read : (n : ℕ) (xs old : List ℕ) → length xs ≡ n → n ≤ 256 →
 first-read n xs old e h =
     take-to 256 n (λ k. getD (front xs old) k 0) h ∙ to-eq n _ (λ k. getD xs k 0) (λ k l. front-at xs old k (rw e l)) ∙ to-back n xs 0 e
 
-module _ (s : Submission) where
-  ranked-length : length (ranked (priced s) (s .lines)) ≡ priced s .count
-  unfolding ranked rankingOf
-  ranked-length = ordered-length (ranksBefore (margin (priced s) (s .lines))) (priced s .count)
-
-  -- the ranking has none but holdings of the book
-  pub ranked-texts : (f g : ℕ → List ℕ) → ((k : ℕ) → k < priced s .count → f k ≡ g k) → flatMap f (ranked (priced s) (s .lines)) ≡ flatMap g (ranked (priced s) (s .lines))
-  unfolding ranked rankingOf
-  ranked-texts f g h =
-      let n = priced s .count in
-      let before = ranksBefore (margin (priced s) (s .lines)) in
-      same-texts f g (ordered before n) (each-so (_< n) (λ k. f k ≡ g k) h (ordered before n) (ordered-below before n))
+-- the ranking has none but holdings of the book
+pub ranked-texts : (s : Submission) (f g : ℕ → List ℕ) → ((k : ℕ) → k < priced s .count → f k ≡ g k)
+    → flatMap f (ranked (priced s) (s .lines)) ≡ flatMap g (ranked (priced s) (s .lines))
+unfolding ranked rankingOf
+ranked-texts s f g h =
+    let n = priced s .count in
+    let before = ranksBefore (margin (priced s) (s .lines)) in
+    same-texts f g (ordered before n) (each-so (_< n) (λ k. f k ≡ g k) h (ordered before n) (ordered-below before n))
 
 module _ (c : Columns) (before after : Scratch) (worked : Worked c before after) where
   abbrev s : Submission
