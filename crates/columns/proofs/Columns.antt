@@ -2,8 +2,8 @@
 use mathlib.Core.Path.{_≡_, ap, _∙_}
 use mathlib.Core.List.{List, []}
 use Prim.Native.Nat.{ℕ, _*_}
-use lib.ListN.{getD, take, drop, List·getD-map}
-use lib.Seq.{take-nil, drop-nil}
+use lib.ListN.{getD, List·getD-map}
+use lib.Seq.{drop-nil}
 use Rattle.lists.proofs.Tables.{length-to, getD-to}
 use Rattle.holding.specs.Holding.{rowBy}
 use Rattle.holding.specs.declared.Row.{Row}

@@ -22,9 +22,12 @@ numbers-more f old {i = i} e n w =
     let at : withWord (front (encode (listTo i f)) old) i (f i) ≡ front (encode (listTo (suc i) f)) old = rw (length-to i f) at (word-more (listTo i f) old (f i)) in
     w ∙ rw (e, n, add-one) at
 
--- the first n of an array
-pub firsts-take : (n : ℕ) (xs : List ℕ) → n ≤ length xs → take n xs ≡ listTo n (λ k. getD xs k 0)
-firsts-take n xs h = ap (λ (ys : List ℕ). take n ys) (sym (to-back (length xs) xs 0 refl)) ∙ take-to (length xs) n (λ k. getD xs k 0) h
+-- the first n of an array are written
+pub firsts-written : (n : ℕ) (xs old : List ℕ) {bytes : List ℕ} → n ≤ length xs → bytes ≡ front (encode (take n xs)) old → bytes ≡ column (listTo n (λ k. getD xs k 0)) old
+unfolding column
+firsts-written n xs old h e =
+    let firsts = rw (to-back (length xs) xs 0 refl) at (take-to (length xs) n (λ k. getD xs k 0) h) in
+    e ∙ ap (λ (ys : List ℕ). front (encode ys) old) firsts
 
 -- of n entries each column, from column j on, is written
 module _ {A : Type 0} (numbers : A → List ℕ) (n : ℕ) (f : ℕ → A) where

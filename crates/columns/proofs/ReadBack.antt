@@ -1,10 +1,10 @@
 -- What is written into columns is read back at each entry, and as a whole where nothing is lent past it. Assumes nothing.
 use mathlib.Core.Path.{_≡_, refl, sym, ap, _∙_}
 use mathlib.Core.List.{List, [], _∷_, map, append-nil}
-use Prim.Native.Nat.{ℕ, zero, suc, _+_, _*_, _/_, _<_, _^_}
+use Prim.Native.Nat.{ℕ, suc, _+_, _*_, _<_, _^_}
 use native.Mathlib.Omega.{arith}
 use lib.ListN.{length, getD, take, drop, length-map, drop-of-length-le}
-use lib.Seq.{ext-getD, drop-nil, drop-cons, take-at}
+use lib.Seq.{drop-nil, drop-cons, take-at}
 use Rattle.lists.specs.Each.{Each}
 use Rattle.lists.specs.Tables.{listTo, front}
 use Rattle.lists.proofs.Entries.{each-so, each-map, each-read}
@@ -18,7 +18,7 @@ use Rattle.proposal.proofs.PricedBooks.{line-back}
 use Rattle.words.specs.Words.{wordAt, entries, decode, encode}
 use Rattle.words.proofs.Encoded.{length-encode}
 use Rattle.words.proofs.ReadBack.{read-back, decode-encode}
-use Rattle.columns.specs.Columns.{Columns, makeColumns, countIn, numbersAt, rowsIn, linesIn, submission, RowAt, LineAt, column, filledFrom, filled}
+use Rattle.columns.specs.Columns.{Columns, countIn, numbersAt, rowsIn, linesIn, submission, RowAt, LineAt, column, filledFrom, filled}
 use Rattle.columns.proofs.Columns.{row-at, line-at}
 
 -- numbers that eight bytes hold

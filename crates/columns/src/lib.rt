@@ -9,7 +9,7 @@ ghost use Prim.Native.Nat.{_*_, _≤_};
 ghost use lib.ListN.{length, getD};
 ghost use Rattle.lists.specs.Tables.{listTo};
 ghost use Rattle.holding.specs.Holding.{numbersOf};
-ghost use Rattle.proposal.specs.Submission.{rowsOf, pricesOf, linesOf, lineNumbers};
+ghost use Rattle.proposal.specs.Submission.{linesOf, lineNumbers};
 ghost use Rattle.columns.specs.Columns.{column, filledFrom};
 ghost use Rattle.columns.specs.Writing.{rowNumber, lineNumber, BookRoom, LinesRoom, BookWritten};
 

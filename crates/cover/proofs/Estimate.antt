@@ -21,11 +21,17 @@ module _ {l : Leg} {mark rate : ℕ} (m : Marked l mark rate) where
 
   no-strip : mark % 64 < 16 → isStrip l ≡ false
   unfolding markOf isStrip
-  no-strip h = not-eq-not {a = isStrip l} {b = false} .0 (λ e. omega (arith, m .marked, within-true 1 2 (l .kind) e .0, within-true 1 2 (l .kind) e .1))
+  no-strip h =
+      not-eq-not {a = isStrip l} {b = false} .0 (λ e.
+      let (low, high) = within-true 1 2 (l .kind) e in
+      omega (arith, m .marked))
 
   no-province : mark % 16 ≡ 0 → isProvince l ≡ false
   unfolding markOf isProvince
-  no-province h = not-eq-not {a = isProvince l} {b = false} .0 (λ e. omega (arith, m .marked, within-true 1 10 (l .issuer) e .0, within-true 1 10 (l .issuer) e .1))
+  no-province h =
+      not-eq-not {a = isProvince l} {b = false} .0 (λ e.
+      let (low, high) = within-true 1 10 (l .issuer) e in
+      omega (arith, m .marked))
 
   not-canada : (mark % 16 ≡ 0 → ⊥) → isCanada l ≡ false
   unfolding markOf isCanada

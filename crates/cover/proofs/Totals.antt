@@ -1,5 +1,5 @@
 -- The priced total of a book in lists, added up holding by holding, and how high it can be. Assumes nothing.
-use mathlib.Core.Path.{_≡_, refl, sym, ap, _∙_}
+use mathlib.Core.Path.{_≡_, refl, ap, _∙_}
 use mathlib.Core.List.{List}
 use Prim.Native.Nat.{ℕ, _+_, _*_, _≤_, _<_}
 use native.Mathlib.Nat.{mul-le-mul}
@@ -41,5 +41,5 @@ module _ (price value : List ℕ) where
     added-all h = record {
       total = λ b count prices values.
           let e : i ≡ b .count = omega (arith, a .few) in
-          a .sum ∙ ap (λ (k : ℕ). sumTo k pricedValue) e ∙ sumTo-eq (b .count) _ _ (λ k l. sym (rw (prices k (omega arith), values k (omega arith)) refl));
+          a .sum ∙ ap (λ (k : ℕ). sumTo k pricedValue) e ∙ sumTo-eq (b .count) _ _ (λ k l. rw (prices k (omega arith), values k (omega arith)));
     }

@@ -36,15 +36,18 @@ unfolding atPair firstOf
 at-pair b e v = rw e
 
 -- a holding that is not long saves nothing as the long
-pub not-long : (l s : Leg) → (l .side ≡ 0 → ⊥) → savingOf l s ≡ 0
+not-long : (l s : Leg) → (l .side ≡ 0 → ⊥) → savingOf l s ≡ 0
 unfolding savingOf allowed isLong
 not-long l s h = rw (ne-eqb _ _ h)
+
+pub other-covered : (legs price : List ℕ) (i : ℕ) {leg : Leg} → leg ≡ legAt legs i → (leg .side ≡ 0 → ⊥) → (j : ℕ) → PairCovered legs price i j
+other-covered legs price i found h j = rw (not-long (legAt legs i) (legAt legs j) (rw found at h)) (omega arith)
 
 -- a book that the lists hold
 module _ {n : ℕ} {legs : List ℕ} (price : List ℕ) {b : PricedBook} (h : LegsOf b n legs) (p : Same n (wordAt price) (b .price)) where
   module _ (i j : ℕ) (f : i < n) (g : j < n) where
     test : uncovered b i j ≡ ltb (wordAt price i + wordAt price j) (savingOf (legAt legs i) (legAt legs j))
-    test = uncovered-saving b i j ∙ rw (h .leg i f, h .leg j g, p i f, p j g) refl
+    test = uncovered-saving b i j ∙ rw (h .leg i f, h .leg j g, p i f, p j g)
 
     pair-none : PairCovered legs price i j → None (atPair b i j)
     unfolding atPair
@@ -72,13 +75,9 @@ module _ {n : ℕ} {legs price : List ℕ} where
     pub closed-more : i < n → ((j : ℕ) → j < n → PairCovered legs price i j) → Closed n legs price (i + 1)
     closed-more h g = record { few = omega arith; rows = below-more (λ (k : ℕ). (j : ℕ) → j < n → PairCovered legs price k j) i (c .rows) g }
 
-    -- the exact search of row i found none
+    -- no holding was found that i is not covered with
     pub closed-row : {r : ℕ} → i < n → FirstOpen n legs price i r → n ≤ r → Closed n legs price (i + 1)
     closed-row h o e = closed-more h (λ j l. o .covered j (omega arith))
-
-    -- row i is not a long's
-    pub closed-other : i < n → (legAt legs i .side ≡ 0 → ⊥) → Closed n legs price (i + 1)
-    closed-other h e = closed-more h (λ j l. rw (not-long (legAt legs i) (legAt legs j) e) (omega arith))
 
     pub finds-open : {j : ℕ} → i < n → FirstOpen n legs price i j → j < n → Finds n legs price (makeFault 16 i j)
     unfolding faultAnswer uncoveredPairs atLong
@@ -101,27 +100,18 @@ module _ {n : ℕ} {legs price : List ℕ} where
           (none-in-turn (atLong b) (b .count) (λ k l. row-none price held prices k (omega arith) (c .rows k (omega arith)))));
     }
 
--- row i is searched short by short: what the two legs were found to be and to save, and the two prices
-module _ (legs price : List ℕ) (i : ℕ) {long : Leg} (a-long : long ≡ legAt legs i) where
-  -- it is not a long's
-  pub first-other : (n : ℕ) → (long .side ≡ 0 → ⊥) → FirstOpen n legs price i n
-  first-other n h = record {
-    few = omega arith;
-    covered = λ j l. rw (not-long (legAt legs i) (legAt legs j) (rw a-long at h)) (omega arith);
-    short = λ g. absurd (omega arith);
-  }
+-- long i with short j: what the two legs were found to be and to save, and the two prices
+module _ (legs price : List ℕ) (i j : ℕ) {long short : Leg} {first second saving : ℕ} (a-long : long ≡ legAt legs i) (a-short : short ≡ legAt legs j)
+    (a : first ≡ wordAt price i) (b : second ≡ wordAt price j) (found : saving ≡ savingOf long short) where
+  saves : saving ≡ savingOf (legAt legs i) (legAt legs j)
+  saves = rw (← a-long, ← a-short) found
 
-  module _ (j : ℕ) {first second saving : ℕ} {short : Leg} (a : first ≡ wordAt price i) (a-short : short ≡ legAt legs j) (b : second ≡ wordAt price j)
-      (found : saving ≡ savingOf long short) where
-    saves : saving ≡ savingOf (legAt legs i) (legAt legs j)
-    saves = rw (← a-long, ← a-short) found
+  pub first-more : saving ≤ first + second → PairCovered legs price i j
+  first-more h = omega (arith, saves)
 
-    pub first-more : saving ≤ first + second → PairCovered legs price i j
-    first-more h = omega (arith, saves)
-
-    pub first-here : {n : ℕ} → ((k : ℕ) → k < j → PairCovered legs price i k) → j < n → first + second < saving → FirstOpen n legs price i j
-    first-here lower g h = record { few = omega arith; covered = lower; short = λ l. omega (arith, saves) }
+  pub first-here : {n : ℕ} → ((k : ℕ) → k < j → PairCovered legs price i k) → j < n → first + second < saving → FirstOpen n legs price i j
+  first-here lower g h = record { few = omega arith; covered = lower; short = λ l. omega (arith, saves) }
 
 -- none is open
-pub first-all : (legs price : List ℕ) (i : ℕ) {n j : ℕ} → ((k : ℕ) → k < j → PairCovered legs price i k) → n ≤ j → FirstOpen n legs price i n
-first-all legs price i lower h = record { few = omega arith; covered = λ k l. lower k (omega arith); short = λ l. absurd (omega arith) }
+pub first-all : {n : ℕ} (legs price : List ℕ) (i : ℕ) → ((k : ℕ) → k < n → PairCovered legs price i k) → FirstOpen n legs price i n
+first-all legs price i all = record { few = omega arith; covered = all; short = λ l. absurd (omega arith) }

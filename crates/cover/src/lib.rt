@@ -143,13 +143,13 @@ fn searched(n: usize, legs: &[u64], price: &[u8]) -> Fault
     requires { ⌜ Priced n (now legs) (now price) ⌝ }
     ensures { λ r. ⌜ Finds n (now (legs .entry)) (now (price .entry)) r ⌝ }
 {
-    let mut i: usize = 0;
-    while i < n {
-        let j = first_open(n, legs, price, i);
-        if j < n {
-            return proposal::fault_at(16, i, j);
+    let mut long: usize = 0;
+    while long < n {
+        let short = first_open(n, legs, price, long);
+        if short < n {
+            return proposal::fault_at(16, long, short);
         }
-        i = i + 1;
+        long = long + 1;
     }
     proposal::fault_at(0, 0, 0)
 }

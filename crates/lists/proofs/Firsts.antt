@@ -22,6 +22,15 @@ module _ {A : Type 0} where
   first-append ((true, a) ∷ xs) ys z = refl
   first-append ((false, a) ∷ xs) ys z = first-append xs ys z
 
+  -- the first test holds, or it does not and those after it decide
+  pub first-here : {t : Bool} (a : A) (xs : List (Bool × A)) (z : A) → t ≡ true → a ≡ firstOf ((t, a) ∷ xs) z
+  unfolding firstOf
+  first-here a xs z e = rw e
+
+  pub first-next : {t : Bool} {b : A} (a : A) (xs : List (Bool × A)) (z : A) → t ≡ false → b ≡ firstOf xs z → b ≡ firstOf ((t, a) ∷ xs) z
+  unfolding firstOf
+  first-next a xs z e f = rw e f
+
   -- where none holds, what follows decides
   pub first-of-none : (xs : List (Bool × A)) (z : A) → None xs → firstOf xs z ≡ z
   unfolding firstOf

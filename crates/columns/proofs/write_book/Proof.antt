@@ -1,12 +1,11 @@
 -- `write_book` writes each column at the front of its list. Assumes nothing.
-use mathlib.Core.Path.{_≡_, _∙_}
+use mathlib.Core.Path.{_≡_}
 use native.Mathlib.Omega.{arith}
 use lib.ListN.{length}
 use borrow.Author.Needs.{needs}
 use Rattle.holding.specs.Holding.{numbersOf}
 use Rattle.proposal.specs.Submission.{rowsOf, pricesOf}
-use Rattle.columns.specs.Columns.{column}
-use Rattle.columns.proofs.Encoded.{firsts-take, each-written}
+use Rattle.columns.proofs.Encoded.{firsts-written, each-written}
 use Rattle.columns.proofs.write_book.Statement.{statement}
 use Rattle.columns.proofs.write_book.Tie as tie
 
@@ -30,7 +29,7 @@ write-words-requires c κs =
     (search needs, search needs)
 
 returns : tie.Need-returns
-unfolding rowsOf pricesOf column
+unfolding rowsOf pricesOf
 returns c =
     let value = c .before .before in
     let days = value .before .before .before .before in
@@ -38,12 +37,11 @@ returns c =
     let kind = issuer .before .before .before .before in
     let side = kind .before .before .before .before in
     let price = side .before .before .before .before .before in
-    let first = start (price .before) in
     record {
       rows =
           each-written numbersOf _ _ 0 _ _
           (side .write-rows .ensures, (kind .write-rows2 .ensures, (issuer .write-rows3 .ensures, (days .write-rows4 .ensures, (value .write-rows5 .ensures, tt)))));
-      prices = price .write-words .ensures ∙ rw (firsts-take (first .args .book .count) (first .args .proposal .prices) (omega (arith, long (price .before), first .pre .few)));
+      prices = firsts-written _ _ _ (omega (arith, long (price .before), start (price .before) .pre .few)) (price .write-words .ensures);
     }
 
 pub write-book-spec : {M : Type 1} → statement M

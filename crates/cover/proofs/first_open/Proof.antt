@@ -1,10 +1,12 @@
 -- `first_open` finds the first short that the long is not covered with: each turn passes one. Assumes nothing.
 use Prim.Native.Nat.{ℕ, _-_, _<_}
+use native.Mathlib.Nat.{lt-of-lt-of-le}
 use native.Mathlib.Omega.{arith}
 use borrow.Author.Count.{below-more}
 use borrow.Author.Needs.{needs}
 use Rattle.cover.specs.Cover.{PairCovered}
-use Rattle.cover.proofs.Uncovered.{first-more, first-all, first-here, first-other}
+use Rattle.cover.proofs.Filled.{rate-low}
+use Rattle.cover.proofs.Uncovered.{first-more, first-all, first-here, other-covered}
 use Rattle.cover.proofs.first_open.Statement.{statement}
 use Rattle.cover.proofs.first_open.Tie as tie
 
@@ -24,7 +26,10 @@ leg-in-requires : tie.Need-leg-in-requires Inv-loop μ-loop
 leg-in-requires c κs = search needs
 
 returns : tie.Need-returns Inv-loop μ-loop
-returns c = first-other _ _ _ (c .before .before .leg-in .ensures) _ (c .if1 .taken)
+returns c =
+    let at-long = c .before .before in
+    let args = at-long .before .before .before .before .args in
+    first-all _ _ _ (λ k _. other-covered (args .legs .now) _ _ (at-long .leg-in .ensures) (c .if1 .taken) k)
 
 word-requires : tie.Need-word-requires Inv-loop μ-loop
 word-requires c κs = search needs
@@ -46,25 +51,25 @@ word-requires-2 c κs = search needs
 
 add-if2 : tie.Need-add-if2 Inv-loop μ-loop
 add-if2 c =
-    let start = c .before .before .before .before .before .before .before .before .before .before .before .before in
-    omega (arith, c .before .before .before .before .before .word .ensures, c .word2 .ensures, start .pre .0 .high _ (start .pre .1), start .pre .0 .high _ (c .before .before .before .loop-test .taken))
+    let turn = c .before .before .before in
+    let at-price = turn .before .before in
+    let (priced, in-book) = at-price .before .before .before .before .before .before .before .pre in
+    omega (arith, at-price .word .ensures, c .word2 .ensures, priced .high _ in-book, priced .high _ (turn .loop-test .taken))
 
 saving-requires : tie.Need-saving-requires Inv-loop μ-loop
 saving-requires c κs =
-    let start = c .before .before .before .before .before .before .before .before .before .before .before .before in
-    let long = c .before .before .before .before .before .before .before .before .leg-in .ensures in
-    let short = c .before .leg-in2 .ensures in
-    (rw long (start .pre .0 .bounded .rate _ (start .pre .1)), rw short (start .pre .0 .bounded .rate _ (c .before .before .before .loop-test .taken)))
+    let turn = c .before .before .before in
+    let at-long = turn .before .before .before .before .before in
+    let (priced, in-book) = at-long .before .before .before .before .pre in
+    (rate-low _ priced in-book (at-long .leg-in .ensures), rate-low _ priced (turn .loop-test .taken) (c .before .leg-in2 .ensures))
 
 returns-2 : tie.Need-returns-2 Inv-loop μ-loop
 returns-2 c =
     let at-saving = c .before in
-    let at-short = c .before .before .before in
-    let turn = c .before .before .before .before .before in
-    let at-price = c .before .before .before .before .before .before .before in
-    let at-long = c .before .before .before .before .before .before .before .before .before .before in
-    first-here _ _ _ (at-long .leg-in .ensures) _ (at-price .word .ensures) (at-short .leg-in2 .ensures) (at-saving .before .word2 .ensures)
-    (at-saving .saving .ensures .0) (turn .before .loop .inv) (turn .loop-test .taken) (c .if2 .taken)
+    let turn = at-saving .before .before .before .before in
+    let at-price = turn .before .before in
+    first-here _ _ _ _ (at-price .before .before .before .leg-in .ensures) (at-saving .before .before .leg-in2 .ensures) (at-price .word .ensures)
+    (at-saving .before .word2 .ensures) (at-saving .saving .ensures .0) (turn .before .loop .inv) (turn .loop-test .taken) (c .if2 .taken)
 
 add-j : tie.Need-add-j Inv-loop μ-loop
 add-j c = search needs
@@ -75,17 +80,16 @@ loop-less c = search needs
 loop-again : tie.Need-loop-again Inv-loop μ-loop
 loop-again c =
     let at-saving = c .before in
-    let at-short = c .before .before .before in
-    let turn = c .before .before .before .before .before .before in
-    let at-price = c .before .before .before .before .before .before .before in
-    let at-long = c .before .before .before .before .before .before .before .before .before .before in
-    let args = c .before .before .before .before .before .before .before .before .before .before .before .before .before .before .args in
-    below-more _ _ (turn .loop .inv)
-    (first-more (args .legs .now) (args .price .now) (args .i) (at-long .leg-in .ensures) (turn .loop .j) (at-price .word .ensures)
-    (at-short .leg-in2 .ensures) (at-saving .before .word2 .ensures) (at-saving .saving .ensures .0) (c .if2 .left))
+    let turn = at-saving .before .before .before .before in
+    let at-price = turn .before .before in
+    let at-long = at-price .before .before .before in
+    let args = at-long .before .before .before .before .args in
+    below-more _ _ (turn .before .loop .inv)
+    (first-more (args .legs .now) (args .price .now) (args .i) (turn .before .loop .j) (at-long .leg-in .ensures) (at-saving .before .before .leg-in2 .ensures)
+    (at-price .word .ensures) (at-saving .before .word2 .ensures) (at-saving .saving .ensures .0) (c .if2 .left))
 
 returns-3 : tie.Need-returns-3 Inv-loop μ-loop
-returns-3 c = first-all _ _ _ (c .before .loop .inv) (c .loop-test .left)
+returns-3 c = first-all _ _ _ (λ k h. c .before .loop .inv k (lt-of-lt-of-le h (c .loop-test .left)))
 
 pub first-open-spec : {M : Type 1} → statement M
 first-open-spec =

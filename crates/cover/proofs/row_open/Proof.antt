@@ -13,7 +13,8 @@ use Rattle.cover.proofs.row_open.Statement.{statement}
 use Rattle.cover.proofs.row_open.Tie as tie
 
 abbrev Inv-loop : tie.InvT-loop
-Inv-loop m marks rates prices mark rate price worst₀ j₀ worst j = (k : ℕ) → k < j → (l s : Leg) → Marked l mark rate → Marked s (getD marks k 0) (getD rates k 0) → savingOf l s - price - getD prices k 0 ≤ worst
+Inv-loop m marks rates prices mark rate price worst₀ j₀ worst j =
+    (k : ℕ) → k < j → (l s : Leg) → Marked l mark rate → Marked s (getD marks k 0) (getD rates k 0) → savingOf l s - price - getD prices k 0 ≤ worst
 
 abbrev μ-loop : tie.MeasureT-loop
 μ-loop m marks rates prices mark rate price worst₀ j₀ worst j = m - j
@@ -34,7 +35,9 @@ element-copy-out-asked-2 : tie.Need-element-copy-out-asked-2 Inv-loop μ-loop
 element-copy-out-asked-2 c = search needs
 
 asked-requires : tie.Need-asked-requires Inv-loop μ-loop
-asked-requires c κs = (c .before .before .before .before .pre .1 .0, c .before .before .before .before .pre .1 .1 _ (c .before .before .loop-test .taken))
+asked-requires c κs =
+    let (_, (rate, rates)) = c .before .before .before .before .pre in
+    (rate, rates _ (c .before .before .loop-test .taken))
 
 above-requires : tie.Need-above-requires Inv-loop μ-loop
 above-requires c κs = search needs

@@ -1,12 +1,12 @@
--- `scanned` finds the first gap: each turn passes a row that is no long's, that the scan finds covered, or in which the exact search finds
--- no gap. Assumes nothing.
+-- `scanned` finds the first uncovered pair: each turn passes a holding that is not long, a long that the scan finds covered, or one that the
+-- exact search finds covered. Assumes nothing.
 use mathlib.Core.Logic.{⊎-elim}
 use mathlib.Core.Path.{refl}
 use Prim.Native.Nat.{_-_}
 use native.Mathlib.Omega.{arith}
 use borrow.Author.Needs.{needs}
 use Rattle.cover.proofs.Filled.{period-low, rate-low, scan-closed}
-use Rattle.cover.proofs.Uncovered.{Closed, closed-none, closed-row, closed-other, closed-more, finds-open, finds-none}
+use Rattle.cover.proofs.Uncovered.{Closed, closed-none, other-covered, closed-row, closed-more, finds-open, finds-none}
 use Rattle.cover.proofs.scanned.Statement.{statement}
 use Rattle.cover.proofs.scanned.Tie as tie
 
@@ -83,7 +83,7 @@ loop-again c =
     (λ w. closed-row closed taken (w .6 .ensures) (w .7 .left))
     (⊎-elim
     (λ w. closed-more closed taken (scan-closed shorts _ leg (w .2 .ensures) refl (w .1 .ensures) (w .4 .ensures (w .5 .left))))
-    (λ w. closed-other closed taken (rw leg at (w .left))))
+    (λ w. closed-more closed taken (λ j _. other-covered (start .args .legs .now) _ _ leg (w .left) j)))
     (c .if1 .came)
 
 fault-at-requires-2 : tie.Need-fault-at-requires-2 Inv-loop μ-loop

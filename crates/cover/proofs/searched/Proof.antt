@@ -1,4 +1,4 @@
--- `searched` finds the first gap: each turn passes a row in which the exact search finds none. Assumes nothing.
+-- `searched` finds the first uncovered pair: each turn passes a long that is covered with every holding. Assumes nothing.
 use Prim.Native.Nat.{_-_}
 use borrow.Author.Needs.{needs}
 use Rattle.cover.proofs.Uncovered.{Closed, closed-none, closed-row, finds-open, finds-none}
@@ -6,10 +6,10 @@ use Rattle.cover.proofs.searched.Statement.{statement}
 use Rattle.cover.proofs.searched.Tie as tie
 
 abbrev Inv-loop : tie.InvT-loop
-Inv-loop n legs price i₀ i = Closed n legs price i
+Inv-loop n legs price long₀ long = Closed n legs price long
 
 abbrev μ-loop : tie.MeasureT-loop
-μ-loop n legs price i₀ i = n - i
+μ-loop n legs price long₀ long = n - long
 
 loop-holds : tie.Need-loop-holds Inv-loop μ-loop
 loop-holds c = closed-none
@@ -21,10 +21,12 @@ fault-at-requires : tie.Need-fault-at-requires Inv-loop μ-loop
 fault-at-requires c κs = search needs
 
 returns : tie.Need-returns Inv-loop μ-loop
-returns c = rw (c .fault-at .ensures) (finds-open (c .before .before .before .before .loop .inv) (c .before .before .before .loop-test .taken) (c .before .before .first-open .ensures) (c .before .if1 .taken))
+returns c =
+    let turn = c .before .before .before in
+    rw (c .fault-at .ensures) (finds-open (turn .before .loop .inv) (turn .loop-test .taken) (c .before .before .first-open .ensures) (c .before .if1 .taken))
 
-add-i : tie.Need-add-i Inv-loop μ-loop
-add-i c = search needs
+add-long : tie.Need-add-long Inv-loop μ-loop
+add-long c = search needs
 
 loop-less : tie.Need-loop-less Inv-loop μ-loop
 loop-less c = search needs
@@ -48,7 +50,7 @@ searched-spec =
     first-open-requires
     fault-at-requires
     returns
-    add-i
+    add-long
     loop-less
     loop-again
     fault-at-requires-2

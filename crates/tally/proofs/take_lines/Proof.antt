@@ -1,6 +1,6 @@
 -- `take_lines` finds the first fault of the lines in turn, and takes the lines before it off what is left. The invariant is `Walk`.
 -- Assumes nothing.
-use mathlib.Core.Path.{_≡_, sym}
+use mathlib.Core.Path.{sym}
 use mathlib.Core.List.{List, [], _∷_}
 use Prim.Native.Nat.{ℕ, _+_, _-_, _*_, _/_, _≤_, _<_}
 use native.Mathlib.Omega.{arith}
