@@ -1,5 +1,5 @@
 -- Columns that are checked are printed as their outcome, and those that a file was written into hold what it submits. Assumes nothing.
-use mathlib.Core.Path.{_≡_, refl, sym, ap, _∙_}
+use mathlib.Core.Path.{_≡_, sym}
 use mathlib.Core.Bool.{false}
 use mathlib.Core.List.{List, [], _∷_, _++_, map}
 use Prim.Native.Nat.{ℕ, _*_, _/_, _≤_}
@@ -9,7 +9,7 @@ use lib.Seq.{length-take-le}
 use Rattle.lists.specs.Each.{Each}
 use Rattle.lists.proofs.Entries.{each-append, each-map, each-so}
 use Rattle.lists.proofs.Tables.{length-to}
-use Rattle.proposal.specs.Submission.{Submission, rowsOf, pricesOf, linesOf, lineNumbers, submitted}
+use Rattle.proposal.specs.Submission.{rowsOf, pricesOf, linesOf, lineNumbers, submitted}
 use Rattle.proposal.specs.declared.Book.{Book}
 use Rattle.proposal.specs.declared.Proposal.{Proposal}
 use Rattle.columns.specs.Columns.{Columns, makeColumns, columnAt, submission, holdingSizes, lineSizes, filledFrom, filled}
@@ -51,15 +51,19 @@ equal n c cs h =
     let first : entriesOf (map length (c ∷ cs)) ≡ n = unfold entriesOf in omega (arith, h .0) in
     rw first (each-map (λ size. size ≡ 8 * n) length (c ∷ cs) h)
 
-pub cut-even : (n m : ℕ) (side long price : List ℕ) (columns lines : List (List ℕ)) → BookRoom n (side ∷ columns) price → LinesRoom m (long ∷ lines)
-    → differ (holdingSizes (cutTo n m (makeColumns (side ∷ columns) price (long ∷ lines)))) (lineSizes (cutTo n m (makeColumns (side ∷ columns) price (long ∷ lines)))) ≡ false
-unfolding holdingSizes lineSizes
-cut-even n m side long price columns lines book proposal =
-    let last : Each (Full n) (take (8 * n) price ∷ []) = (length-take-le (8 * n) price (book .prices), tt) in
-    differ-exactly _ _ .1 (
-      equal n (take (8 * n) side) (cutAll n columns ++ (take (8 * n) price ∷ [])) (each-append (Full n) (cutAll n (side ∷ columns)) (take (8 * n) price ∷ []) (cut-full n (side ∷ columns) (book .each)) last),
-      equal m (take (8 * m) long) (cutAll m lines) (cut-full m (long ∷ lines) (proposal .each)),
-    )
+module _ (n m : ℕ) (side long price : List ℕ) (columns lines : List (List ℕ)) where
+  abbrev first : Columns
+  first = cutTo n m (makeColumns (side ∷ columns) price (long ∷ lines))
+
+  pub cut-even : BookRoom n (side ∷ columns) price → LinesRoom m (long ∷ lines) → differ (holdingSizes first) (lineSizes first) ≡ false
+  unfolding holdingSizes lineSizes
+  cut-even book proposal =
+      let last : Each (Full n) (take (8 * n) price ∷ []) = (length-take-le (8 * n) price (book .prices), tt) in
+      let holdings = each-append (Full n) (cutAll n (side ∷ columns)) (take (8 * n) price ∷ []) (cut-full n (side ∷ columns) (book .each)) last in
+      differ-exactly _ _ .1 (
+        equal n (take (8 * n) side) (cutAll n columns ++ (take (8 * n) price ∷ [])) holdings,
+        equal m (take (8 * m) long) (cutAll m lines) (cut-full m (long ∷ lines) (proposal .each)),
+      )
 
 -- and where a book and a proposal were written, they hold these
 module _ (b : Book) (p : Proposal) (lines : List (List ℕ)) {columns columns′ lines′ : List (List ℕ)} {price price′ : List ℕ} where

@@ -1,11 +1,10 @@
 -- A file that is refused, and one that is read and checked, are printed as the page says. Assumes nothing.
 use mathlib.Core.Path.{_≡_, refl, sym, ap, subst, _∙_}
-use mathlib.Core.Bool.{Bool, true, false, cond}
+use mathlib.Core.Bool.{false}
 use mathlib.Core.Logic.{_↔_, _≢_}
 use mathlib.Core.List.{List, _∷_, _++_, map, flatMap}
 use Prim.Native.Nat.{ℕ, _≤_, _<_}
 use native.Mathlib.Omega.{arith}
-use lib.Dec.{eqb}
 use lib.ListN.{length, getD, take, drop, length-append}
 use lib.Seq.{length-take-le, take-at}
 use borrow.Author.Tests.{le-leb, eq-eqb, ne-eqb}

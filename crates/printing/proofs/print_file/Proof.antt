@@ -2,7 +2,6 @@
 use mathlib.Core.Path.{refl}
 use native.Mathlib.Omega.{arith}
 use borrow.Author.Needs.{needs}
-use Rattle.columns.specs.Writing.{BookRoom, LinesRoom}
 use Rattle.printing.proofs.Whole.{refused-printed, checked-printed}
 use Rattle.printing.proofs.print_file.Statement.{statement}
 use Rattle.printing.proofs.print_file.Tie as tie
@@ -14,11 +13,8 @@ lines c = c .before .before .before .before .before .before .before .before .bef
 abbrev book : tie.After-print-first-arg → tie.After-write-book
 book c = lines c .before .before .before .before .before .before .before .before .before .before
 
-abbrev columns : tie.After-print-first-arg → tie.After-line-column3
-columns c = book c .before .before .before .before .before .before .before
-
 abbrev kept : tie.After-print-first-arg → tie.Else1
-kept c = columns c .before .before .before .before .before .before .before .before .before .before .before
+kept c = book c .before .before .before .before .before .before .before .before .before .before .before .before .before .before .before .before .before .before
 
 returns : tie.Need-returns
 returns c =
