@@ -6,7 +6,8 @@ use native.Mathlib.Numerals.{add-one}
 use native.Mathlib.Omega.{arith}
 use lib.ListN.{length, take, drop, set, length-append, length-drop, take-append-drop}
 use lib.Seq.{take-at, drop-at, drop-drop, length-take-le, set-split}
-use Rattle.lists.specs.Tables.{front, overwrite}
+use Rattle.lists.specs.Tables.{listTo, front, overwrite}
+use Rattle.lists.proofs.Tables.{length-to}
 
 module _ {A : Type 0} where
   pub overwrite-front : (xs old : List A) → overwrite 0 xs old ≡ front xs old
@@ -46,3 +47,15 @@ module _ {A : Type 0} where
   pub length-overwrite : (at : ℕ) (xs old : List A) → at + length xs ≤ length old → length (overwrite at xs old) ≡ length old
   length-overwrite at xs old h =
       rw (overwrite-parts at xs old) (length-append (take at old ++ xs) (drop (at + length xs) old) ∙ omega (arith, before at xs old (omega arith), length-drop (at + length xs) old))
+
+  -- the first n entries of f at the front of a list, of the same length then, and one more
+  pub length-laid : (n : ℕ) (f : ℕ → A) (old : List A) → n ≤ length old → length (front (listTo n f) old) ≡ length old
+  unfolding overwrite
+  length-laid n f old h = length-overwrite 0 (listTo n f) old (omega (arith, length-to n f))
+
+  pub laid-more : (n : ℕ) (f : ℕ → A) (x : A) (so-far old : List A) → n < length old → x ≡ f n → so-far ≡ front (listTo n f) old → set so-far n x ≡ front (listTo (n + 1) f) old
+  unfolding overwrite listTo
+  laid-more n f x so-far old h e g =
+      let all : n < length (front (listTo n f) old) = omega (arith, length-laid n f old (omega arith)) in
+      let at : 0 + length (listTo n f) ≡ n = omega (arith, length-to n f) in
+      rw (g, e, add-one) (overwrite-one n (f n) (front (listTo n f) old) all ∙ (rw at at (overwrite-overwrite 0 (listTo n f) (f n ∷ []) old (omega arith))))

@@ -1,148 +1,152 @@
 -- A book that is opened holding by holding: what is known before each, and what it comes to. Assumes nothing.
-use mathlib.Core.Path.{_≡_, sym, ap, _∙_}
-use mathlib.Core.Bool.{Bool}
-use mathlib.Core.List.{List, []}
+use mathlib.Core.Path.{_≡_, refl, sym, ap, subst, _∙_}
+use mathlib.Core.List.{List, [], _∷_, map}
 use Prim.Native.Nat.{ℕ, _+_, _≤_, _<_}
 use native.Mathlib.Omega.{arith}
-use lib.ListN.{length, getD, set, replicate}
-use borrow.Author.Tests.{ne-eqb}
+use lib.ListN.{length, getD, set, length-set}
+use lib.Seq.{getD-set-same, getD-set-other}
+use borrow.Author.Count.{below-none, below-more}
 use Rattle.lists.specs.Choice.{firstOf}
-use Rattle.lists.specs.Tables.{zeros}
+use Rattle.lists.specs.Tables.{listTo, front}
 use Rattle.lists.proofs.Firsts.{first-of-none}
-use Rattle.lists.proofs.Tables.{getD-to, map-to, getD-same, getD-zeros}
-use Rattle.holding.specs.Holding.{Ranges, holdingOf, faultOf}
-use Rattle.holding.specs.declared.Row.{Row}
-use Rattle.holding.proofs.Ranges.{fault-none}
-use Rattle.article.specs.Answer.{Answer, makeAnswer}
-use Rattle.article.specs.Pair.{legOf, RateInRange}
-use Rattle.article.proofs.Rates.{rate-high}
-use Rattle.article.specs.declared.pair.Leg.{Leg}
-use Rattle.proposal.specs.Submission.{bookOf, rowsOf, pricesOf, noRow, noLeg}
-use Rattle.proposal.specs.Outcome.{faultAnswer, atPlace, holdingFaults, atHolding, bookFaults}
-use Rattle.proposal.proofs.Places.{none-at, at-none, first-at}
-use Rattle.proposal.proofs.PricedBooks.{rows-count}
-use Rattle.proposal.proofs.Limits.{none-ranges, ranges-none}
-use Rattle.proposal.specs.declared.Book.{Book}
-use Rattle.positions.specs.Positions.{heldBook, InBounds, noPositions, refusedAt, Opens}
-use Rattle.positions.specs.declared.Positions.{Positions}
-use Rattle.positions.specs.declared.Opened.{Opened}
+use Rattle.lists.proofs.Overwrite.{laid-more}
 use Rattle.lists.proofs.Passed.{Passed, passed-none, passed-more, passed-first, passed-all}
-use Rattle.lists.proofs.Filled.{Filled, filled-none, filled-more, filled-as, filled-all}
+use Rattle.lists.proofs.Tables.{length-to, getD-to, map-to, to-back}
+use Rattle.holding.specs.Holding.{holdingOf, rowBy, Builds}
+use Rattle.holding.specs.declared.Row.{Row}
+use Rattle.holding.specs.declared.Holding.{Holding}
+use Rattle.holding.specs.declared.Built.{Built}
+use Rattle.holding.specs.declared.Built.the-variants.{Made, Refused}
+use Rattle.holding.proofs.Ranges.{fault-none}
+use Rattle.holding.proofs.Rows.{made-row, refused-row}
+use Rattle.article.specs.Answer.{makeAnswer}
+use Rattle.article.specs.Pair.{legOf}
+use Rattle.article.specs.declared.pair.Leg.{Leg}
+use Rattle.words.specs.Words.{wordAt, entries, decode}
+use Rattle.columns.specs.Columns.{countIn, numbersAt, rowsIn}
+use Rattle.proposal.specs.Submission.{Submission, bookOf, priced, holdingAt, noRow}
+use Rattle.proposal.specs.Figures.{priceLimit}
+use Rattle.proposal.specs.Outcome.{makeFault, faultAnswer, holdingFaults, atHolding, bookFaults}
+use Rattle.proposal.specs.Demands.{Limits}
+use Rattle.proposal.specs.declared.Fault.{Fault}
+use Rattle.proposal.proofs.Limits.{row-first, price-first, none-ranges, ranges-none}
+use Rattle.proposal.proofs.Places.{none-at, at-none, first-at}
+use Rattle.proposal.proofs.PricedBooks.{leg-at, value-at, rate-at}
+use Rattle.packed.specs.Packed.{legIn, Small}
+use Rattle.packed.specs.Held.{legAt}
+use Rattle.packed.proofs.Holdings.{small}
+use Rattle.positions.specs.Opens.{OpenRoom, Opens}
 
-no-book : heldBook noPositions ≡ bookOf [] []
-unfolding heldBook bookOf noPositions
-no-book = λ j. record {
-  count = 0;
-  leg = λ k. getD-same noLeg 256 k j;
-  value = λ k. getD-zeros 256 k j;
-  price = λ k. getD-zeros 256 k j;
-}
+-- a row whose numbers were read at an entry of the columns
+pub row-read : (side kind issuer days value : List ℕ) (i : ℕ) {a b c d e : ℕ} → a ≡ wordAt side i → b ≡ wordAt kind i → c ≡ wordAt issuer i → d ≡ wordAt days i → e ≡ wordAt value i
+    → record { side = a; kind = b; issuer = c; days = d; value = e } ≡ rowBy (numbersAt (side ∷ kind ∷ issuer ∷ days ∷ value ∷ []) i)
+unfolding rowBy numbersAt
+row-read side kind issuer days value i a b c d e = λ j. record { side = a j; kind = b j; issuer = c j; days = d j; value = e j }
 
-no-bounds : InBounds noPositions
-unfolding noPositions
-no-bounds = record {
-  count = omega arith;
-  rate = λ k. rw (getD-same noLeg 256 k) (omega arith);
-  value = λ k. omega (arith, getD-zeros 256 k);
-  price = λ k. omega (arith, getD-zeros 256 k);
-}
+-- the leg of a record that was made has a code
+pub small-leg : {row : Row} {b : Built} {h : Holding} {leg : Leg} → Builds row b → b ≡ Made h → leg ≡ legOf h → Small leg
+small-leg g s e = rw e (small _ (made-row g s .0))
 
--- a holding's row, as the book has it
-abbrev row : Book → ℕ → Row
-row book k = getD (book .rows) k noRow
+abbrev row : List (List ℕ) → ℕ → Row
+row columns k = getD (rowsIn columns) k noRow
 
-module _ (book : Book) (price : List ℕ) where
-  -- a holding's faults
-  abbrev faultsAt : ℕ → List (Bool × Answer)
-  faultsAt k = atPlace k (holdingFaults (row book k) (getD price k 0))
+count : (columns : List (List ℕ)) → length (rowsIn columns) ≡ countIn columns
+unfolding rowsIn
+count columns = length-to (countIn columns) _
 
-  -- the same, as the definition reads them
-  is-listed : (k : ℕ) → k < book .count → atHolding (rowsOf book) (pricesOf book price) k ≡ faultsAt k
-  unfolding atHolding rowsOf pricesOf
-  is-listed k h = rw (getD-to (book .count) (row book) k noRow h, getD-to (book .count) (λ m. getD price m 0) k 0 h)
+module _ (columns : List (List ℕ)) (price legs₀ left₀ : List ℕ) where
+  -- before holding i: no holding before it has a fault, and of each the leg and the value are written
+  pub record Opening (legs left : List ℕ) (i : ℕ) : Type 0 where
+    pub room : OpenRoom columns price legs₀ left₀
+    pub legs-long : length legs ≡ length legs₀
+    pub left-long : length left ≡ length left₀
+    pub passed : Passed (length (rowsIn columns)) (atHolding (rowsIn columns) (decode price)) i
+    pub coded : (k : ℕ) → k < i → legAt legs k ≡ legOf (holdingOf (row columns k))
+    pub values : left ≡ front (listTo i (λ k. row columns k .value)) left₀
 
-  -- before holding i, the lists of 256 as they then stand
-  pub record Opening (ls : List Leg) (vs ps : List ℕ) (i : ℕ) : Type 0 where
-    -- no holding before it has a fault
-    pub passed : Passed (book .count) faultsAt i
-    -- of each before it the leg, the value and the price are written
-    pub legs : Filled 256 noLeg (λ k. legOf (holdingOf (row book k))) i ls
-    pub values : Filled 256 0 (λ k. row book k .value) i vs
-    pub prices : Filled 256 0 (λ k. getD price k 0) i ps
+module _ {columns : List (List ℕ)} {price legs₀ left₀ : List ℕ} where
+  pub opening-none : OpenRoom columns price legs₀ left₀ → Opening columns price legs₀ left₀ legs₀ left₀ 0
+  unfolding listTo front
+  opening-none room = record { room = room; legs-long = refl; left-long = refl; passed = passed-none; coded = below-none _; values = refl }
 
-module _ {book : Book} {price : List ℕ} {ls : List Leg} {vs ps : List ℕ} where
-  pub opening-start : ls ≡ replicate 256 noLeg → vs ≡ zeros 256 → ps ≡ zeros 256 → Opening book price ls vs ps 0
-  unfolding zeros
-  opening-start el ev ep = rw (el, ev, ep) (record { passed = passed-none; legs = filled-none 256 noLeg _; values = filled-none 256 0 _; prices = filled-none 256 0 _ })
+  module _ {legs left : List ℕ} {i : ℕ} (o : Opening columns price legs₀ left₀ legs left i) where
+    -- holding i as its row was read, and what it made
+    module _ (h : i < countIn columns) {r : Row} (e : r ≡ rowBy (numbersAt columns i)) {b : Built} (g : Builds r b) where
+      here : i < length (rowsIn columns)
+      here = rw (count columns) h
 
-  module _ {i : ℕ} (o : Opening book price ls vs ps i) where
-    -- a row without fault and a price within its limit: its leg, value and price are written
-    pub opening-more : {l : Leg} {v p : ℕ} → i < book .count → book .count ≤ 256 → faultOf (row book i) ≡ 0 → getD price i 0 ≤ 43800
-        → l ≡ legOf (holdingOf (row book i)) → v ≡ row book i .value → p ≡ getD price i 0
-        → Opening book price (set ls i l) (set vs i v) (set ps i p) (i + 1)
-    opening-more h few e m el ev ep =
-        let room : i < 256 = omega arith in
-        record {
-          passed = passed-more (o .passed) h (none-at i _ (ranges-none _ _ (fault-none _ e) m));
-          legs = filled-more 256 noLeg _ i ls _ room el (o .legs);
-          values = filled-more 256 0 _ i vs _ room ev (o .values);
-          prices = filled-more 256 0 _ i ps _ room ep (o .prices);
-        }
+      is-row : r ≡ row columns i
+      unfolding rowsIn
+      is-row = e ∙ sym (getD-to (countIn columns) _ i noRow h)
 
-    -- the faults that are passed, as the definition reads them
-    passed-listed : Passed (length (rowsOf book)) (atHolding (rowsOf book) (pricesOf book price)) i
-    passed-listed = record {
-      few = omega (arith, o .passed .few, rows-count book);
-      none = λ k l. rw (is-listed book price k (omega (arith, o .passed .few))) (o .passed .none k l);
-    }
+      builds : Builds (row columns i) b
+      builds = subst (λ (x : Row). Builds x b) is-row g
 
-    -- the first fault is at i
-    pub opens-refused : {n : ℕ} {r : Opened} → i < book .count → (n ≡ 0 → ⊥) → n ≡ firstOf (holdingFaults (row book i) (getD price i 0)) 0 → r ≡ refusedAt n i
-        → Opens (rowsOf book) (pricesOf book price) r
-    unfolding refusedAt bookFaults faultAnswer
-    opens-refused {n} h other e g = rw g (record {
-      fault = sym (passed-first passed-listed (makeAnswer 0 0 0) (rw (rows-count book) h) (λ w. rw (is-listed book price i h) (first-at i _ n e other w)));
-      positions = rw (ne-eqb n 0 other) no-book;
-      bounds = no-bounds;
-    })
+      price-is : getD (decode price) i 0 ≡ wordAt price i
+      unfolding decode entries
+      price-is = getD-to _ (wordAt price) i 0 (omega (arith, o .room .prices))
+
+      -- its first fault is the book's
+      refused : {n : ℕ} {f : Fault} → (n ≡ 0 → ⊥) → n ≡ firstOf (holdingFaults (row columns i) (getD (decode price) i 0)) 0 → f ≡ makeFault n i 0 → Opens columns price left₀ legs left f
+      unfolding bookFaults atHolding faultAnswer
+      refused {n} other first s = rw s (record {
+        fault = sym (passed-first (o .passed) (makeAnswer 0 0 0) here (λ w. first-at i _ n first other w));
+        opened = λ z. absurd (other z);
+      })
+
+      pub opens-row : {n : ℕ} {f : Fault} → b ≡ Refused n → f ≡ makeFault n i 0 → Opens columns price left₀ legs left f
+      opens-row s t =
+          let (number, other) = refused-row builds s in
+          refused other (row-first _ _ _ number other) t
+
+      pub opens-price : {m : Holding} {x : ℕ} {f : Fault} → b ≡ Made m → x ≡ wordAt price i → priceLimit < x → f ≡ makeFault 10 i 0 → Opens columns price left₀ legs left f
+      opens-price s a d t = refused (λ z. omega arith) (price-first _ _ (made-row builds s .1) (omega (arith, price-is))) t
+
+      -- without a fault, its leg and its value are written
+      pub opening-more : (code : ℕ) {m : Holding} {x : ℕ} {leg : Leg} → b ≡ Made m → x ≡ wordAt price i → x ≤ priceLimit → leg ≡ legOf m → legIn code ≡ leg
+          → Opening columns price legs₀ left₀ (set legs i code) (set left i (r .value)) (i + 1)
+      unfolding atHolding
+      opening-more code s a d el ec =
+          let (_, none, is) = made-row builds s in
+          record {
+            room = o .room;
+            legs-long = length-set legs i code ∙ o .legs-long;
+            left-long = length-set left i (r .value) ∙ o .left-long;
+            passed = passed-more (o .passed) here (none-at i _ (ranges-none _ _ (fault-none _ none) (omega (arith, price-is))));
+            coded =
+                below-more (λ (k : ℕ). legAt (set legs i code) k ≡ legOf (holdingOf (row columns k))) i
+                (λ k q. ap legIn (getD-set-other {A = ℕ} legs i k code 0 (λ z. omega arith)) ∙ o .coded k q)
+                (ap legIn (getD-set-same legs i code 0 (omega (arith, o .room .legs-held, o .legs-long))) ∙ ec ∙ el ∙ ap legOf is);
+            values = laid-more i _ _ left left₀ (omega (arith, o .room .left-held)) (ap (λ (x : Row). x .value) is-row) (o .values);
+          }
 
     -- past the last holding
-    opening-end : book .count ≤ i → Opening book price ls vs ps (book .count)
-    opening-end h =
-        let e : i ≡ book .count = omega (arith, o .passed .few) in
-        rw e at o
+    module _ (end : countIn columns ≤ i) where
+      whole : i ≡ length (rowsIn columns)
+      whole = omega (arith, count columns, o .passed .few)
 
-    abbrev opened : Positions
-    opened = record { legs = ls; values = vs; prices = ps; count = book .count }
+      abbrev book : Submission
+      book = record { rows = rowsIn columns; prices = decode price; lines = [] }
 
-    opened-book : book .count ≤ i → heldBook opened ≡ bookOf (rowsOf book) (pricesOf book price)
-    unfolding heldBook bookOf rowsOf pricesOf
-    opened-book h =
-        let whole = opening-end h in
-        λ j. record {
-          count = sym (rows-count book) j;
-          leg = λ k. (filled-as 256 noLeg _ (book .count) ls (whole .legs) k ∙ ap (λ (l : List Leg). getD l k noLeg) (sym (map-to (λ r. legOf (holdingOf r)) (book .count) (row book)))) j;
-          value = λ k. (filled-as 256 0 _ (book .count) vs (whole .values) k ∙ ap (λ (l : List ℕ). getD l k 0) (sym (map-to (λ r. r .value) (book .count) (row book)))) j;
-          price = λ k. filled-as 256 0 _ (book .count) ps (whole .prices) k j;
-        }
+      in-limits : Limits book
+      unfolding atHolding
+      in-limits =
+          let each : (k : ℕ) → k < length (rowsIn columns) → _ = λ k q. none-ranges _ _ (at-none k _ (o .passed .none k (omega (arith, whole)))) in
+          record { holdings = omega (arith, count columns, o .room .few); lines = omega arith; each-row = λ k q. each k q .0; prices = λ k q. each k q .1 }
 
-    in-ranges : (k : ℕ) → k < i → Ranges (row book k) × (getD price k 0 ≤ 43800)
-    in-ranges k h = none-ranges _ _ (at-none k _ (o .passed .none k h))
+      written : (k : ℕ) → k < length (rowsIn columns) → legAt legs k ≡ priced book .leg k
+      unfolding holdingAt
+      written k q = o .coded k (omega (arith, whole)) ∙ sym (leg-at book k q)
 
-    opened-in-bounds : book .count ≤ 256 → InBounds opened
-    unfolding legOf
-    opened-in-bounds few = record {
-      count = few;
-      rate = filled-all 256 noLeg _ RateInRange i ls (o .legs) (λ k h. rate-high _) (omega arith);
-      value = filled-all 256 0 _ (_≤ 100000000000) i vs (o .values) (λ k h. in-ranges k h .0 .value-high) (omega arith);
-      price = filled-all 256 0 _ (_≤ 43800) i ps (o .prices) (λ k h. in-ranges k h .1) (omega arith);
-    }
-
-    -- no holding has a fault
-    pub opens-all : book .count ≤ i → book .count ≤ 256 → Opens (rowsOf book) (pricesOf book price) (record { fault = record { number = 0; place = 0; second = 0 }; positions = opened })
-    unfolding bookFaults faultAnswer
-    opens-all h few = record {
-      fault = sym (first-of-none (bookFaults (rowsOf book) (pricesOf book price)) (makeAnswer 0 0 0) (passed-all passed-listed (rw (rows-count book) h)));
-      positions = opened-book h;
-      bounds = opened-in-bounds few;
-    }
+      pub opens-all : {f : Fault} → f ≡ makeFault 0 0 0 → Opens columns price left₀ legs left f
+      unfolding bookFaults faultAnswer priced bookOf
+      opens-all s = rw s (record {
+        fault = sym (first-of-none (bookFaults (rowsIn columns) (decode price)) _ (passed-all (o .passed) (omega (arith, whole))));
+        opened = λ _. record {
+          bounded = record { few = in-limits .holdings; held = omega (arith, count columns, o .room .legs-held, o .legs-long); rate = λ k q. rw (written k q) (rate-at book in-limits k q) };
+          legs = record { count = refl; leg = written };
+          values = o .values ∙ ap (λ (xs : List ℕ). front xs left₀) (sym (map-to (λ (x : Row). x .value) i _) ∙ ap (map _) (to-back i (rowsIn columns) noRow (sym whole)));
+          values-high = λ k q. rw (value-at book k) (in-limits .each-row k q .value-high);
+          prices-high = in-limits .prices;
+        };
+      })

@@ -1,111 +1,52 @@
--- `open` opens a book: each turn passes a holding without fault and writes its leg, value and price. Assumes nothing.
-use mathlib.Core.Path.{refl, ap, _∙_}
+-- `open` opens a book: each turn passes a holding without fault and writes its leg and its value. Assumes nothing.
+use mathlib.Core.Path.{_≡_, refl}
+use mathlib.Core.List.{[], _∷_}
 use Prim.Native.Nat.{_-_}
 use native.Mathlib.Omega.{arith}
-use Rattle.article.specs.Pair.{legOf}
-use Rattle.holding.proofs.Rows.{made-row, refused-row}
-use Rattle.proposal.proofs.Limits.{row-first, price-first}
-use Rattle.positions.proofs.Opening.{Opening, opening-start, opening-more, opens-refused, opens-all}
 use borrow.Author.Needs.{needs}
+use Rattle.words.specs.Words.{entries}
+use Rattle.columns.specs.Columns.{countIn}
+use Rattle.positions.proofs.Opening.{Opening, row-read, small-leg, opening-none, opening-more, opens-row, opens-price, opens-all}
 use Rattle.positions.proofs.open.Statement.{statement}
 use Rattle.positions.proofs.open.Tie as tie
 
 abbrev Inv-loop : tie.InvT-loop
-Inv-loop book price n legs₀ values₀ prices₀ i₀ legs values prices i = Opening book price legs values prices i
+Inv-loop side kind issuer days value price legs₀ left₀ n i₀ legs left i =
+    let columns = side ∷ kind ∷ issuer ∷ days ∷ value ∷ [] in
+    (n ≡ countIn columns) × Opening columns price legs₀ left₀ legs left i
 
 abbrev μ-loop : tie.MeasureT-loop
-μ-loop book price n legs₀ values₀ prices₀ i₀ legs values prices i = n - i
-
-no-legs-requires : tie.Need-no-legs-requires Inv-loop μ-loop
-no-legs-requires c κs = search needs
-
-zeros-requires : tie.Need-zeros-requires Inv-loop μ-loop
-zeros-requires c κs = search needs
-
-zeros-requires-2 : tie.Need-zeros-requires-2 Inv-loop μ-loop
-zeros-requires-2 c κs = search needs
+μ-loop side kind issuer days value price legs₀ left₀ n i₀ legs left i = n - i
 
 loop-holds : tie.Need-loop-holds Inv-loop μ-loop
-loop-holds c = opening-start (c .before .before .no-legs .ensures) (c .before .zeros .ensures) (c .zeros2 .ensures)
-
-mul-row : tie.Need-mul-row Inv-loop μ-loop
-mul-row c = search needs
-
-element-copy-out-row : tie.Need-element-copy-out-row Inv-loop μ-loop
-element-copy-out-row c = search needs
-
-holding-of-requires : tie.Need-holding-of-requires Inv-loop μ-loop
-holding-of-requires c κs = search needs
-
-enum-known-built : tie.Need-enum-known-built Inv-loop μ-loop
-enum-known-built c = search needs
-
-refused-requires : tie.Need-refused-requires Inv-loop μ-loop
-refused-requires c κs = search needs
+unfolding countIn entries
+loop-holds c = (refl, opening-none (search needs))
 
 returns : tie.Need-returns Inv-loop μ-loop
 returns c =
-    let built = c .before .before .before .before in
-    let turn = built .before .before in
-    let (number, other) = refused-row (built .holding-of .ensures) (c .before .before .built .given .1) in
-    opens-refused (turn .before .loop .inv) (turn .loop-test .taken) other (row-first _ _ _ number other) (c .refused .ensures)
-
-enum-known-built-2 : tie.Need-enum-known-built-2 Inv-loop μ-loop
-enum-known-built-2 c = search needs
-
-mul-p : tie.Need-mul-p Inv-loop μ-loop
-mul-p c = search needs
-
-array-read-p : tie.Need-array-read-p Inv-loop μ-loop
-array-read-p c = search needs
-
-refused-requires-2 : tie.Need-refused-requires-2 Inv-loop μ-loop
-refused-requires-2 c κs = search needs
+    let made = c .before .before .before .before in
+    let turn = made .before .before .before .before .before .before in
+    opens-row (turn .before .loop .inv .1) (omega arith) (search row-read) (made .holding-of .ensures) (c .before .before .built .given .1) (c .fault-at .ensures)
 
 returns-2 : tie.Need-returns-2 Inv-loop μ-loop
 returns-2 c =
-    let built = c .before .before .before .before .before in
-    let turn = built .before .before in
-    let (_, none, _) = made-row (built .holding-of .ensures) (c .before .before .before .built2 .given .1) in
-    opens-refused (turn .before .loop .inv) (turn .loop-test .taken) (λ z. omega arith) (price-first _ _ none (omega arith)) (c .refused2 .ensures)
+    let made = c .before .before .before .before .before .before in
+    let turn = made .before .before .before .before .before .before in
+    opens-price (turn .before .loop .inv .1) (omega arith) (search row-read) (made .holding-of .ensures) (c .before .before .before .before .built2 .given .1) (c .before .before .word6 .ensures) (omega arith) (c .fault-at2 .ensures)
 
-leg-of-requires : tie.Need-leg-of-requires Inv-loop μ-loop
-leg-of-requires c κs = search needs
-
-mul-legs : tie.Need-mul-legs Inv-loop μ-loop
-mul-legs c = search needs
-
-array-set-from-legs : tie.Need-array-set-from-legs Inv-loop μ-loop
-array-set-from-legs c = search needs
-
-mul-values : tie.Need-mul-values Inv-loop μ-loop
-mul-values c = search needs
-
-array-write-values : tie.Need-array-write-values Inv-loop μ-loop
-array-write-values c = search needs
-
-mul-prices : tie.Need-mul-prices Inv-loop μ-loop
-mul-prices c = search needs
-
-array-write-prices : tie.Need-array-write-prices Inv-loop μ-loop
-array-write-prices c = search needs
-
-add-i : tie.Need-add-i Inv-loop μ-loop
-add-i c = search needs
-
-loop-less : tie.Need-loop-less Inv-loop μ-loop
-loop-less c = search needs
+code-of-requires : tie.Need-code-of-requires Inv-loop μ-loop
+code-of-requires c κs =
+    let made = c .before .before .before .before .before .before in
+    small-leg (made .holding-of .ensures) (c .before .before .before .before .built2 .given .1) (c .leg-of .ensures .0)
 
 loop-again : tie.Need-loop-again Inv-loop μ-loop
 loop-again c =
-    let built = c .before .before .before .before .before in
-    let turn = built .before .before in
-    let few = turn .before .before .before .before .before .pre in
-    let (_, none, is) = made-row (built .holding-of .ensures) (c .before .before .before .built2 .given .1) in
-    opening-more (turn .before .loop .inv) (turn .loop-test .taken) few none (omega arith) (c .leg-of .ensures .0 ∙ ap legOf is) refl refl
+    let made = c .before .before .before .before .before .before .before in
+    let turn = made .before .before .before .before .before .before in
+    (turn .before .loop .inv .0, opening-more (turn .before .loop .inv .1) (omega arith) (search row-read) (made .holding-of .ensures) _ (c .before .before .before .before .before .built2 .given .1) (c .before .before .before .word6 .ensures) (omega arith) (c .before .leg-of .ensures .0) (c .code-of .ensures))
 
 returns-3 : tie.Need-returns-3 Inv-loop μ-loop
-returns-3 c = opens-all (c .before .loop .inv) (c .loop-test .left) (c .before .before .before .before .before .pre)
+returns-3 c = opens-all (c .before .before .loop .inv .1) (omega arith) (c .fault-at3 .ensures)
 
 pub open-spec : {M : Type 1} → statement M
 open-spec =
@@ -113,29 +54,34 @@ open-spec =
     (tie.spec
     Inv-loop
     μ-loop
-    no-legs-requires
-    zeros-requires
-    zeros-requires-2
     loop-holds
-    mul-row
-    element-copy-out-row
-    holding-of-requires
-    enum-known-built
-    refused-requires
+    (λ c κs. search needs)
+    (λ c κs. search needs)
+    (λ c κs. search needs)
+    (λ c κs. search needs)
+    (λ c κs. search needs)
+    (λ c κs. search needs)
+    (λ c. search needs)
+    (λ c κs. search needs)
+    (λ c. search needs)
+    (λ c. search needs)
     returns
-    enum-known-built-2
-    mul-p
-    array-read-p
-    refused-requires-2
+    (λ c. search needs)
+    (λ c κs. search needs)
+    (λ c κs. search needs)
+    (λ c. search needs)
+    (λ c. search needs)
     returns-2
-    leg-of-requires
-    mul-legs
-    array-set-from-legs
-    mul-values
-    array-write-values
-    mul-prices
-    array-write-prices
-    add-i
-    loop-less
+    (λ c κs. search needs)
+    code-of-requires
+    (λ c. search needs)
+    (λ c. search needs)
+    (λ c. search needs)
+    (λ c. search needs)
+    (λ c. search needs)
+    (λ c. search needs)
     loop-again
+    (λ c κs. search needs)
+    (λ c. search needs)
+    (λ c. search needs)
     returns-3)
