@@ -20,7 +20,8 @@ use Rattle.pairing.specs.Pairing.{pairUnits, saving, pricedTotal}
 use Rattle.ranking.specs.Ranking.{rankingOf}
 use Rattle.ranking.proofs.Ranking.{ranking-same}
 use Rattle.words.specs.Words.{wordAt, entries, decode}
-use Rattle.columns.specs.Columns.{Columns, makeColumns, countIn, rowsIn, linesIn, submission, holdingSizes, lineSizes}
+use Rattle.columns.specs.Columns.{Columns, makeColumns, columnAt, countIn, rowsIn, linesIn, submission, holdingSizes, lineSizes}
+use Rattle.columns.proofs.Columns.{column-entries}
 use Rattle.sizes.specs.Sizes.{entriesOf, differ, lengthFault}
 use Rattle.sizes.proofs.Sizes as sizes
 use Rattle.packed.specs.Held.{legAt, Legs, LegsOf, Same, AtMost, entry}
@@ -28,6 +29,7 @@ use Rattle.proposal.specs.Submission.{Submission, PricedBook, bookOf, termsOf, 
 use Rattle.proposal.specs.Figures.{priceLimit, marginLimit, remainder, margin, remaindersOf, marginsOf, unitsOf, ranked, RoundedUp}
 use Rattle.proposal.specs.Outcome.{makeFault, faultAnswer, bookFaults, linesFaults, uncoveredPairs, totalsFaults, fromPairs, fromLines, fromBook, firstFault, accepted, outcome}
 use Rattle.proposal.specs.declared.Fault.{Fault}
+use Rattle.proposal.proofs.PricedBooks.{value-at}
 use Rattle.proposal.proofs.Clear.{book-numbered, lines-numbered, uncovered-numbered}
 use Rattle.proposal.proofs.Stages.{refuses, passes, from-holdings, totals-differ, totals-equal}
 use Rattle.positions.specs.Opens.{OpenRoom, Opened, Opens}
@@ -189,6 +191,11 @@ module _ (two : Bool) (side : List ℕ) (rest : List (List ℕ)) (price long : L
       high = λ k q. rw (price-is k q) (h .opened .prices-high k (omega (arith, rows-are)));
     }
 
+    -- a holding's value is in the fifth column
+    pub value-in : Same n (wordAt (columnAt (side ∷ rest) 4)) (b .value)
+    unfolding entries
+    value-in k q = sym (value-at s k ∙ column-entries c .holding k q .value)
+
     entries-are : entries price ≡ n
     unfolding entries
     entries-are = omega (arith, h .sized .prices)
@@ -300,6 +307,11 @@ module _ (two : Bool) (side : List ℕ) (rest : List (List ℕ)) (price long : L
             ranking-is : rankingOf (entry margins) n ≡ ranked b (s .lines)
             unfolding ranked
             ranking-is = ranking-same _ _ n listed-is ∙ ap (rankingOf (margin b (s .lines))) (sym count-is)
+
+            pub margins-held : n ≤ length margins₀ → n ≤ length margins
+            margins-held q =
+                let long = length-to n (leftMargin legs left′) in
+                omega (arith, ap (λ (xs : List ℕ). length xs) (found .each), front-long (listTo n (leftMargin legs left′)) margins₀ (omega (arith, long)), q)
 
             pub all-judged : {ranks₀ ranks : List ℕ} {units cents : ℕ} → ranks ≡ front (rankingOf (entry margins) n) ranks₀ → total ≡ w .saving → units ≡ w .units + sum → RoundedUp units cents
                 → Judges two c (makeScratch left₀ margins₀ ranks₀) (makeScratch left′ margins ranks) (Accepted units cents)
