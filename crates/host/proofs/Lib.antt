@@ -1,4 +1,3 @@
 pub mod Returned
 pub mod Checked
-pub mod Fitting
 pub mod Received

@@ -28,7 +28,7 @@ use Rattle.readable.specs.Readable.{Submits}
 use Rattle.readable.proofs.Numbers.{none-exactly}
 use Rattle.readable.proofs.Exactly.{read-exactly}
 use Rattle.columns.proofs.ReadBack.{holding-written, line-written}
-use Rattle.host.proofs.Fitting.{holdings-fit, lines-fit}
+use Rattle.readable.proofs.Fitting.{holdings-fit, lines-fit}
 use Rattle.host.specs.Reading.{roomOf, readingAnswer, filling, Reads}
 
 -- nothing goes into the columns

@@ -1,20 +1,19 @@
--- A file that is refused, and one that is read and judged, are printed as the page says. Assumes nothing.
+-- A file that is refused, and one that is read and checked, are printed as the page says. Assumes nothing.
 use mathlib.Core.Path.{_≡_, refl, sym, ap, subst, _∙_}
-use mathlib.Core.Bool.{Bool, true, false, cond}
+use mathlib.Core.Bool.{false}
 use mathlib.Core.Logic.{_↔_, _≢_}
-use mathlib.Core.List.{List, _++_, flatMap}
-use Prim.Native.Nat.{ℕ, _≤_}
+use mathlib.Core.List.{List, _∷_, _++_, map, flatMap}
+use Prim.Native.Nat.{ℕ, _≤_, _<_}
 use native.Mathlib.Omega.{arith}
-use lib.Dec.{eqb}
 use lib.ListN.{length, getD, take, drop, length-append}
 use lib.Seq.{length-take-le, take-at}
 use borrow.Author.Tests.{le-leb, eq-eqb, ne-eqb}
 use Rattle.lists.specs.Tables.{front}
 use Rattle.lists.specs.Texts.{ascii}
-use Rattle.lists.proofs.Tables.{length-to, getD-every}
+use Rattle.lists.proofs.Tables.{getD-to}
 use Rattle.lists.proofs.Tests.{same-or-not}
 use Rattle.article.specs.Answer.{Answer, makeAnswer}
-use Rattle.proposal.specs.Submission.{Submission, priced, rowsOf, submitted}
+use Rattle.proposal.specs.Submission.{Submission, priced, linesOf, lineNumbers, submitted}
 use Rattle.proposal.specs.Figures.{remainder, remaindersOf, ranked}
 use Rattle.proposal.specs.Outcome.{outcome}
 use Rattle.proposal.specs.Demands.{Acceptable, Demands}
@@ -25,14 +24,17 @@ use Rattle.reader.specs.ReadsFile.{ReadsFile}
 use Rattle.reader.specs.declared.Contents.{Contents}
 use Rattle.readable.specs.Readable.{Submits}
 use Rattle.readable.proofs.Exactly.{read-exactly}
-use Rattle.verdict.specs.Judges.{Judges}
-use Rattle.verdict.specs.declared.Judgement.{Judgement}
-use Rattle.verdict.proofs.Judged.{all-ranked, nothing-past}
-use Rattle.report.specs.Report.{lineOf, refusalLine, marginLine, remainderLine, printedLines, bookLine, printedOf, reportOf}
+use Rattle.columns.specs.Columns.{makeColumns, filledFrom}
+use Rattle.columns.specs.Writing.{BookRoom, LinesRoom, BookWritten}
+use Rattle.verdict.specs.Judges.{outcomeIn}
+use Rattle.verdict.proofs.Judged.{all-ranked}
+use Rattle.report.specs.Report.{lineOf, refusalLine, marginLine, remainderLine, printedLines, bookLine, printedOf}
 use Rattle.report.specs.Written.{reportRoom, fitted, Prints}
-use Rattle.report.proofs.Judged.{report-judged}
+use Rattle.report.proofs.Judged.{ranked-texts}
 use Rattle.printing.specs.Printed.{fileAnswer, printed, holdingLine, PrintsFigures, PrintsFile}
+use Rattle.printing.specs.Columns.{cutTo, PrintsColumns}
 use Rattle.printing.specs.Within.{Within}
+use Rattle.printing.proofs.Columns.{file-fits, cut-even, cut-submitted}
 
 -- what is printed is within the list that it is printed into
 prints-within : {text old now : List ℕ} {count : ℕ} → Prints text old now count → Within count now
@@ -71,9 +73,9 @@ module _ (a : Answer) (line : ℕ → List ℕ) (order : List ℕ) where
   )
 
 -- what remains of a holding is printed as the list of remainders has it
-same-line : (s : Submission) (k : ℕ) → bookLine (priced s) (s .lines) k ≡ holdingLine s k
+same-line : (s : Submission) (k : ℕ) → k < priced s .count → bookLine (priced s) (s .lines) k ≡ holdingLine s k
 unfolding bookLine remainderLine holdingLine remaindersOf
-same-line s k = rw (getD-every (priced s .count) (remainder (priced s) (s .lines)) 0 (nothing-past s) k)
+same-line s k h = rw (getD-to (priced s .count) (remainder (priced s) (s .lines)) k 0 h)
 
 module _ (text : List ℕ) where
   -- the answer by the reader's refusals
@@ -116,7 +118,7 @@ module _ (text : List ℕ) where
     cents = fileAnswer text .second;
     keeps = subst (λ (n : ℕ). Demands s false false (makeAnswer n (fileAnswer text .first) (fileAnswer text .second))) e (accepted-least e);
     lines = accepted-lines (fileAnswer text) (bookLine (priced s) (s .lines)) (ranked (priced s) (s .lines)) e
-        ∙ ap (λ (f : ℕ → List ℕ). marginLine (fileAnswer text) ++ flatMap f (ranked (priced s) (s .lines))) (λ i k. same-line s k i)
+        ∙ ap (marginLine (fileAnswer text) ++_) (ranked-texts s _ _ (same-line s))
         ∙ (unfold marginLine in refl);
   }
 
@@ -140,11 +142,15 @@ module _ (text : List ℕ) where
         let fault : fileFault text .number ≢ 0 = λ z. h (ap number (from-file .fault) ∙ z) in
         promised (rw (answer-refused fault, ← from-file .fault, ne-eqb (d .number) 0 h) p)
 
-    pub judged-printed : {before after : List ℕ} {r : ℕ} (j : Judgement) → d .number ≡ 0 → Judges (submitted (d .book) (d .proposal)) j
-        → Prints (reportOf j (d .book .count)) before after r → PrintsFile text before after r × Within r after
-    unfolding printed submitted rowsOf
-    judged-printed j z judges p =
-        let read : submitted (d .book) (d .proposal) ≡ submissionIn text = from-file .submits ∙ rw z in
+    -- columns that the file was written into, cut behind it
+    pub checked-printed : (side long : List ℕ) (oldLines : List (List ℕ)) {olds columns lines : List (List ℕ)} {old price before after : List ℕ} {r : ℕ} → d .number ≡ 0
+        → BookWritten (d .book) (d .proposal) olds old (side ∷ columns) price → (long ∷ lines) ≡ filledFrom 0 (map lineNumbers (linesOf (d .proposal))) oldLines
+        → length olds ≡ 5 → length oldLines ≡ 3 → BookRoom (d .book .count) (side ∷ columns) price → LinesRoom (d .proposal .count) (long ∷ lines)
+        → PrintsColumns (cutTo (d .book .count) (d .proposal .count) (makeColumns (side ∷ columns) price (long ∷ lines))) before after r
+        → PrintsFile text before after r × Within r after
+    unfolding printed outcomeIn
+    checked-printed side long oldLines z book proposal five three room lines-room p =
         let none : fileFault text .number ≡ 0 = sym (ap number (from-file .fault)) ∙ z in
-        let count : length (submissionIn text .rows) ≡ d .book .count = ap (λ (s : Submission). length (s .rows)) (sym read) ∙ length-to (d .book .count) _ in
-        promised (rw (answer-checked none, ← report-judged (submissionIn text) j (rw (← read) judges), count) p)
+        let read : submitted (d .book) (d .proposal) ≡ submissionIn text = from-file .submits ∙ rw z in
+        let holds = cut-submitted (d .book) (d .proposal) oldLines book proposal five three (rw read (file-fits text none)) ∙ read in
+        promised (rw (answer-checked none) (rw (cut-even _ _ side long _ _ _ room lines-room, holds) at (p .prints)))

@@ -3,8 +3,9 @@ ghost use mathlib.Core.Path.{_≡_};
 ghost use mathlib.Core.List.{[], _∷_};
 ghost use lib.ListN.{length};
 ghost use Rattle.columns.specs.Columns.{makeColumns};
+ghost use Rattle.columns.specs.Writing.{BookRoom, LinesRoom};
 ghost use Rattle.printing.specs.Printed.{PrintsFile};
-ghost use Rattle.printing.specs.Columns.{PrintsColumns};
+ghost use Rattle.printing.specs.Columns.{cutTo, PrintsColumns};
 ghost use Rattle.printing.specs.Within.{Within};
 
 // Room for a column of 256 holdings, and for one of 512 lines.
@@ -58,6 +59,40 @@ fn print_columns(
     report::report(verdict, side.len() / 8, &left, &margins, &ranks, out)
 }
 
+// The same of the first n holdings and the first m lines of columns that may be longer.
+fn print_first(
+    n: usize,
+    m: usize,
+    side: &[u8],
+    kind: &[u8],
+    issuer: &[u8],
+    days: &[u8],
+    value: &[u8],
+    price: &[u8],
+    long: &[u8],
+    short: &[u8],
+    amount: &[u8],
+    out: &mut [u8],
+) -> usize
+    requires { ⌜ BookRoom n (now side ∷ now kind ∷ now issuer ∷ now days ∷ now value ∷ []) (now price) × LinesRoom m (now long ∷ now short ∷ now amount ∷ []) ⌝ }
+    ensures { λ r. ⌜ PrintsColumns (cutTo n m (makeColumns (now (side .entry) ∷ now (kind .entry) ∷ now (issuer .entry) ∷ now (days .entry) ∷ now (value .entry) ∷ []) (now (price .entry)) (now (long .entry) ∷ now (short .entry) ∷ now (amount .entry) ∷ []))) (now (out .entry)) (now (out .exit)) r ⌝ }
+{
+    let holdings = 8 * n;
+    let lines = 8 * m;
+    print_columns(
+        &side[..holdings],
+        &kind[..holdings],
+        &issuer[..holdings],
+        &days[..holdings],
+        &value[..holdings],
+        &price[..holdings],
+        &long[..lines],
+        &short[..lines],
+        &amount[..lines],
+        out,
+    )
+}
+
 // Prints a file at the front of out, and returns how many bytes that is. A list with less than the report's room is left alone, and 0 returned.
 pub fn print_file(text: &[u8], out: &mut [u8]) -> usize
     ensures { λ r. ⌜ PrintsFile (now (text .entry)) (now (out .entry)) (now (out .exit)) r ⌝ }
@@ -90,18 +125,18 @@ pub fn print_file(text: &[u8], out: &mut [u8]) -> usize
         &mut price,
     );
     columns::write_proposal(proposal, &mut long, &mut short, &mut amount);
-    let n = 8 * book.count;
-    let m = 8 * proposal.count;
-    print_columns(
-        &side[..n],
-        &kind[..n],
-        &issuer[..n],
-        &days[..n],
-        &value[..n],
-        &price[..n],
-        &long[..m],
-        &short[..m],
-        &amount[..m],
+    print_first(
+        book.count,
+        proposal.count,
+        &side,
+        &kind,
+        &issuer,
+        &days,
+        &value,
+        &price,
+        &long,
+        &short,
+        &amount,
         out,
     )
 }

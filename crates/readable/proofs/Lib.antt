@@ -5,3 +5,4 @@ pub mod Numbers
 pub mod Submitted
 pub mod Exactly
 pub mod Below
+pub mod Fitting

@@ -1,4 +1,4 @@
--- `report` prints the lines of a judgement. Assumes nothing.
+-- `report` prints the lines of a verdict. Assumes nothing.
 use borrow.Author.Needs.{needs}
 use Rattle.report.proofs.Written.{printed, no-room}
 use Rattle.report.proofs.Lines.{refused-written, accepted-written}
@@ -17,14 +17,14 @@ returns-2 c =
     let put = c .before .before in
     let refused = put .before .before in
     let numbered = refused .before in
-    printed (numbered .before .if1 .left) (refused-written _ _ (numbered .numbers-of .ensures) (refused .if2 .taken) (put .put-line .ensures .0))
+    printed (numbered .before .if1 .left) (refused-written _ _ _ _ _ (numbered .numbers-of .ensures) (refused .if2 .taken) (put .put-line .ensures .0))
 
 returns-3 : tie.Need-returns-3
 returns-3 c =
     let put = c .before .before in
     let margin = put .before .before .before .before in
     printed (numbered margin .before .if1 .left)
-    (accepted-written _ _ (numbered margin .numbers-of .ensures) (margin .before .before .if2 .left) (margin .put-line2 .ensures .0) (put .put-remainders .ensures))
+    (accepted-written _ _ _ _ _ (numbered margin .numbers-of .ensures) (margin .before .before .if2 .left) (margin .put-line2 .ensures .0) (put .put-remainders .ensures))
 
 pub report-spec : {M : Type 1} → statement M
 report-spec =

@@ -6,32 +6,38 @@ use native.Mathlib.Omega.{arith}
 use lib.ListN.{length}
 use Rattle.lists.specs.Each.{Each}
 use Rattle.lists.proofs.Entries.{each-so}
+use Rattle.holding.specs.Holding.{numbersOf}
 use Rattle.holding.specs.declared.Row.{Row}
 use Rattle.pairing.specs.declared.Line.{Line}
+use Rattle.proposal.specs.Submission.{lineNumbers}
 use Rattle.layout.specs.Sorts.{AreValues}
 use Rattle.layout.specs.Layout.{IsHolding, IsLine}
 use Rattle.layout.specs.declared.Sort.{Sort}
 use Rattle.readable.specs.Readable.{AreHoldings, no-holdings, holding-and, AreLines, no-lines, line-and}
 use Rattle.readable.proofs.Below.{values-below}
-use Rattle.columns.specs.Columns.{Fits, RowFits, LineFits}
+
+abbrev Fits : ℕ → Type 0
+Fits x = x < 2 ^ 64
 
 values-fit : {ss : List Sort} {ts : List (List ℕ)} {vs : List ℕ} → AreValues ss ts vs → Each Fits vs
 values-fit {vs = vs} h = each-so (λ (v : ℕ). v < 10 ^ 12) Fits (λ v l. omega (arith, l)) vs (values-below h)
 
-holding-fits : (r : List (List ℕ)) (row : Row) (price : ℕ) → IsHolding r row price → RowFits row × Fits price
+holding-fits : (r : List (List ℕ)) (row : Row) (price : ℕ) → IsHolding r row price → Each Fits (numbersOf row) × Fits price
+unfolding numbersOf
 holding-fits [] row price h = absurd h
 holding-fits (letter ∷ texts) row price (_, h) =
     let (side, (kind, (issuer, (days, (value, (price, _)))))) = values-fit h in
-    (record { fit-side = side; fit-kind = kind; fit-issuer = issuer; fit-days = days; fit-value = value }, price)
+    ((side, (kind, (issuer, (days, (value, tt))))), price)
 
-line-fits : (r : List (List ℕ)) (line : Line) → IsLine r line → LineFits line
+line-fits : (r : List (List ℕ)) (line : Line) → IsLine r line → Each Fits (lineNumbers line)
+unfolding lineNumbers
 line-fits [] line h = absurd h
 line-fits (letter ∷ texts) line (_, h) =
     let (long, (short, (amount, _))) = values-fit h in
-    record { fit-long = long; fit-short = short; fit-amount = amount }
+    (long, (short, (amount, tt)))
 
 pub record HoldingsFit (rows : List Row) (prices : List ℕ) : Type 0 where
-  pub each-row : Each RowFits rows
+  pub each-row : Each (λ row. Each Fits (numbersOf row)) rows
   pub each-price : Each Fits prices
   pub as-many : length prices ≡ length rows
 
@@ -42,6 +48,6 @@ holdings-fit (holding-and {r} {row} {price} is rest) =
     let more = holdings-fit rest in
     record { each-row = (fits, more .each-row); each-price = (dear, more .each-price); as-many = ap suc (more .as-many) }
 
-pub lines-fit : {rs : List (List (List ℕ))} {lines : List Line} → AreLines rs lines → Each LineFits lines
+pub lines-fit : {rs : List (List (List ℕ))} {lines : List Line} → AreLines rs lines → Each (λ line. Each Fits (lineNumbers line)) lines
 lines-fit no-lines = tt
 lines-fit (line-and {r} {line} is rest) = (line-fits r line is, lines-fit rest)
