@@ -24,8 +24,8 @@ pub struct Accepted {
 
 /// Checks a proposal on a book.
 ///
-/// The call needs about 126 KB of stack, whatever the size of the book: when tried, a thread of 120 KiB
-/// aborted and one of 128 KiB passed. The tests call it on one of 256 KiB.
+/// The columns are read in place. The call needs about STACK KB of stack, whatever the size of the book; the
+/// tests call it on a thread of 256 KiB.
 ///
 /// # Errors
 ///
