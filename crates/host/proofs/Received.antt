@@ -2,13 +2,14 @@
 use mathlib.Core.Path.{_≡_, refl, sym, ap, _∙_}
 use mathlib.Core.Logic.{_↔_, _≢_}
 use mathlib.Core.Bool.{Bool, true, false, cond}
-use mathlib.Core.List.{List, [], _∷_, map}
-use Prim.Native.Nat.{ℕ, suc}
+use mathlib.Core.List.{List, [], _∷_, _++_, map}
+use Prim.Native.Nat.{ℕ, suc, _*_, _/_, _≤_}
 use native.Mathlib.Omega.{arith}
 use lib.Dec.{eqb}
 use lib.ListN.{length}
 use borrow.Author.Tests.{ne-eqb}
 use Rattle.lists.specs.Choice.{firstOf}
+use Rattle.lists.specs.Each.{Each}
 use Rattle.lists.specs.Tables.{front}
 use Rattle.lists.proofs.Tables.{length-to}
 use Rattle.lists.proofs.Tests.{same-or-not}
@@ -18,8 +19,8 @@ use Rattle.proposal.specs.Submission.{Submission, lineNumbers, rowsOf, pricesOf
 use Rattle.proposal.proofs.Clear.{number}
 use Rattle.holding.specs.Holding.{numbersOf}
 use Rattle.words.specs.Words.{encode}
-use Rattle.columns.specs.Columns.{Columns, makeColumns, column, filledFrom, filled}
-use Rattle.columns.specs.Writing.{BookWritten}
+use Rattle.columns.specs.Columns.{Columns, makeColumns, holdingSizes, lineSizes, column, filledFrom, filled}
+use Rattle.columns.specs.Writing.{BookRoom, LinesRoom, BookWritten}
 use Rattle.columns.proofs.ReadBack.{price-read, rows-read, lines-read}
 use Rattle.sizes.specs.Sizes.{Room, tooShort}
 use Rattle.sizes.proofs.Sizes.{room-exactly}
@@ -42,6 +43,17 @@ none-from j (old ∷ olds) = ap (old ∷_) (none-from (suc j) olds)
 none-filled : (c : Columns) → c ≡ filled nothing c
 unfolding filled column front encode
 none-filled c = λ i. makeColumns (none-from 0 (c .holdings) i) (c .price) (none-from 0 (c .lines) i)
+
+-- what holds of every entry of two lists, and lists that hold so many numbers
+both-parts : {A : Type 0} (P : A → Type 0) (xs ys : List A) → Each P (xs ++ ys) → Each P xs × Each P ys
+both-parts P [] ys h = (tt, h)
+both-parts P (x ∷ xs) ys h =
+    let (first, second) = both-parts P xs ys (h .1) in
+    ((h .0, first), second)
+
+with-room : (n : ℕ) (columns : List (List ℕ)) → Each (λ (list : ℕ × ℕ). list .0 ≤ list .1 / 8) (map (λ (size : ℕ). (n, size)) (map length columns)) → Each (λ c. 8 * n ≤ length c) columns
+with-room n [] h = tt
+with-room n (c ∷ cs) h = (omega (arith, h .0), with-room n cs (h .1))
 
 -- what the reader answers by the refusals of the file and by the lengths of the lists
 module _ (text : List ℕ) (two : Bool) where
@@ -77,7 +89,7 @@ module _ (text : List ℕ) (before : Columns) (out : List ℕ) where
   abbrev s : Submission
   s = submissionIn text
 
-  abbrev short : Bool
+  abbrev pub short : Bool
   short = tooShort (listsOf s before) (length out)
 
   read-when : (readingAnswer text before out .number ≡ 0) ↔ (Submits text s × Room (listsOf s before) (length out))
@@ -131,14 +143,33 @@ module _ (text : List ℕ) (before : Columns) (out : List ℕ) where
       unfolding submitted linesOf
       pairs = sym (ap (λ (x : Submission). length (x .lines)) read) ∙ length-to (d .proposal .count) _
 
+      -- the lists are measured for what the text submits
+      pub measured : {two : Bool} → two ≡ tooShort (map (λ size. (d .book .count, size)) (holdingSizes before) ++ map (λ size. (d .proposal .count, size)) (lineSizes before)) (length out)
+          → two ≡ short
+      unfolding listsOf
+      measured e = e ∙ rw (← holdings, ← pairs)
+
       module _ {two : Bool} (same : two ≡ short) where
         pub list-refused : (out′ : List ℕ) (r : ℕ) → two ≡ true → Answers (makeAnswer 2 0 0) out out′ r → Reads text before before out out′ r
         unfolding readingAnswer
         list-refused out′ r e answered =
             refused (makeAnswer 2 0 0) out′ r (answer-none text short no-fault ∙ rw (sym same ∙ e)) (λ w. omega arith) answered
 
-        pub lists-hold : two ≡ false → Room (listsOf s before) (length out)
-        lists-hold e = room-exactly _ _ .0 (sym same ∙ e)
+        -- each list then has room for its numbers
+        module _ (e : two ≡ false) where
+          each-list : Each (λ (c : List ℕ). 8 * d .book .count ≤ length c) (before .holdings ++ (before .price ∷ [])) × Each (λ (c : List ℕ). 8 * d .proposal .count ≤ length c) (before .lines)
+          unfolding listsOf holdingSizes lineSizes
+          each-list =
+              let (book, lines) = both-parts (λ (list : ℕ × ℕ). list .0 ≤ list .1 / 8) (map (λ size. (length (s .rows), size)) (holdingSizes before)) (map (λ size. (length (s .lines), size)) (lineSizes before)) (room-exactly (listsOf s before) (length out) .0 (sym same ∙ e) .each) in
+              (rw (← holdings) (with-room _ (before .holdings ++ (before .price ∷ [])) book), rw (← pairs) (with-room _ (before .lines) lines))
+
+          pub book-room : BookRoom (d .book .count) (before .holdings) (before .price)
+          book-room =
+              let (columns, last) = both-parts (λ (c : List ℕ). 8 * d .book .count ≤ length c) (before .holdings) (before .price ∷ []) (each-list .0) in
+              record { few = from-file .few-holdings; each = columns; prices = last .0 }
+
+          pub lines-room : LinesRoom (d .proposal .count) (before .lines)
+          lines-room = record { few = from-file .few-lines; each = each-list .1 }
 
         pub all-read : (holdings′ : List (List ℕ)) (price′ : List ℕ) (lines′ : List (List ℕ)) (out′ : List ℕ) (r : ℕ) → length (before .holdings) ≡ 5 → length (before .lines) ≡ 3 → two ≡ false
             → BookWritten (d .book) (d .proposal) (before .holdings) (before .price) holdings′ price′ → lines′ ≡ filledFrom 0 (map lineNumbers (linesOf (d .proposal))) (before .lines)
