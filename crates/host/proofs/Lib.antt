@@ -1,3 +1,1 @@
-pub mod Returned
-pub mod Checked
 pub mod Received

@@ -22,4 +22,4 @@ print-first-spec =
     (λ c. sym (length-take-le _ _ (search needs)))
     (λ c κs. search needs)
     (λ c. search needs)
-    (λ c. search needs))
+    (λ c. c .before .before .print-columns .ensures))
