@@ -1,24 +1,25 @@
 -- Every case of the table agrees: one test, computed from the definitions over each group. Assumes nothing.
 use mathlib.Core.Path.{_≡_, refl, ap}
 use mathlib.Core.Bool.{Bool, true, false, cond}
-use mathlib.Core.List.{List, [], _∷_, flatMap}
+use mathlib.Core.List.{List, [], _∷_, map, flatMap}
 use Prim.Native.String.{String}
 use native.Mathlib.Omega.{arith}
 use lib.ListN.{length}
-use Rattle.lists.specs.Choice.{within, firstOf, count, same}
+use Rattle.lists.specs.Choice.{within, firstOf, some, count, same}
 use Rattle.lists.specs.Each.{Each}
 use Rattle.lists.specs.Order.{insert, ordered}
 use Rattle.lists.specs.Sums.{sumTo, sumOf, only}
 use Rattle.lists.specs.Tables.{listTo, turns, inTurn, front}
 use Rattle.lists.proofs.Entries.{each-so, same-true}
 use Rattle.words.specs.Words.{number, littleEndian, wordAt, entries, decode, encode}
-use Rattle.holding.specs.Holding.{rowFaults, faultOf, holdingOf, sideOf, kindOf, issuerOf, rowOf}
+use Rattle.holding.specs.Holding as row
+use Rattle.holding.specs.Holding.{identityFaults, termFaults, worthFaults, rowFaults, faultOf, holdingOf, sideOf, kindOf, issuerOf, rowOf}
 use Rattle.article.specs.Rate.{longerThan, atLeast, periodOf, percents, flatRate, bondRate, stripRate, kindRate, rateAt, rateOf}
 use Rattle.article.specs.Pair.{legOf, isLong, isShort, isBond, isStrip, isCanada, isProvince, kindsPair, sameClass, mixedClass, classRule, ruleOf, ruleRate, allowed, pairRateOf, savingRateOf, pairOf}
 use Rattle.pairing.specs.Pairing as theory
 use Rattle.pairing.specs.Pairing.{used, saving, pairUnits, pricedTotal}
 use Rattle.ranking.specs.Ranking.{ranksBefore, rankingOf}
-use Rattle.proposal.specs.Submission.{bookOf, termsOf, priced}
+use Rattle.proposal.specs.Submission.{lineNumbers, lineBy, bookOf, termsOf, priced}
 use Rattle.proposal.specs.Figures.{remainder, margin, unitsOf, remaindersOf, ranked, centsOf}
 use Rattle.proposal.specs.Outcome.{atPlace, holdingFaults, pairFaults, lineFaults, atHolding, bookFaults, atLine, linesFaults, uncovered, atPair, atLong, uncoveredPairs, totalsDiffer, totalsFaults, sizeFaults, faults, accepted, outcome}
 use Rattle.numerals.specs.Numerals.{lead, digits, valueFrom, numeralOf}
@@ -28,7 +29,8 @@ use Rattle.csv.specs.Reading.{part, textFrom, textEnd, closeFrom, closeAt, foll
 use Rattle.layout.specs.Sorts.{valueOf}
 use Rattle.layout.specs.Layout.{valuesOf, parsedOf, parse}
 use Rattle.reader.specs.File.{parsedIn, parsedRows, parsedPrices, parsedLines, submissionOf, atRecord, fileFaults, fileFault, readAnswer}
-use Rattle.sizes.specs.Sizes.{differ, tooShort, lengthFault}
+use Rattle.columns.specs.Columns.{countIn, numbersAt, rowsIn, linesIn, submission, column, filledFrom, filled}
+use Rattle.sizes.specs.Sizes.{entriesOf, unequal, differ, tooShort, lengthFault}
 use Rattle.lent.specs.Lists.{answered}
 use Rattle.report.specs.Report.{afterComma, lineOf, numbersOf, refusalLine, marginLine, remainderLine, printedLines, bookLine, printedOf}
 use Rattle.printing.specs.Printed.{fileAnswer, printed}
@@ -39,7 +41,7 @@ use Rattle.edges.specs.Edges.{table}
 
 -- no case of any group fails; where this is refused, the message names those that do
 none-fails : Each (λ cs. failing cs ≡ []) table
-unfolding starred starredFile single thirdPrice firstPrice firstAmount tooLong files recordFaults tooMany texts lending proposals refusals failing alone together judged worked within firstOf count same insert ordered sumTo sumOf only listTo turns inTurn front differ tooShort lengthFault answered readAnswer rowFaults faultOf holdingOf sideOf kindOf issuerOf rowOf longerThan atLeast periodOf percents flatRate bondRate stripRate kindRate rateAt rateOf legOf isLong isShort isBond isStrip isCanada isProvince kindsPair sameClass mixedClass classRule ruleOf ruleRate allowed pairRateOf savingRateOf pairOf used theory.savingRate saving pairUnits pricedTotal ranksBefore rankingOf bookOf termsOf priced remainder margin unitsOf remaindersOf ranked centsOf atPlace holdingFaults pairFaults lineFaults atHolding bookFaults atLine linesFaults uncovered atPair atLong uncoveredPairs totalsDiffer totalsFaults sizeFaults faults accepted outcome lead digits valueFrom numeralOf placeFrom placeOf isText isQuotable part textFrom textEnd closeFrom closeAt followedBy followed begins opens enclosed fieldAt fieldsFrom recordAt recordsFrom recordsAt recordsOf valueOf valuesOf parsedOf parse parsedIn parsedRows parsedPrices parsedLines submissionOf atRecord fileFaults fileFault afterComma lineOf numbersOf refusalLine marginLine remainderLine printedLines bookLine printedOf fileAnswer printed flatMap number littleEndian wordAt entries decode encode
+unfolding starred starredFile single thirdPrice firstPrice firstAmount tooLong files recordFaults tooMany texts lending proposals refusals failing alone together judged worked within firstOf some count same insert ordered sumTo sumOf only listTo turns inTurn front entriesOf unequal differ tooShort lengthFault countIn numbersAt rowsIn linesIn submission column filledFrom filled row.numbersOf row.rowBy lineNumbers lineBy answered readAnswer identityFaults termFaults worthFaults rowFaults faultOf holdingOf sideOf kindOf issuerOf rowOf longerThan atLeast periodOf percents flatRate bondRate stripRate kindRate rateAt rateOf legOf isLong isShort isBond isStrip isCanada isProvince kindsPair sameClass mixedClass classRule ruleOf ruleRate allowed pairRateOf savingRateOf pairOf used theory.savingRate saving pairUnits pricedTotal ranksBefore rankingOf bookOf termsOf priced remainder margin unitsOf remaindersOf ranked centsOf atPlace holdingFaults pairFaults lineFaults atHolding bookFaults atLine linesFaults uncovered atPair atLong uncoveredPairs totalsDiffer totalsFaults sizeFaults faults accepted outcome lead digits valueFrom numeralOf placeFrom placeOf isText isQuotable part textFrom textEnd closeFrom closeAt followedBy followed begins opens enclosed fieldAt fieldsFrom recordAt recordsFrom recordsAt recordsOf valueOf valuesOf parsedOf parse parsedIn parsedRows parsedPrices parsedLines submissionOf atRecord fileFaults fileFault afterComma lineOf numbersOf refusalLine marginLine remainderLine printedLines bookLine printedOf fileAnswer printed flatMap number littleEndian wordAt entries decode encode
 none-fails = (refl, (refl, (refl, (refl, (refl, (refl, (refl, (refl, (refl, (refl, (refl, (refl, (refl, (refl, tt))))))))))))))
 
 -- cases of which none fails agree

@@ -1,10 +1,11 @@
 -- A worked case, and the kinds of them: from raw numbers, from lines, from the bytes of a file to the bytes that are printed. Assumes nothing.
 use mathlib.Core.Path.{_≡_}
 use mathlib.Core.Bool.{Bool, true, false, cond, not}
-use mathlib.Core.List.{List, [], _∷_, _++_}
+use mathlib.Core.List.{List, [], _∷_, _++_, map, flatMap}
 use Prim.Native.Nat.{ℕ}
 use Prim.Native.String.{String}
 use lib.Dec.{eqb}
+use lib.ListN.{getD, take, drop, replicate}
 use Rattle.lists.specs.Choice.{same, firstOf}
 use Rattle.lists.specs.Texts.{ascii}
 use Rattle.words.specs.Words.{decode, encode}
@@ -25,7 +26,8 @@ use Rattle.layout.specs.declared.Sort.{Sort}
 use Rattle.layout.specs.declared.Value.{Value}
 use Rattle.layout.specs.declared.Value.the-variants.{Of, Wrong}
 use Rattle.layout.specs.declared.Parsed.{Parsed}
-use Rattle.sizes.specs.Sizes.{Sizes, lengthFault}
+use Rattle.columns.specs.Columns.{makeColumns, submission, filled}
+use Rattle.sizes.specs.Sizes.{entriesOf, tooShort, lengthFault}
 use Rattle.lent.specs.Lists.{answered}
 use Rattle.reader.specs.File.{atRecord, readAnswer}
 use Rattle.report.specs.Report.{numbersOf}
@@ -134,9 +136,18 @@ decodes name bytes numbers = record { name = name; computed = decode bytes; stat
 abbrev pub encodes : String → List ℕ → List ℕ → Case
 encodes name numbers bytes = record { name = name; computed = encode numbers; stated = bytes }
 
--- the refusal by the lengths of what a host lends, for two holdings and one line: the columns of the holdings, those of the lines, the two lists and the answer
-abbrev pub lengths : String → Sizes → ℕ → Case
-lengths name z n = record { name = name; computed = lengthFault z ∷ []; stated = n ∷ [] }
+-- the one refusal by each of several lengths of what a host lends: six columns of holdings, three of lines, the two lists and the answer
+abbrev pub lengths : String → List (List ℕ) → ℕ → Case
+lengths name zs n =
+    let found : List ℕ → ℕ = λ z. lengthFault (take 6 z) (take 3 (drop 6 z)) (tooShort (map (λ size. (entriesOf z, size)) (take 2 (drop 9 z))) (getD z 11 0)) in
+    record { name = name; computed = map found zs; stated = map (λ _. n) zs }
+
+-- what is submitted, written into columns: the numbers of each column in turn, and what the columns then hold, each number by its name
+abbrev pub columns : String → List Row → List ℕ → List Line → List ℕ → Case
+columns name rows prices lines expected =
+    let c = filled (record { rows = rows; prices = prices; lines = lines }) (makeColumns (replicate 5 []) [] (replicate 3 [])) in
+    let named : Submission → List ℕ = λ s. flatMap (λ r. r .side ∷ r .kind ∷ r .issuer ∷ r .days ∷ r .value ∷ []) (s .rows) ++ s .prices ++ flatMap (λ l. l .long ∷ l .short ∷ l .amount ∷ []) (s .lines) in
+    record { name = name; computed = flatMap decode (c .holdings ++ (c .price ∷ c .lines)) ++ named (submission c); stated = expected }
 
 -- an answer slice after 16 at long 1 and short 2 was put into it
 abbrev pub slice : String → List ℕ → List ℕ → Case

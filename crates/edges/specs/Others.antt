@@ -1,15 +1,14 @@
 -- Document 01, "Edges" without a star, "Shortcuts that cost margin or hide it", each refusal with its place, and each letter, code and byte of
 -- the file. Assumes nothing.
 use mathlib.Core.Bool.{true, false}
-use mathlib.Core.List.{List, [], _∷_, _++_}
+use mathlib.Core.List.{List, [], _∷_, _++_, map}
 use Prim.Native.Nat.{ℕ}
-use lib.ListN.{replicate}
+use lib.ListN.{take, drop, set, replicate}
 use Rattle.holding.specs.declared.Row.{Row}
-use Rattle.sizes.specs.Sizes.{makeSizes}
 use Rattle.layout.specs.declared.Sort.the-variants.{Side, Kind, Issuer}
 use Rattle.layout.specs.declared.Parsed.{Parsed}
 use Rattle.layout.specs.declared.Parsed.the-variants.{Holding, Line as Lined}
-use Rattle.edges.specs.Cases.{Case, rate, fault, pair, no-pair, proposal, lent, figures, prints, prints-bytes, record-at, code, letter, byte, decodes, encodes, lengths, slice, answers, line, row, L, S, B, C, R, CA, ON, QC, file, file-lines}
+use Rattle.edges.specs.Cases.{Case, rate, fault, pair, no-pair, proposal, lent, figures, prints, prints-bytes, record-at, code, letter, byte, decodes, encodes, lengths, columns, slice, answers, line, row, L, S, B, C, R, CA, ON, QC, file, file-lines}
 
 -- the book of "Largest saving first", and prices that cover it
 abbrev four : List Row
@@ -32,6 +31,10 @@ holding = Holding (row L B CA 1 1) 0
 
 abbrev pairing : Parsed
 pairing = Lined (line 0 0 1)
+
+-- the byte lengths for two holdings and one line: each column of the holdings, each of the lines, the two lists and the answer
+abbrev right : List ℕ
+right = replicate 6 16 ++ replicate 3 8 ++ replicate 3 16
 
 -- one holding, one pair
 unfoldable pub single : List Case
@@ -108,10 +111,7 @@ tooLong =
 unfoldable pub files : List Case
 files =
     -- the last CRLF is optional, and a quoted field is its text
-    prints
-    "quotes, and no CRLF at the end"
-    "H,\"L\",C,CA,1,1,0\r\nH,S,\"B\",CA,1,1,8\r\nP,0,1,1,\"\",,"
-    "M,2,1\r\nR,0,0,0\r\nR,1,0,0\r\n"
+    prints "quotes, and no CRLF at the end" "H,\"L\",C,CA,1,1,0\r\nH,S,\"B\",CA,1,1,8\r\nP,0,1,1,\"\",," "M,2,1\r\nR,0,0,0\r\nR,1,0,0\r\n"
     -- 0 or 36,501 days: 7. Value 100,000,000,001: 8
     ∷ prints "a file with 0 days" "H,L,R,ON,0,100,0\r\n" "X,7,0,0\r\n"
     ∷ prints "a file with 36,501 days" "H,L,R,ON,36501,100,0\r\n" "X,7,0,0\r\n"
@@ -146,26 +146,15 @@ recordFaults =
     ∷ prints "20 before 21" "Q,L,B,CA,1,1\r\n" "X,20,0,0\r\n"
     ∷ []
 
--- what a host lends: 1 for columns that differ or hold no whole numbers, 2 for lists that are too short; the answer slice; what the reader answers
+-- what a host lends: 1 for columns that differ or hold no whole numbers, 2 for lists that are too short; what columns hold; the answer slice; what the reader answers
 unfoldable pub lending : List Case
 lending =
-    lengths "all lengths right" (makeSizes 16 16 16 16 16 16 8 8 8 16 16 16) 0
-    ∷ lengths "one side" (makeSizes 8 16 16 16 16 16 8 8 8 16 16 16) 1
-    ∷ lengths "one kind" (makeSizes 16 8 16 16 16 16 8 8 8 16 16 16) 1
-    ∷ lengths "one issuer" (makeSizes 16 16 8 16 16 16 8 8 8 16 16 16) 1
-    ∷ lengths "days of one holding" (makeSizes 16 16 16 8 16 16 8 8 8 16 16 16) 1
-    ∷ lengths "one value" (makeSizes 16 16 16 16 8 16 8 8 8 16 16 16) 1
-    ∷ lengths "one price" (makeSizes 16 16 16 16 16 8 8 8 8 16 16 16) 1
-    ∷ lengths "three prices" (makeSizes 16 16 16 16 16 24 8 8 8 16 16 16) 1
-    ∷ lengths "two longs" (makeSizes 16 16 16 16 16 16 16 8 8 16 16 16) 1
-    ∷ lengths "no short" (makeSizes 16 16 16 16 16 16 8 0 8 16 16 16) 1
-    ∷ lengths "two amounts" (makeSizes 16 16 16 16 16 16 8 8 16 16 16 16) 1
-    ∷ lengths "holdings of 21 bytes" (makeSizes 21 21 21 21 21 21 8 8 8 16 16 16) 1
-    ∷ lengths "lines of 13 bytes" (makeSizes 16 16 16 16 16 16 13 13 13 16 16 16) 1
-    ∷ lengths "one remainder" (makeSizes 16 16 16 16 16 16 8 8 8 15 16 16) 2
-    ∷ lengths "one rank" (makeSizes 16 16 16 16 16 16 8 8 8 16 15 16) 2
-    ∷ lengths "an answer of 15 bytes" (makeSizes 16 16 16 16 16 16 8 8 8 16 16 15) 2
-    ∷ lengths "lists of 21 bytes" (makeSizes 16 16 16 16 16 16 8 8 8 21 21 21) 0
+    lengths "all lengths right, or lists of 21 bytes" (right ∷ (take 9 right ++ replicate 3 21) ∷ []) 0
+    ∷ lengths "one side, kind, issuer, days, value or price" (map (λ j. set right j 8) (0 ∷ 1 ∷ 2 ∷ 3 ∷ 4 ∷ 5 ∷ [])) 1
+    ∷ lengths "three prices, two longs, no short, or two amounts" (set right 5 24 ∷ set right 6 16 ∷ set right 7 0 ∷ set right 8 16 ∷ []) 1
+    ∷ lengths "holdings of 21 bytes, or lines of 13" ((replicate 6 21 ++ drop 6 right) ∷ (take 6 right ++ replicate 3 13 ++ drop 9 right) ∷ []) 1
+    ∷ lengths "one remainder, one rank, or an answer of 15 bytes" (set right 9 15 ∷ set right 10 15 ∷ set right 11 15 ∷ []) 2
+    ∷ columns "the columns, each number by its name" (row 1 2 3 4 5 ∷ []) (6 ∷ []) (line 7 8 9 ∷ []) (1 ∷ 2 ∷ 3 ∷ 4 ∷ 5 ∷ 6 ∷ 7 ∷ 8 ∷ 9 ∷ 1 ∷ 2 ∷ 3 ∷ 4 ∷ 5 ∷ 6 ∷ 7 ∷ 8 ∷ 9 ∷ [])
     ∷ slice "15 bytes stay as they were" (replicate 15 9) (replicate 15 9)
     ∷ slice "20 bytes keep the last four" (replicate 20 9) (1 ∷ 0 ∷ 0 ∷ 0 ∷ 0 ∷ 0 ∷ 0 ∷ 0 ∷ 2 ∷ 0 ∷ 0 ∷ 0 ∷ 0 ∷ 0 ∷ 0 ∷ 0 ∷ 9 ∷ 9 ∷ 9 ∷ 9 ∷ [])
     ∷ answers "read: two holdings, one line" false "H,L,B,CA,1,1,0\r\nH,L,B,CA,1,1,0\r\nP,0,0,1,,,\r\n" (0 ∷ 2 ∷ 1 ∷ [])

@@ -21,6 +21,16 @@ lists c =
     let start = c .before .before .before .before .before .before .before .before .before .before .before .before .before .before .before .before .before in
     makeLent (start .args .remainder .now) (start .args .ranking .now) (start .args .answer .now)
 
+returns : tie.Need-returns
+unfolding countIn entries two sizesOf
+returns c =
+    let a = c .before .before in
+    let q = a .before .before .before .before in
+    let p = q .before .before .before .before .before in
+    let v = p .before .before .before .before in
+    let k = checked (v .before .before) in
+    accepted-checks _ _ (tested k .lists-too-short .ensures) (k .check .ensures) (v .verdict .given .1) (p .write-words .ensures) (q .write-words2 .ensures) (a .put-answer .ensures)
+
 write-words-requires : tie.Need-write-words-requires
 unfolding countIn entries two sizesOf
 write-words-requires c κs =
@@ -34,16 +44,6 @@ write-words-requires-2 c κs =
     let v = c .before .before .before .before .before .before .before .before in
     let k = checked (v .before .before) in
     ranking-room _ (lists (tested k)) (tested k .lists-too-short .ensures) (k .check .ensures) (v .verdict .given .1)
-
-returns : tie.Need-returns
-unfolding countIn entries two sizesOf
-returns c =
-    let a = c .before .before in
-    let q = a .before .before .before .before in
-    let p = q .before .before .before .before .before in
-    let v = p .before .before .before .before in
-    let k = checked (v .before .before) in
-    accepted-checks _ _ (tested k .lists-too-short .ensures) (k .check .ensures) (v .verdict .given .1) (p .write-words .ensures) (q .write-words2 .ensures) (a .put-answer .ensures)
 
 returns-2 : tie.Need-returns-2
 unfolding countIn entries two sizesOf

@@ -137,6 +137,18 @@ add-units c =
     let e = before-pairs (looked (added (m .before .before .before .before) .before)) in
     omega (arith, taken e .take-lines .ensures .units-high, m .margins-of .ensures .sum-high, held (before-lines (taken e)) .sized .few)
 
+returns-6 : tie.Need-returns-6
+returns-6 c =
+    let r = c .before .before .before in
+    let m = r .before .before .before .before .before .before in
+    let p = added (m .before .before .before .before) in
+    let g = looked (p .before) in
+    let e = before-pairs g in
+    let h = held (before-lines (taken e)) in
+    let w = taken e .take-lines .ensures in
+    all-judged _ _ _ _ _ _ h w (e .if3 .left) (pairs-next _ _ _ _ _ _ h w (e .if3 .left) _ (g .first-uncovered .ensures) (p .before .if4 .left))
+    _ (total-of _ _ _ _ _ _ h (value-in _ _ _ _ _ _ h) (p .priced-total .ensures)) (m .margins-of .ensures) (r .rank .ensures) (m .before .before .before .before .if5 .left) refl (c .cents-of .ensures)
+
 rank-requires : tie.Need-rank-requires
 unfolding entries
 rank-requires c κs =
@@ -182,18 +194,6 @@ same-length-10 c =
     let kept = before-lines w .before .before .before .left in
     let book = opened (before-lines w) .«open» in
     search needs
-
-returns-6 : tie.Need-returns-6
-returns-6 c =
-    let r = c .before .before .before in
-    let m = r .before .before .before .before .before .before in
-    let p = added (m .before .before .before .before) in
-    let g = looked (p .before) in
-    let e = before-pairs g in
-    let h = held (before-lines (taken e)) in
-    let w = taken e .take-lines .ensures in
-    all-judged _ _ _ _ _ _ h w (e .if3 .left) (pairs-next _ _ _ _ _ _ h w (e .if3 .left) _ (g .first-uncovered .ensures) (p .before .if4 .left))
-    _ (total-of _ _ _ _ _ _ h (value-in _ _ _ _ _ _ h) (p .priced-total .ensures)) (m .margins-of .ensures) (r .rank .ensures) (m .before .before .before .before .if5 .left) refl (c .cents-of .ensures)
 
 pub check-spec : {M : Type 1} → statement M
 check-spec =
