@@ -24,8 +24,8 @@ pub struct Accepted {
 
 /// Checks a proposal on a book.
 ///
-/// The columns are read in place. The call needs about STACK KB of stack, whatever the size of the book; the
-/// tests call it on a thread of 256 KiB.
+/// The call needs about STACK KB of stack, whatever the size of the book. The tests call it on a thread of
+/// 256 KiB.
 ///
 /// # Errors
 ///
