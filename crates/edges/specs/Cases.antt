@@ -30,7 +30,7 @@ use Rattle.columns.specs.Columns.{makeColumns, submission, filled}
 use Rattle.sizes.specs.Sizes.{entriesOf, tooShort, lengthFault}
 use Rattle.lent.specs.Lists.{answered}
 use Rattle.reader.specs.File.{atRecord, readAnswer}
-use Rattle.report.specs.Report.{numbersOf}
+use Rattle.report.specs.Report.{answerNumbers}
 use Rattle.printing.specs.Printed.{printed}
 
 -- a case: its name, what is computed, and what is stated of it
@@ -68,7 +68,7 @@ unfoldable pub judged : Bool → Bool → List Row → List ℕ → List Line �
 judged one two rows prices lines =
     let s : Submission = record { rows = rows; prices = prices; lines = lines } in
     let a = outcome one two s in
-    numbersOf a ++ cond (eqb (a .number) 0) (remaindersOf (priced s) lines ++ ranked (priced s) lines) []
+    answerNumbers a ++ cond (eqb (a .number) 0) (remaindersOf (priced s) lines ++ ranked (priced s) lines) []
 
 -- what lines make of a book, accepted or not: units and cents, and of holding 0 the remainder and its units
 unfoldable pub worked : List Row → List Line → List ℕ
@@ -115,7 +115,7 @@ prints-bytes name text expected = record { name = name; computed = printed text;
 
 -- the refusal of a record among those that are parsed, with its place
 abbrev pub record-at : String → List Parsed → ℕ → List ℕ → Case
-record-at name parsed n expected = record { name = name; computed = numbersOf (firstOf (atRecord parsed n) (makeAnswer 0 0 0)); stated = expected }
+record-at name parsed n expected = record { name = name; computed = answerNumbers (firstOf (atRecord parsed n) (makeAnswer 0 0 0)); stated = expected }
 
 -- the number of a text of a sort, or none
 abbrev pub code : String → Sort → String → List ℕ → Case
@@ -155,7 +155,7 @@ slice name old expected = record { name = name; computed = answered (makeAnswer 
 
 -- what the reader answers to a text, by whether a lent list is too short
 abbrev pub answers : String → Bool → String → List ℕ → Case
-answers name two text expected = record { name = name; computed = numbersOf (readAnswer two (ascii text)); stated = expected }
+answers name two text expected = record { name = name; computed = answerNumbers (readAnswer two (ascii text)); stated = expected }
 
 -- long, short, amount
 abbrev pub line : ℕ → ℕ → ℕ → Line

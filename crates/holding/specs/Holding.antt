@@ -25,7 +25,7 @@ valueLimit = 100000000000
 unfoldable pub numbersOf : Row → List ℕ
 numbersOf r = r .side ∷ r .kind ∷ r .issuer ∷ r .days ∷ r .value ∷ []
 
-unfoldable pub rowBy : List ℕ → Row
+abbrev pub rowBy : List ℕ → Row
 rowBy xs = record { side = getD xs 0 0; kind = getD xs 1 0; issuer = getD xs 2 0; days = getD xs 3 0; value = getD xs 4 0 }
 
 -- side 0 and 1, kind 0 to 2, issuer 0 to 10, days 1 to 36,500, market value 1 to 100,000,000,000 cents

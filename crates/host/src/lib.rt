@@ -6,8 +6,8 @@ ghost use Rattle.lent.specs.Boundary.{Checks};
 ghost use Rattle.host.specs.Reading.{Reads};
 
 // The check of a proposal, for the host: returns the refusal number, 0 for accepted. Scratch of 16 entries serves a small book, and 256
-// any other. Nothing is presumed of the bytes or the lengths; that a
-// pointer leads to its bytes, and that no other refers to a list meanwhile, is what a slice means, and the host's borrow sees to it.
+// any other. Nothing is presumed of the bytes or the lengths; that a pointer leads to its bytes, and that no other refers to a list meanwhile, is
+// what a slice means, and the host's borrow sees to it.
 #[no_mangle]
 pub extern "C" fn margin_check(
     side: &[u8],

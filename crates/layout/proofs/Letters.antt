@@ -4,7 +4,8 @@ use mathlib.Core.List.{List}
 use Prim.Native.Nat.{ℕ, zero, suc, _≤_}
 use native.Mathlib.Omega.{arith}
 use lib.ListN.{length, getD, List·getD-eq-default}
-use Rattle.layout.specs.Layout.{sortsBy, parsedBy, lineBy}
+use Rattle.proposal.specs.Submission.{lineBy}
+use Rattle.layout.specs.Layout.{sortsBy, parsedBy}
 use Rattle.layout.specs.declared.Sort.the-variants.{Empty}
 use Rattle.layout.specs.declared.Parsed.the-variants.{Line}
 

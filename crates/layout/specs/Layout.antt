@@ -6,8 +6,10 @@ use Prim.Native.Nat.{ℕ, zero, suc}
 use lib.Dec.{eqb}
 use lib.ListN.{length, getD, replicate}
 use Rattle.lists.specs.Texts.{ascii}
+use Rattle.holding.specs.Holding.{rowBy}
 use Rattle.holding.specs.declared.Row.{Row}
 use Rattle.pairing.specs.declared.Line.{Line}
+use Rattle.proposal.specs.Submission.{lineBy}
 use Rattle.csv.specs.Reading.{part, Split, fields, malformed, recordAt, fieldsOf, Read, formed, broken}
 use Rattle.codes.specs.Codes.{placeOf}
 use Rattle.codes.specs.declared.Place.{Place}
@@ -61,12 +63,6 @@ valuesOf (s ∷ ss) [] = wrong
 valuesOf (s ∷ ss) (t ∷ ts) = andValue (valueOf s t) (valuesOf ss ts)
 
 -- what the values after a letter are: a holding's row and price, or a line
-abbrev pub rowBy : List ℕ → Row
-rowBy vs = record { side = getD vs 0 0; kind = getD vs 1 0; issuer = getD vs 2 0; days = getD vs 3 0; value = getD vs 4 0 }
-
-abbrev pub lineBy : List ℕ → Line
-lineBy vs = record { long = getD vs 0 0; short = getD vs 1 0; amount = getD vs 2 0 }
-
 abbrev pub parsedBy : ℕ → List ℕ → Parsed
 parsedBy zero vs = Holding (rowBy vs) (getD vs 5 0)
 parsedBy (suc k) vs = Lined (lineBy vs)

@@ -4,7 +4,7 @@ ghost use mathlib.Core.List.{[], _∷_};
 ghost use Rattle.article.specs.Answer.{makeAnswer};
 ghost use Rattle.words.specs.Words.{entries};
 ghost use Rattle.columns.specs.Columns.{makeColumns};
-ghost use Rattle.verdict.specs.Judges.{Room};
+ghost use Rattle.verdict.specs.Judges.{ScratchRoom};
 ghost use Rattle.lent.specs.Lists.{makeLent, Answers};
 ghost use Rattle.lent.specs.Boundary.{Checks};
 
@@ -39,7 +39,7 @@ pub fn judge(
     margins: &mut [u64],
     ranks: &mut [u64],
 ) -> u64
-    requires { ⌜ Room (entries (now side)) (now legs) (now left) (now margins) (now ranks) ⌝ }
+    requires { ⌜ ScratchRoom (entries (now side)) (now legs) (now left) (now margins) (now ranks) ⌝ }
     ensures { λ r. ⌜ Checks (makeColumns (now (side .entry) ∷ now (kind .entry) ∷ now (issuer .entry) ∷ now (days .entry) ∷ now (value .entry) ∷ []) (now (price .entry)) (now (long .entry) ∷ now (short .entry) ∷ now (amount .entry) ∷ [])) (makeLent (now (remainder .entry)) (now (ranking .entry)) (now (answer .entry))) (makeLent (now (remainder .exit)) (now (ranking .exit)) (now (answer .exit))) r ⌝ }
 {
     let n = side.len() / 8;

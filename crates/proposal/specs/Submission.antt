@@ -23,7 +23,7 @@ pub record Submission : Type 0 where
 unfoldable pub lineNumbers : Line → List ℕ
 lineNumbers l = l .long ∷ l .short ∷ l .amount ∷ []
 
-unfoldable pub lineBy : List ℕ → Line
+abbrev pub lineBy : List ℕ → Line
 lineBy xs = record { long = getD xs 0 0; short = getD xs 1 0; amount = getD xs 2 0 }
 
 -- what is read where nothing stands

@@ -6,7 +6,7 @@ use Rattle.lists.specs.Texts.{ascii}
 use Rattle.article.specs.Answer.{makeAnswer}
 use Rattle.numerals.specs.Numerals.{lead, digits}
 use Rattle.verdict.specs.declared.Verdict.the-variants.{Accepted}
-use Rattle.report.specs.Report.{afterComma, lineOf, numbersOf, refusalLine, marginLine, remainderLine, printedLines, judgedLine, reportOf}
+use Rattle.report.specs.Report.{afterComma, lineOf, answerNumbers, refusalLine, marginLine, remainderLine, printedLines, judgedLine, reportOf}
 
 -- what the check finds of document 01's file
 pub the-file :
@@ -16,7 +16,7 @@ unfolding reportOf printedLines marginLine judgedLine remainderLine lineOf after
 the-file = refl
 
 pub a-refusal : refusalLine (makeAnswer 16 0 2) ≡ ascii "X,16,0,2\r\n"
-unfolding refusalLine numbersOf lineOf afterComma digits lead flatMap
+unfolding refusalLine answerNumbers lineOf afterComma digits lead flatMap
 a-refusal = refl
 
 -- the empty book

@@ -14,7 +14,7 @@ use Rattle.numerals.proofs.Digits.{digits-word}
 use Rattle.verdict.specs.Judges.{answerOf}
 use Rattle.verdict.specs.declared.Verdict.{Verdict}
 use Rattle.report.specs.Written.{Written}
-use Rattle.report.specs.Report.{afterComma, lineOf, numbersOf, refusalLine, marginLine, remainderLine, printedLines, judgedLine, reportOf}
+use Rattle.report.specs.Report.{afterComma, lineOf, answerNumbers, refusalLine, marginLine, remainderLine, printedLines, judgedLine, reportOf}
 use Rattle.report.proofs.Written.{written-then}
 
 -- a comma and a numeral: at most 21 bytes
@@ -39,17 +39,17 @@ unfolding judgedLine remainderLine
 remainder-written left margins ranks i h r e f w = rw (getD-to 256 (λ k. getD ranks k 0) i 0 h, ← r, ← e, ← f) w
 
 -- a verdict whose number and values are these
-module _ (v : Verdict) (count : ℕ) (left margins ranks : List ℕ) {numbers : List ℕ} (e : numbers ≡ numbersOf (answerOf v)) where
+module _ (v : Verdict) (count : ℕ) (left margins ranks : List ℕ) {numbers : List ℕ} (e : numbers ≡ answerNumbers (answerOf v)) where
   pub refused-written : {next : ℕ} {old now : List ℕ} → (getD numbers 0 0 ≡ 0 → ⊥) → Written (lineOf (ascii "X") (take 3 numbers)) 0 next old now
       → Written (reportOf v count left margins ranks) 0 next old now
-  unfolding reportOf printedLines refusalLine numbersOf
+  unfolding reportOf printedLines refusalLine answerNumbers
   refused-written h w = rw (ne-eqb _ _ (rw e at h)) (rw e at w)
 
   pub accepted-written : {middle next : ℕ} {old mid now : List ℕ} → getD numbers 0 0 ≡ 0
       → Written (lineOf (ascii "M") (getD numbers 1 0 ∷ getD numbers 2 0 ∷ [])) 0 middle old mid
       → Written (flatMap (judgedLine left margins) (take count (listTo 256 (λ k. getD ranks k 0)))) middle next mid now
       → Written (reportOf v count left margins ranks) 0 next old now
-  unfolding reportOf printedLines marginLine numbersOf
+  unfolding reportOf printedLines marginLine answerNumbers
   accepted-written h p q = rw (eq-eqb _ _ (rw e at h)) (written-then (omega arith) (rw e at p) q)
 
 -- past the whole of a list of 256 more of it is the same

@@ -23,12 +23,12 @@ unfoldable pub lineOf : List ℕ → List ℕ → List ℕ
 lineOf letter numbers = letter ++ flatMap afterComma numbers ++ ascii "\r\n"
 
 -- an answer's number and values
-unfoldable pub numbersOf : Answer → List ℕ
-numbersOf a = a .number ∷ a .first ∷ a .second ∷ []
+unfoldable pub answerNumbers : Answer → List ℕ
+answerNumbers a = a .number ∷ a .first ∷ a .second ∷ []
 
 -- `X`, number, place, second place
 unfoldable pub refusalLine : Answer → List ℕ
-refusalLine a = lineOf (ascii "X") (numbersOf a)
+refusalLine a = lineOf (ascii "X") (answerNumbers a)
 
 -- M: units, cents
 unfoldable pub marginLine : Answer → List ℕ

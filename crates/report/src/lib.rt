@@ -8,7 +8,7 @@ ghost use Rattle.lists.specs.Tables.{listTo};
 ghost use Rattle.article.specs.Answer.{makeAnswer};
 ghost use Rattle.verdict.specs.Judges.{answerOf};
 ghost use Rattle.report.specs.Written.{Written, Prints};
-ghost use Rattle.report.specs.Report.{afterComma, lineOf, numbersOf, refusalLine, judgedLine, reportOf};
+ghost use Rattle.report.specs.Report.{afterComma, lineOf, answerNumbers, refusalLine, judgedLine, reportOf};
 
 // Room for 257 lines of at most 66 bytes.
 pub const ROOM: usize = 16962;
@@ -48,7 +48,7 @@ fn put_line(letter: u8, numbers: [u64; 3], count: usize, at: usize, out: &mut [u
 
 // The paper's number and values of a verdict.
 fn numbers_of(verdict: Verdict) -> [u64; 3]
-    ensures { λ r. ⌜ r ≡ numbersOf (answerOf verdict) ⌝ }
+    ensures { λ r. ⌜ r ≡ answerNumbers (answerOf verdict) ⌝ }
 {
     match verdict {
         Verdict::Accepted { units, cents } => [0, units, cents],

@@ -37,7 +37,7 @@ use Rattle.tally.specs.Lines.{LinesLent, takenLines, Walks, Takes}
 use Rattle.tally.specs.declared.Walked.{Walked}
 use Rattle.cover.specs.Cover.{Priced, Finds, Valued, Totals}
 use Rattle.figures.specs.Margins.{MarginsLent, leftMargin, Margins}
-use Rattle.verdict.specs.Judges.{refusalOf, outcomeIn, Room, Scratch, makeScratch, Judges}
+use Rattle.verdict.specs.Judges.{refusalOf, outcomeIn, ScratchRoom, Scratch, makeScratch, Judges}
 use Rattle.verdict.specs.declared.Verdict.{Verdict}
 use Rattle.verdict.specs.declared.Verdict.the-variants.{Accepted}
 use Rattle.verdict.proofs.Judged.{ranked-length, refusal-judged, figures-judged}

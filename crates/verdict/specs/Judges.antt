@@ -39,13 +39,13 @@ unfoldable pub outcomeIn : Bool → Columns → Answer
 outcomeIn two c = outcome (differ (holdingSizes c) (lineSizes c)) two (submission c)
 
 -- scratch for a book of n holdings: where there are no more than 256, an entry for each in each list
-pub record Room (n : ℕ) (legs left margins ranks : List ℕ) : Type 0 where
+pub record ScratchRoom (n : ℕ) (legs left margins ranks : List ℕ) : Type 0 where
   pub legs-held : n ≤ 256 → n ≤ length legs
   pub left-held : n ≤ 256 → n ≤ length left
   pub margins-held : n ≤ 256 → n ≤ length margins
   pub ranks-held : n ≤ 256 → n ≤ length ranks
 
--- what the check leaves in its scratch when it accepts
+-- what the check leaves in its scratch when it accepts; what it keeps in `legs` is its own, and free
 pub record Scratch : Type 0 where
   pub left : List ℕ
   pub margins : List ℕ

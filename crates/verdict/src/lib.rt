@@ -4,7 +4,7 @@ ghost use mathlib.Core.Path.{_≡_};
 ghost use mathlib.Core.List.{[], _∷_};
 ghost use Rattle.words.specs.Words.{entries};
 ghost use Rattle.columns.specs.Columns.{makeColumns};
-ghost use Rattle.verdict.specs.Judges.{refusalOf, Room, makeScratch, Judges};
+ghost use Rattle.verdict.specs.Judges.{refusalOf, ScratchRoom, makeScratch, Judges};
 
 // Accepted with its figures, or refused with number and places.
 pub enum Verdict {
@@ -47,7 +47,7 @@ pub fn check(
     margins: &mut [u64],
     ranks: &mut [u64],
 ) -> Verdict
-    requires { ⌜ Room (entries (now side)) (now legs) (now left) (now margins) (now ranks) ⌝ }
+    requires { ⌜ ScratchRoom (entries (now side)) (now legs) (now left) (now margins) (now ranks) ⌝ }
     ensures { λ r. ⌜ Judges two (makeColumns (now (side .entry) ∷ now (kind .entry) ∷ now (issuer .entry) ∷ now (days .entry) ∷ now (value .entry) ∷ []) (now (price .entry)) (now (long .entry) ∷ now (short .entry) ∷ now (amount .entry) ∷ [])) (makeScratch (now (left .entry)) (now (margins .entry)) (now (ranks .entry))) (makeScratch (now (left .exit)) (now (margins .exit)) (now (ranks .exit))) r ⌝ }
 {
     let number = sizes::lengths(

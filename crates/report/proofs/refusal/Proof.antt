@@ -1,6 +1,6 @@
 -- `refusal` prints the line of a refusal. Assumes nothing.
 use borrow.Author.Needs.{needs}
-use Rattle.report.specs.Report.{numbersOf, refusalLine}
+use Rattle.report.specs.Report.{answerNumbers, refusalLine}
 use Rattle.report.proofs.Written.{printed, no-room}
 use Rattle.report.proofs.refusal.Statement.{statement}
 use Rattle.report.proofs.refusal.Tie as tie
@@ -9,7 +9,7 @@ returns : tie.Need-returns
 returns c = no-room _ _ (search needs)
 
 returns-2 : tie.Need-returns-2
-unfolding refusalLine numbersOf
+unfolding refusalLine answerNumbers
 returns-2 c =
     let put = c .before .before in
     printed (put .before .before .if1 .left) (put .put-line .ensures .0)
