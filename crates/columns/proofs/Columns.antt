@@ -24,7 +24,6 @@ module _ (columns : List (List ℕ)) (k : ℕ) where
   number-at j = rw (nothing-there k) at (List·getD-map (λ c. wordAt c k) columns j [])
 
   pub row-at : (r : Row) → r ≡ rowBy (numbersAt columns k) → RowAt columns k r
-  unfolding rowBy
   row-at r e = record {
     side = ap (λ (r : Row). r .side) e ∙ number-at 0;
     kind = ap (λ (r : Row). r .kind) e ∙ number-at 1;
@@ -34,7 +33,6 @@ module _ (columns : List (List ℕ)) (k : ℕ) where
   }
 
   pub line-at : (l : Line) → l ≡ lineBy (numbersAt columns k) → LineAt columns k l
-  unfolding lineBy
   line-at l e = record {
     long = ap (λ (l : Line). l .long) e ∙ number-at 0;
     short = ap (λ (l : Line). l .short) e ∙ number-at 1;

@@ -14,11 +14,11 @@ use Rattle.holding.specs.declared.Built.{Built}
 use Rattle.holding.specs.declared.Built.the-variants.{Made, Refused}
 
 pub row-back : (r : Row) → rowBy (numbersOf r) ≡ r
-unfolding rowBy numbersOf
+unfolding numbersOf
 row-back r = refl
 
 pub numbers-back : (xs : List ℕ) → length xs ≡ 5 → numbersOf (rowBy xs) ≡ xs
-unfolding numbersOf rowBy listTo
+unfolding numbersOf listTo
 numbers-back xs h = to-back 5 xs 0 h
 
 module _ {r : Row} {b : Built} (p : Builds r b) where

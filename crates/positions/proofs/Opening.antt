@@ -41,7 +41,7 @@ use Rattle.positions.specs.Opens.{OpenRoom, Opens}
 pub row-read : (side kind issuer days value : List ℕ) (i : ℕ) {a b c d e : ℕ}
     → a ≡ wordAt side i → b ≡ wordAt kind i → c ≡ wordAt issuer i → d ≡ wordAt days i → e ≡ wordAt value i
     → record { side = a; kind = b; issuer = c; days = d; value = e } ≡ rowBy (numbersAt (side ∷ kind ∷ issuer ∷ days ∷ value ∷ []) i)
-unfolding rowBy numbersAt
+unfolding numbersAt
 row-read side kind issuer days value i a b c d e = λ j. record { side = a j; kind = b j; issuer = c j; days = d j; value = e j }
 
 -- the leg of a record that was made has a code

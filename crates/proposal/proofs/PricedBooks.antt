@@ -65,9 +65,9 @@ lines-count proposal = length-to (proposal .count) _
 
 -- a line and the list of its numbers give each other back
 pub line-back : (l : Line) → lineBy (lineNumbers l) ≡ l
-unfolding lineBy lineNumbers
+unfolding lineNumbers
 line-back l = refl
 
 pub line-numbers-back : (xs : List ℕ) → length xs ≡ 3 → lineNumbers (lineBy xs) ≡ xs
-unfolding lineNumbers lineBy listTo
+unfolding lineNumbers listTo
 line-numbers-back xs h = to-back 3 xs 0 h

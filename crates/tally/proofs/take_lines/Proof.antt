@@ -70,7 +70,7 @@ read : (c : tie.After-leg-in2 Inv-loop μ-loop)
     → Read (entry (now (inside c) .before) .args .n) (entry (now (inside c) .before) .args .legs .now) (lineIn (columns (now (inside c) .before)) (now (inside c) .before .loop .i))
     (record { long = inside c .before .before .before .word .result; short = inside c .before .before .word2 .result; amount = c .before .before .before .before .word3 .result })
     (c .before .before .leg-in .result) (c .leg-in2 .result)
-unfolding lineBy numbersAt
+unfolding numbersAt
 read c =
     let at = inside c in
     record {
@@ -89,13 +89,13 @@ loop-holds : tie.Need-loop-holds Inv-loop μ-loop
 loop-holds c = starts (c .before .before .before .before .before .pre .high)
 
 returns : tie.Need-returns Inv-loop μ-loop
-unfolding linesIn countIn entries lineBy numbersAt
+unfolding linesIn countIn entries numbersAt
 returns c =
     let at = c .before .before .before in
     no-long (turn (at .before)) (omega (arith, at .word .ensures, c .before .if1 .taken)) (c .stopped .ensures)
 
 returns-2 : tie.Need-returns-2 Inv-loop μ-loop
-unfolding linesIn countIn entries lineBy numbersAt
+unfolding linesIn countIn entries numbersAt
 returns-2 c =
     let listed = c .before .before in
     let at = listed .before .before in
