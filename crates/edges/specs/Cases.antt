@@ -117,17 +117,19 @@ prints-bytes name text expected = record { name = name; computed = printed text;
 abbrev pub record-at : String → List Parsed → ℕ → List ℕ → Case
 record-at name parsed n expected = record { name = name; computed = answerNumbers (firstOf (atRecord parsed n) (makeAnswer 0 0 0)); stated = expected }
 
--- the number of a text of a sort, or none
-abbrev pub code : String → Sort → String → List ℕ → Case
-code name sort text expected = record { name = name; computed = valued (valueOf sort (ascii text)); stated = expected }
+-- the numbers of texts of a sort, of records' letters, and whether bytes are TEXTDATA and may stand in quotes as they are
+abbrev pub code : String → Sort → List String → List ℕ → Case
+code name sort texts expected = record { name = name; computed = flatMap (λ text. valued (valueOf sort (ascii text))) texts; stated = expected }
 
--- the number of a record's letter, or none
-abbrev pub letter : String → String → List ℕ → Case
-letter name text expected = record { name = name; computed = valued (byPlace (placeOf (ascii text) letters)); stated = expected }
+abbrev pub letter : String → List String → List ℕ → Case
+letter name texts expected = record { name = name; computed = flatMap (λ text. valued (byPlace (placeOf (ascii text) letters))) texts; stated = expected }
 
--- a byte: whether it is TEXTDATA, and whether it may stand in quotes as it is
-abbrev pub byte : String → ℕ → ℕ → ℕ → Case
-byte name b text quotable = record { name = name; computed = flag (isText b) ∷ flag (isQuotable b) ∷ []; stated = text ∷ quotable ∷ [] }
+abbrev pub byte : String → ℕ → ℕ → List ℕ → Case
+byte name text quotable bytes = record {
+  name = name;
+  computed = flatMap (λ b. flag (isText b) ∷ flag (isQuotable b) ∷ []) bytes;
+  stated = flatMap (λ b. text ∷ quotable ∷ []) bytes;
+}
 
 -- the numbers in bytes, and the bytes of numbers
 abbrev pub decodes : String → List ℕ → List ℕ → Case

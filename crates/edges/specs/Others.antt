@@ -175,50 +175,17 @@ tooMany =
 -- the letters and codes of the file, each with its number, and texts that are none; TEXTDATA at its ends; numbers as bytes
 unfoldable pub texts : List Case
 texts =
-    letter "letter H" "H" (0 ∷ [])
-    ∷ letter "letter P" "P" (1 ∷ [])
-    ∷ letter "letter h is none" "h" []
-    ∷ letter "letter D is none" "D" []
-    ∷ code "side L" Side "L" (0 ∷ [])
-    ∷ code "side S" Side "S" (1 ∷ [])
-    ∷ code "side s is none" Side "s" []
-    ∷ code "kind B" Kind "B" (0 ∷ [])
-    ∷ code "kind C" Kind "C" (1 ∷ [])
-    ∷ code "kind R" Kind "R" (2 ∷ [])
-    ∷ code "kind c is none" Kind "c" []
-    ∷ code "kind M is none" Kind "M" []
-    ∷ code "issuer CA" Issuer "CA" (0 ∷ [])
-    ∷ code "issuer AB" Issuer "AB" (1 ∷ [])
-    ∷ code "issuer BC" Issuer "BC" (2 ∷ [])
-    ∷ code "issuer MB" Issuer "MB" (3 ∷ [])
-    ∷ code "issuer NB" Issuer "NB" (4 ∷ [])
-    ∷ code "issuer NL" Issuer "NL" (5 ∷ [])
-    ∷ code "issuer NS" Issuer "NS" (6 ∷ [])
-    ∷ code "issuer ON" Issuer "ON" (7 ∷ [])
-    ∷ code "issuer PE" Issuer "PE" (8 ∷ [])
-    ∷ code "issuer QC" Issuer "QC" (9 ∷ [])
-    ∷ code "issuer SK" Issuer "SK" (10 ∷ [])
-    ∷ code "issuer YT is none" Issuer "YT" []
-    ∷ code "issuer NT is none" Issuer "NT" []
-    ∷ code "issuer NU is none" Issuer "NU" []
-    ∷ code "issuer ca is none" Issuer "ca" []
-    ∷ code "issuer C is none" Issuer "C" []
-    ∷ code "issuer CAA is none" Issuer "CAA" []
-    ∷ code "the empty text is no issuer" Issuer "" []
-    ∷ byte "0x09, a tab" 0x09 0 0
-    ∷ byte "0x0A, LF" 0x0A 0 1
-    ∷ byte "0x0D, CR" 0x0D 0 1
-    ∷ byte "0x1F" 0x1F 0 0
-    ∷ byte "0x20, a space" 0x20 1 1
-    ∷ byte "0x21" 0x21 1 1
-    ∷ byte "0x22, the quote" 0x22 0 0
-    ∷ byte "0x23" 0x23 1 1
-    ∷ byte "0x2B" 0x2B 1 1
-    ∷ byte "0x2C, the comma" 0x2C 0 1
-    ∷ byte "0x2D" 0x2D 1 1
-    ∷ byte "0x7E" 0x7E 1 1
-    ∷ byte "0x7F, DEL" 0x7F 0 0
-    ∷ byte "0x80" 0x80 0 0
+    letter "the letters" ("H" ∷ "P" ∷ []) (0 ∷ 1 ∷ [])
+    ∷ letter "no letters" ("h" ∷ "D" ∷ []) []
+    ∷ code "the sides" Side ("L" ∷ "S" ∷ []) (0 ∷ 1 ∷ [])
+    ∷ code "no sides" Side ("s" ∷ []) []
+    ∷ code "the kinds" Kind ("B" ∷ "C" ∷ "R" ∷ []) (0 ∷ 1 ∷ 2 ∷ [])
+    ∷ code "no kinds" Kind ("c" ∷ "M" ∷ []) []
+    ∷ code "the issuers" Issuer ("CA" ∷ "AB" ∷ "BC" ∷ "MB" ∷ "NB" ∷ "NL" ∷ "NS" ∷ "ON" ∷ "PE" ∷ "QC" ∷ "SK" ∷ []) (0 ∷ 1 ∷ 2 ∷ 3 ∷ 4 ∷ 5 ∷ 6 ∷ 7 ∷ 8 ∷ 9 ∷ 10 ∷ [])
+    ∷ code "no issuers" Issuer ("YT" ∷ "NT" ∷ "NU" ∷ "ca" ∷ "C" ∷ "CAA" ∷ "" ∷ []) []
+    ∷ byte "TEXTDATA, at its ends" 1 1 (0x20 ∷ 0x21 ∷ 0x23 ∷ 0x2B ∷ 0x2D ∷ 0x7E ∷ [])
+    ∷ byte "LF, CR and the comma: in quotes alone" 0 1 (0x0A ∷ 0x0D ∷ 0x2C ∷ [])
+    ∷ byte "a tab, the quote, DEL and what is not printed: neither" 0 0 (0x09 ∷ 0x1F ∷ 0x22 ∷ 0x7F ∷ 0x80 ∷ [])
     ∷ decodes "eight bytes, the lowest first, and five more" (1 ∷ 2 ∷ 0 ∷ 0 ∷ 0 ∷ 0 ∷ 0 ∷ 3 ∷ 9 ∷ 9 ∷ 9 ∷ 9 ∷ 9 ∷ []) (216172782113784321 ∷ [])
     ∷ encodes "a number in eight bytes" (216172782113784321 ∷ []) (1 ∷ 2 ∷ 0 ∷ 0 ∷ 0 ∷ 0 ∷ 0 ∷ 3 ∷ [])
     ∷ []
