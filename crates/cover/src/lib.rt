@@ -7,14 +7,32 @@ ghost use Prim.Native.Nat.{_-_, _*_, _≤_, _<_, min};
 ghost use Rattle.article.specs.Pair.{rateLimit};
 ghost use Rattle.packed.specs.Held.{AtMost, entry};
 ghost use Rattle.cover.specs.Cover.{Priced, FirstOpen, Finds, Valued, Totals};
-ghost use Rattle.cover.specs.Shorts.{markOf, Asks, Covered, Places, Shorts};
+ghost use Rattle.cover.specs.Shorts.{markOf, markLimit, OtherClass, Asks, Covered, RowCovered, Places, Shorts};
 
-// What a pair asks of a leg beside its side and its rate, as one small number: its period, its kind and its issuer.
+// What a pair asks of a leg beside its side, kind and rate, as one small number: its period and its class, 0 for Canada and 1 for any other.
 fn mark_of(leg: Leg) -> u16
     requires { ⌜ leg .period < 256 ⌝ }
-    ensures { λ r. ⌜ r ≡ markOf leg ⌝ }
+    ensures { λ r. ⌜ (r ≡ markOf leg) × (r ≤ markLimit) ⌝ }
 {
-    (64 * leg.period + 16 * (leg.kind % 4) + leg.issuer % 16) as u16
+    if leg.issuer == 0 {
+        return (2 * leg.period) as u16;
+    }
+    (2 * leg.period + 1) as u16
+}
+
+// The mark of a short in the column of the strips, where a bond has 0.
+fn strip_mark(kind: u64, mark: u16) -> u16
+    ensures { λ r. ⌜ ((kind ≡ 0 → ⊥) → r ≡ mark) ⌝ }
+{
+    if kind == 0 { 0 } else { mark }
+}
+
+// The mark of the same period and the other class.
+fn other_class(mark: u16) -> u16
+    requires { ⌜ mark ≤ markLimit ⌝ }
+    ensures { λ r. ⌜ OtherClass mark r ⌝ }
+{
+    if mark % 2 == 0 { mark + 1 } else { mark - 1 }
 }
 
 fn twice_lesser(a: u16, b: u16) -> u16
@@ -26,29 +44,17 @@ fn twice_lesser(a: u16, b: u16) -> u16
 
 // At least what a long and a short save as a pair, by their marks and their rates a and b. Nothing else of the scan knows the pair rules.
 fn asked(long: u16, a: u16, short: u16, b: u16) -> u16
-    requires { ⌜ (a ≤ rateLimit) × (b ≤ rateLimit) ⌝ }
+    requires { ⌜ (long ≤ markLimit) × ((a ≤ rateLimit) × (b ≤ rateLimit)) ⌝ }
     ensures { λ r. ⌜ Asks long a short b r ⌝ }
 {
-    if long / 64 != short / 64 {
-        return 0;
+    let cross = other_class(long);
+    if short == cross {
+        return (a + b + 1) / 2;
     }
-    if long % 64 < 16 {
-        if short % 64 < 16 {
-            return 0;
-        }
+    if short == long {
+        return twice_lesser(a, b);
     }
-    let half = (a + b + 1) / 2;
-    let twice = twice_lesser(a, b);
-    if long % 16 == 0 {
-        if short % 16 == 0 {
-            return twice;
-        }
-        return half;
-    }
-    if short % 16 == 0 {
-        return half;
-    }
-    twice
+    0
 }
 
 // What a number is above another.
@@ -75,7 +81,7 @@ fn row_open(
     rate: u16,
     price: u16,
 ) -> bool
-    requires { ⌜ (m ≤ 256) × ((rate ≤ rateLimit) × (AtMost rateLimit m (entry (now rates)))) ⌝ }
+    requires { ⌜ (m ≤ 256) × ((mark ≤ markLimit) × ((rate ≤ rateLimit) × (AtMost rateLimit m (entry (now rates))))) ⌝ }
     ensures { λ r. ⌜ (r ≡ false → Covered mark rate price (now (marks .entry)) (now (rates .entry)) (now (prices .entry)) m) ⌝ }
 {
     let mut worst: u16 = 0;
@@ -89,24 +95,48 @@ fn row_open(
     0 < worst
 }
 
+// The same for a long leg. Two bonds save nothing, so a bond is scanned against the strips alone.
+fn long_open(
+    m: usize,
+    marks: &[u16; 256],
+    strips: &[u16; 256],
+    rates: &[u16; 256],
+    prices: &[u16; 256],
+    long: Leg,
+    price: u16,
+) -> bool
+    requires { ⌜ (m ≤ 256) × ((long .period < 256) × ((long .rate ≤ rateLimit) × (AtMost rateLimit m (entry (now rates))))) ⌝ }
+    ensures { λ r. ⌜ (r ≡ false → RowCovered long price (now (marks .entry)) (now (strips .entry)) (now (rates .entry)) (now (prices .entry)) m) ⌝ }
+{
+    let mark = mark_of(long);
+    let rate = long.rate as u16;
+    if long.kind == 0 {
+        return row_open(m, strips, rates, prices, mark, rate, price);
+    }
+    row_open(m, marks, rates, prices, mark, rate, price)
+}
+
 // The shorts of the first n holdings in columns, and how many they are.
 fn shorts_of(
     n: usize,
     legs: &[u64],
     price: &[u8],
     marks: &mut [u16; 256],
+    strips: &mut [u16; 256],
     rates: &mut [u16; 256],
     prices: &mut [u16; 256],
 ) -> usize
-    requires { ⌜ Priced n (now legs) (now price) × Places (now marks) (now rates) (now prices) ⌝ }
-    ensures { λ r. ⌜ Shorts n (now (legs .entry)) (now (price .entry)) (now (marks .exit)) (now (rates .exit)) (now (prices .exit)) r ⌝ }
+    requires { ⌜ Priced n (now legs) (now price) × Places (now marks) (now strips) (now rates) (now prices) ⌝ }
+    ensures { λ r. ⌜ Shorts n (now (legs .entry)) (now (price .entry)) (now (marks .exit)) (now (strips .exit)) (now (rates .exit)) (now (prices .exit)) r ⌝ }
 {
     let mut m: usize = 0;
     let mut j: usize = 0;
     while j < n {
         let leg = packed::leg_in(legs[j]);
         if leg.side == 1 {
-            marks[m] = mark_of(leg);
+            let mark = mark_of(leg);
+            marks[m] = mark;
+            strips[m] = strip_mark(leg.kind, mark);
             rates[m] = leg.rate as u16;
             prices[m] = words::word(price, j) as u16;
             m = m + 1;
@@ -161,10 +191,11 @@ fn scanned(
     price: &[u8],
     m: usize,
     marks: &[u16; 256],
+    strips: &[u16; 256],
     rates: &[u16; 256],
     prices: &[u16; 256],
 ) -> Fault
-    requires { ⌜ Priced n (now legs) (now price) × Shorts n (now legs) (now price) (now marks) (now rates) (now prices) m ⌝ }
+    requires { ⌜ Priced n (now legs) (now price) × Shorts n (now legs) (now price) (now marks) (now strips) (now rates) (now prices) m ⌝ }
     ensures { λ r. ⌜ Finds n (now (legs .entry)) (now (price .entry)) r ⌝ }
 {
     let mut i: usize = 0;
@@ -172,15 +203,7 @@ fn scanned(
         let long = packed::leg_in(legs[i]);
         if long.side == 0 {
             let first = words::word(price, i);
-            if row_open(
-                m,
-                marks,
-                rates,
-                prices,
-                mark_of(long),
-                long.rate as u16,
-                first as u16,
-            ) {
+            if long_open(m, marks, strips, rates, prices, long, first as u16) {
                 let j = first_open(n, legs, price, i);
                 if j < n {
                     return proposal::fault_at(16, i, j);
@@ -197,10 +220,19 @@ fn scan(n: usize, legs: &[u64], price: &[u8]) -> Fault
     ensures { λ r. ⌜ Finds n (now (legs .entry)) (now (price .entry)) r ⌝ }
 {
     let mut marks = [0u16; 256];
+    let mut strips = [0u16; 256];
     let mut rates = [0u16; 256];
     let mut prices = [0u16; 256];
-    let m = shorts_of(n, legs, price, &mut marks, &mut rates, &mut prices);
-    scanned(n, legs, price, m, &marks, &rates, &prices)
+    let m = shorts_of(
+        n,
+        legs,
+        price,
+        &mut marks,
+        &mut strips,
+        &mut rates,
+        &mut prices,
+    );
+    scanned(n, legs, price, m, &marks, &strips, &rates, &prices)
 }
 
 // The first allowed pair of the book that the prices do not cover, lowest long, then lowest short, or no fault. Columns of the shorts are

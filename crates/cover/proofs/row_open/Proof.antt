@@ -36,8 +36,8 @@ element-copy-out-asked-2 c = search needs
 
 asked-requires : tie.Need-asked-requires Inv-loop μ-loop
 asked-requires c κs =
-    let (_, (rate, rates)) = c .before .before .before .before .pre in
-    (rate, rates _ (c .before .before .loop-test .taken))
+    let (_, (mark, (rate, rates))) = c .before .before .before .before .pre in
+    (mark, (rate, rates _ (c .before .before .loop-test .taken)))
 
 above-requires : tie.Need-above-requires Inv-loop μ-loop
 above-requires c κs = search needs

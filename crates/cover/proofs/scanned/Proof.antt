@@ -1,7 +1,6 @@
 -- `scanned` finds the first uncovered pair: each turn passes a holding that is not long, a long that the scan finds covered, or one that the
 -- exact search finds covered. Assumes nothing.
 use mathlib.Core.Logic.{⊎-elim}
-use mathlib.Core.Path.{refl}
 use Prim.Native.Nat.{_-_}
 use native.Mathlib.Omega.{arith}
 use borrow.Author.Needs.{needs}
@@ -11,10 +10,10 @@ use Rattle.cover.proofs.scanned.Statement.{statement}
 use Rattle.cover.proofs.scanned.Tie as tie
 
 abbrev Inv-loop : tie.InvT-loop
-Inv-loop n legs price m marks rates prices i₀ i = Closed n legs price i
+Inv-loop n legs price m marks strips rates prices i₀ i = Closed n legs price i
 
 abbrev μ-loop : tie.MeasureT-loop
-μ-loop n legs price m marks rates prices i₀ i = n - i
+μ-loop n legs price m marks strips rates prices i₀ i = n - i
 
 loop-holds : tie.Need-loop-holds Inv-loop μ-loop
 loop-holds c = closed-none
@@ -31,28 +30,18 @@ leg-in-requires c κs = search needs
 word-requires : tie.Need-word-requires Inv-loop μ-loop
 word-requires c κs = search needs
 
-mark-of-requires : tie.Need-mark-of-requires Inv-loop μ-loop
-mark-of-requires c κs = rw (c .before .before .before .leg-in .ensures) (period-low _)
-
-cast-row-open : tie.Need-cast-row-open Inv-loop μ-loop
-cast-row-open c =
-    let turn = c .before .before .before .before .before .before .before in
+cast-long-open : tie.Need-cast-long-open Inv-loop μ-loop
+cast-long-open c =
+    let turn = c .before .before .before .before .before in
     let start = turn .before .before .before .before in
-    omega (arith, rate-low _ (start .pre .0) (turn .loop-test .taken) (c .before .before .before .before .before .leg-in .ensures))
+    omega (arith, c .word .ensures, start .pre .0 .high _ (turn .loop-test .taken))
 
-cast-row-open-2 : tie.Need-cast-row-open-2 Inv-loop μ-loop
-cast-row-open-2 c =
-    let turn = c .before .before .before .before .before .before .before in
-    let start = turn .before .before .before .before in
-    omega (arith, c .before .before .word .ensures, start .pre .0 .high _ (turn .loop-test .taken))
-
-row-open-requires : tie.Need-row-open-requires Inv-loop μ-loop
-row-open-requires c κs =
-    let turn = c .before .before .before .before .before .before .before in
-    let start = turn .before .before .before .before in
-    let leg = c .before .before .before .before .before .leg-in .ensures in
-    let (priced, shorts) = start .pre in
-    (omega (arith, shorts .few, priced .bounded .few), (rate-low _ priced (turn .loop-test .taken) leg, shorts .rates-high))
+long-open-requires : tie.Need-long-open-requires Inv-loop μ-loop
+long-open-requires c κs =
+    let turn = c .before .before .before .before .before in
+    let leg = c .before .before .before .leg-in .ensures in
+    let (priced, shorts) = turn .before .before .before .before .pre in
+    (omega (arith, shorts .few, priced .bounded .few), (rw leg (period-low _), (rate-low _ priced (turn .loop-test .taken) leg, shorts .rates-high)))
 
 first-open-requires : tie.Need-first-open-requires Inv-loop μ-loop
 first-open-requires c κs = search needs
@@ -62,7 +51,7 @@ fault-at-requires c κs = search needs
 
 returns : tie.Need-returns Inv-loop μ-loop
 returns c =
-    let turn = c .before .before .before .before .before .before .before .before .before .before .before .before in
+    let turn = c .before .before .before .before .before .before .before .before .before .before in
     rw (c .fault-at .ensures) (finds-open (turn .before .loop .inv) (turn .loop-test .taken) (c .before .before .first-open .ensures) (c .before .if3 .taken))
 
 add-i : tie.Need-add-i Inv-loop μ-loop
@@ -80,9 +69,9 @@ loop-again c =
     let leg = c .before .before .leg-in .ensures in
     let shorts = start .pre .1 in
     ⊎-elim
-    (λ w. closed-row closed taken (w .6 .ensures) (w .7 .left))
+    (λ w. closed-row closed taken (w .4 .ensures) (w .5 .left))
     (⊎-elim
-    (λ w. closed-more closed taken (scan-closed shorts _ leg (w .2 .ensures) refl (w .1 .ensures) (w .4 .ensures (w .5 .left))))
+    (λ w. closed-more closed taken (scan-closed shorts _ leg (w .1 .ensures) (w .2 .ensures (w .3 .left))))
     (λ w. closed-more closed taken (λ j _. other-covered (start .args .legs .now) _ _ leg (w .left) j)))
     (c .if1 .came)
 
@@ -103,10 +92,8 @@ scanned-spec =
     shared-slice-read-leg-in
     leg-in-requires
     word-requires
-    mark-of-requires
-    cast-row-open
-    cast-row-open-2
-    row-open-requires
+    cast-long-open
+    long-open-requires
     first-open-requires
     fault-at-requires
     returns

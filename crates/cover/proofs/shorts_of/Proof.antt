@@ -8,10 +8,10 @@ use Rattle.cover.proofs.shorts_of.Statement.{statement}
 use Rattle.cover.proofs.shorts_of.Tie as tie
 
 abbrev Inv-loop : tie.InvT-loop
-Inv-loop n legs price marks₀ rates₀ prices₀ m₀ j₀ marks rates prices m j = Filling n legs price marks rates prices m j
+Inv-loop n legs price marks₀ strips₀ rates₀ prices₀ m₀ j₀ marks strips rates prices m j = Filling n legs price marks strips rates prices m j
 
 abbrev μ-loop : tie.MeasureT-loop
-μ-loop n legs price marks₀ rates₀ prices₀ m₀ j₀ marks rates prices m j = n - j
+μ-loop n legs price marks₀ strips₀ rates₀ prices₀ m₀ j₀ marks strips rates prices m j = n - j
 
 loop-holds : tie.Need-loop-holds Inv-loop μ-loop
 loop-holds c = filling-none (c .before .before .pre .1)
@@ -34,11 +34,20 @@ mul-marks c = search needs
 element-write-marks : tie.Need-element-write-marks Inv-loop μ-loop
 element-write-marks c = search needs
 
+strip-mark-requires : tie.Need-strip-mark-requires Inv-loop μ-loop
+strip-mark-requires c κs = search needs
+
+mul-strips : tie.Need-mul-strips Inv-loop μ-loop
+mul-strips c = search needs
+
+element-write-strips : tie.Need-element-write-strips Inv-loop μ-loop
+element-write-strips c = search needs
+
 cast-rates : tie.Need-cast-rates Inv-loop μ-loop
 cast-rates c =
-    let turn = c .before .before .before .before .before .before in
+    let turn = c .before .before .before .before .before .before .before in
     let start = turn .before .before .before .before in
-    omega (arith, rate-low _ (start .pre .0) (turn .loop-test .taken) (c .before .before .before .before .leg-in .ensures))
+    omega (arith, rate-low _ (start .pre .0) (turn .loop-test .taken) (c .before .before .before .before .before .leg-in .ensures))
 
 mul-rates : tie.Need-mul-rates Inv-loop μ-loop
 mul-rates c = search needs
@@ -51,7 +60,7 @@ word-requires c κs = search needs
 
 cast-prices : tie.Need-cast-prices Inv-loop μ-loop
 cast-prices c =
-    let turn = c .before .before .before .before .before .before .before in
+    let turn = c .before .before .before .before .before .before .before .before in
     let start = turn .before .before .before .before in
     omega (arith, c .word .ensures, start .pre .0 .high _ (turn .loop-test .taken))
 
@@ -77,8 +86,8 @@ loop-again c =
     let leg = c .before .before .leg-in .ensures in
     let priced = turn .before .before .before .before .pre .0 in
     ⊎-elim
-    (λ w. rw (w .4, w .5, w .6, w .7) (filling-more filling leg (turn .loop-test .taken) priced (w .1 .ensures) (w .3 .ensures)))
-    (λ w. rw (w .1, w .2, w .3, w .4) (filling-other filling leg (turn .loop-test .taken) (w .0 .left)))
+    (λ w. rw (w .5, w .6, w .7, w .8, w .9) (filling-more filling leg (turn .loop-test .taken) priced (w .1 .ensures .0) (w .2 .ensures) (w .4 .ensures)))
+    (λ w. rw (w .1, w .2, w .3, w .4, w .5) (filling-other filling leg (turn .loop-test .taken) (w .0 .left)))
     (c .if1 .came)
 
 returns : tie.Need-returns Inv-loop μ-loop
@@ -97,6 +106,9 @@ shorts-of-spec =
     mark-of-requires
     mul-marks
     element-write-marks
+    strip-mark-requires
+    mul-strips
+    element-write-strips
     cast-rates
     mul-rates
     element-write-rates
