@@ -24,7 +24,7 @@ pub struct Accepted {
 
 /// Checks a proposal on a book.
 ///
-/// The call needs about 11 KB of stack, whatever the size of the book: 10,504 bytes of a stack that was
+/// The call needs about 11 KB of stack, whatever the size of the book: 10,968 bytes of a stack that was
 /// filled before were written, by a book of 1, of 16, of 17 and of 256 holdings. The tests call it on a
 /// thread of 24 KiB.
 ///
