@@ -1,5 +1,4 @@
 -- `entry` is what a list has at a number. Assumes nothing.
-use mathlib.Core.Path.{sym}
 use lib.ListN.{List·getD-eq-default}
 use borrow.Author.Needs.{needs}
 use Rattle.report.proofs.entry.Statement.{statement}

@@ -1,8 +1,5 @@
 -- `numbers_of` gives a verdict in the paper's numbers. Assumes nothing.
-use mathlib.Core.Path.{sym, ap}
 use borrow.Author.Needs.{needs}
-use Rattle.verdict.specs.Judges.{answerOf}
-use Rattle.verdict.specs.declared.Verdict.{Verdict}
 use Rattle.report.specs.Report.{answerNumbers}
 use Rattle.report.proofs.numbers_of.Statement.{statement}
 use Rattle.report.proofs.numbers_of.Tie as tie
