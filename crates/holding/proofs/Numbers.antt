@@ -1,5 +1,5 @@
 -- A record has the numbers of its cases. Assumes nothing.
-use mathlib.Core.Path.{_≡_, refl, ap, _∙_}
+use mathlib.Core.Path.{refl, ap, _∙_}
 use Rattle.holding.specs.Holding.{sideNumber, kindNumber, issuerNumber, rowOf}
 use Rattle.holding.specs.Numbers.{Numbers}
 use Rattle.holding.specs.declared.Holding.{Holding}

@@ -85,13 +85,7 @@ issuer-number (suc n) h = rw (eqb·suc-zero n) (rw (true-within 1 10 (suc n) (om
 -- a record keeps its row's numbers
 pub row-kept : (r : Row) → Ranges r → rowOf (holdingOf r) ≡ r
 unfolding rowOf holdingOf
-row-kept r g = λ i. record {
-  side = side-number (r .side) (g .side) i;
-  kind = kind-number (r .kind) (g .kind) i;
-  issuer = issuer-number (r .issuer) (g .issuer) i;
-  days = r .days;
-  value = r .value;
-}
+row-kept r g = rw (side-number (r .side) (g .side), kind-number (r .kind) (g .kind), issuer-number (r .issuer) (g .issuer))
 
 -- what the record of a row without fault is good for
 pub kept : (r : Row) → faultOf r ≡ 0 → Kept r (holdingOf r)
@@ -129,10 +123,4 @@ issuer-back (Province p) h =
 
 pub holding-kept : (h : Holding) → InRange h → holdingOf (rowOf h) ≡ h
 unfolding rowOf holdingOf
-holding-kept h g = λ i. record {
-  side = side-back (h .side) i;
-  kind = kind-back (h .kind) i;
-  issuer = issuer-back (h .issuer) (g .issuer) i;
-  days = h .days;
-  value = h .value;
-}
+holding-kept h g = rw (side-back (h .side), kind-back (h .kind), issuer-back (h .issuer) (g .issuer))

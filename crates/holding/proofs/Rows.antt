@@ -1,8 +1,8 @@
 -- A row and the list of its numbers give each other back; and what a row made, by the promise of its builder: the record of a row without fault, or the number of its fault. Assumes nothing.
 use mathlib.Core.Path.{_≡_, refl, sym, ap, subst, _∙_}
-use mathlib.Core.Bool.{Bool, true, false, false≢true}
 use mathlib.Core.List.{List}
 use Prim.Native.Nat.{ℕ}
+use native.Mathlib.Omega.{arith}
 use lib.ListN.{length}
 use Rattle.lists.specs.Tables.{listTo}
 use Rattle.lists.proofs.Tables.{to-back}
@@ -31,18 +31,11 @@ module _ {r : Row} {b : Built} (p : Builds r b) where
   made-row {h} e =
       let kept : Sound r (Made h) = subst (Sound r) e (p .sound) in
       let none : faultOf r ≡ 0 = sym (p .number) ∙ ap numberOf e in
-      (kept .ranges, none, ap holding (sym e ∙ made-of-none none))
-    where
-      holding : Built → Holding
-      holding (Made x) = x
-      holding (Refused n) = h
+      let made = made-of-none none in
+      (kept .ranges, none, cc)
 
   -- the number of its fault
   pub refused-row : {n : ℕ} → b ≡ Refused n → (n ≡ faultOf r) × (n ≡ 0 → ⊥)
   refused-row {n} e =
       let number : n ≡ faultOf r = ap numberOf (sym e) ∙ p .number in
-      (number, λ z. false≢true (ap isMade (sym e ∙ made-of-none (sym number ∙ z))))
-    where
-      isMade : Built → Bool
-      isMade (Made h) = true
-      isMade (Refused m) = false
+      (number, λ z. let made = made-of-none (sym number ∙ z) in let never : _≡_ {A = ℕ} 0 1 = cc in omega arith)

@@ -21,9 +21,11 @@ back l s =
     let from-side : c / 16777216 ≡ l .side + 256 * (l .kind + 256 * l .issuer) = omega (arith, s .rate, s .period) in
     let from-kind : c / 4294967296 ≡ l .kind + 256 * l .issuer = omega (arith, s .rate, s .period, s .side) in
     let from-issuer : c / 1099511627776 ≡ l .issuer = omega (arith, s .rate, s .period, s .side, s .kind) in
-    let rate : legIn c .rate ≡ l .rate = omega (arith, s .rate) in
-    let period : legIn c .period ≡ l .period = byte _ _ _ from-period (s .period) in
-    let side : legIn c .side ≡ l .side = byte _ _ _ from-side (s .side) in
-    let kind : legIn c .kind ≡ l .kind = byte _ _ _ from-kind (s .kind) in
-    let issuer : legIn c .issuer ≡ l .issuer = two-bytes _ _ from-issuer (s .issuer) in
-    λ i. record { side = side i; kind = kind i; issuer = issuer i; period = period i; rate = rate i }
+    let low : c % 65536 ≡ l .rate = omega (arith, s .rate) in
+    λ i. record {
+      side = byte _ _ _ from-side (s .side) i;
+      kind = byte _ _ _ from-kind (s .kind) i;
+      issuer = two-bytes _ _ from-issuer (s .issuer) i;
+      period = byte _ _ _ from-period (s .period) i;
+      rate = low i;
+    }

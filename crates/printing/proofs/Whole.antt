@@ -1,8 +1,8 @@
 -- A file that is refused, and one that is read and checked, are printed as the page says. Assumes nothing.
-use mathlib.Core.Path.{_≡_, refl, sym, ap, subst, _∙_}
+use mathlib.Core.Path.{_≡_, refl, sym, ap, _∙_}
 use mathlib.Core.Bool.{false}
 use mathlib.Core.Logic.{_↔_, _≢_}
-use mathlib.Core.List.{List, _∷_, _++_, map, flatMap}
+use mathlib.Core.List.{List, _∷_, _++_, map}
 use Prim.Native.Nat.{ℕ, _≤_, _<_}
 use native.Mathlib.Omega.{arith}
 use lib.ListN.{length, getD, take, drop, length-append}
@@ -14,9 +14,9 @@ use Rattle.lists.proofs.Tables.{getD-to}
 use Rattle.lists.proofs.Tests.{same-or-not}
 use Rattle.article.specs.Answer.{Answer, makeAnswer}
 use Rattle.proposal.specs.Submission.{Submission, priced, linesOf, lineNumbers, submitted}
-use Rattle.proposal.specs.Figures.{remainder, remaindersOf, ranked}
+use Rattle.proposal.specs.Figures.{remainder, remaindersOf}
 use Rattle.proposal.specs.Outcome.{outcome}
-use Rattle.proposal.specs.Demands.{Acceptable, Demands}
+use Rattle.proposal.specs.Demands.{Acceptable}
 use Rattle.proposal.proofs.Clear.{number}
 use Rattle.proposal.proofs.Demands.{demands}
 use Rattle.reader.specs.File.{submissionIn, fileFault}
@@ -48,29 +48,19 @@ prints-within {text} {old} {now} {count} p =
 prints-first : {text old now : List ℕ} {count : ℕ} → Prints text old now count → reportRoom ≤ length old → take count now ≡ text
 unfolding front fitted
 prints-first {text} {old} p h =
-    let all = le-leb reportRoom (length old) h in
-    rw (p .bytes, p .counted, all) (take-at text _ (length text) refl)
+    rw (p .bytes, p .counted, le-leb reportRoom (length old) h) (take-at text _ (length text) refl)
 
 -- M is printed for the number 0, and X for any other
-module _ (a : Answer) (line : ℕ → List ℕ) (order : List ℕ) where
-  accepted-lines : a .number ≡ 0 → printedLines a line order ≡ marginLine a ++ flatMap line order
-  unfolding printedLines
-  accepted-lines e = rw (eq-eqb _ _ e)
-
-  refused-lines : a .number ≢ 0 → printedLines a line order ≡ refusalLine a
-  unfolding printedLines
-  refused-lines h = rw (ne-eqb _ _ h)
-
-  begins-when : (take 1 (printedLines a line order) ≡ ascii "M") ↔ (a .number ≡ 0)
-  unfolding marginLine refusalLine lineOf
-  begins-when = (
-    λ b.
-        same-or-not (a .number) 0 (λ z. z) (λ z.
-        let other : take 1 (refusalLine a) ≡ ascii "M" = rw (refused-lines z) at b in
-        let first : 0x58 ≡ 0x4D = ap (λ (l : List ℕ). getD l 0 0) other in
-        absurd (omega arith)),
-    λ z. rw (accepted-lines z),
-  )
+begins-when : (s : Submission) (a : Answer) → (take 1 (printedOf s a) ≡ ascii "M") ↔ (a .number ≡ 0)
+unfolding printedOf printedLines marginLine refusalLine lineOf
+begins-when s a = (
+  λ b.
+      same-or-not (a .number) 0 (λ z. z) (λ z.
+      let other = rw (ne-eqb (a .number) 0 z) at b in
+      let first : 0x58 ≡ 0x4D = ap (λ (l : List ℕ). getD l 0 0) other in
+      absurd (omega arith)),
+  λ z. rw (eq-eqb (a .number) 0 z),
+)
 
 -- what remains of a holding is printed as the list of remainders has it
 same-line : (s : Submission) (k : ℕ) → k < priced s .count → bookLine (priced s) (s .lines) k ≡ holdingLine s k
@@ -87,53 +77,44 @@ module _ (text : List ℕ) where
   unfolding fileAnswer
   answer-checked e = rw e
 
-  accepted-when : (fileAnswer text .number ≡ 0) ↔ (Submits text (submissionIn text) × Acceptable (submissionIn text))
-  accepted-when =
-      let file = read-exactly text .read in
-      let check = demands false false (submissionIn text) .exactly in (
-        λ e.
-            same-or-not (fileFault text .number) 0
-            (λ z. (file .0 z, check .0 (sym (ap number (answer-checked z)) ∙ e) .1))
-            (λ z. absurd (z (sym (ap number (answer-refused z)) ∙ e))),
-        λ h. ap number (answer-checked (file .1 (h .0))) ∙ check .1 ((refl, refl), h .1),
-      )
-
-  accepted-least : fileAnswer text .number ≡ 0 → Demands (submissionIn text) false false (fileAnswer text)
-  accepted-least e =
-      same-or-not (fileFault text .number) 0
-      (λ z. rw (answer-checked z) (demands false false (submissionIn text)))
-      (λ z. absurd (z (sym (ap number (answer-refused z)) ∙ e)))
-
   abbrev s : Submission
   s = submissionIn text
 
-  begins-exactly : (take 1 (printed text) ≡ ascii "M") ↔ (fileAnswer text .number ≡ 0)
-  unfolding printed printedOf
-  begins-exactly = begins-when (fileAnswer text) (bookLine (priced s) (s .lines)) (ranked (priced s) (s .lines))
+  -- the file of an accepted answer was read
+  answer-read : fileAnswer text .number ≡ 0 → fileFault text .number ≡ 0
+  answer-read e = same-or-not (fileFault text .number) 0 (λ z. z) (λ z. absurd (z (sym (ap number (answer-refused z)) ∙ e)))
+
+  accepted-when : (fileAnswer text .number ≡ 0) ↔ (Submits text s × Acceptable s)
+  accepted-when =
+      let file = read-exactly text .read in
+      let check = demands false false s .exactly in (
+        λ e. (file .0 (answer-read e), check .0 (sym (ap number (answer-checked (answer-read e))) ∙ e) .1),
+        λ h. ap number (answer-checked (file .1 (h .0))) ∙ check .1 ((refl, refl), h .1),
+      )
 
   figures-printed : fileAnswer text .number ≡ 0 → PrintsFigures s (printed text)
-  unfolding printed printedOf
+  unfolding printed printedOf printedLines marginLine
   figures-printed e = record {
     units = fileAnswer text .first;
     cents = fileAnswer text .second;
-    keeps = subst (λ (n : ℕ). Demands s false false (makeAnswer n (fileAnswer text .first) (fileAnswer text .second))) e (accepted-least e);
-    lines = accepted-lines (fileAnswer text) (bookLine (priced s) (s .lines)) (ranked (priced s) (s .lines)) e
-        ∙ ap (marginLine (fileAnswer text) ++_) (ranked-texts s _ _ (same-line s))
-        ∙ (unfold marginLine in refl);
+    keeps = rw (← e, answer-checked (answer-read e)) (demands false false s);
+    lines = rw (eq-eqb (fileAnswer text .number) 0 e) (ap (marginLine (fileAnswer text) ++_) (ranked-texts s _ _ (same-line s)));
   }
 
   promised : {before after : List ℕ} {r : ℕ} → Prints (printed text) before after r → PrintsFile text before after r × Within r after
-  promised p = (
-    record {
-      stands = p;
-      room = prints-first p;
-      exactly = (λ b. accepted-when .0 (begins-exactly .0 b), λ h. begins-exactly .1 (accepted-when .1 h));
-      figures = λ b. figures-printed (begins-exactly .0 b);
-      order = all-ranked s;
-      only = read-exactly text .only;
-    },
-    prints-within p,
-  )
+  unfolding printed
+  promised p =
+      let begins = begins-when s (fileAnswer text) in (
+        record {
+          stands = p;
+          room = prints-first p;
+          exactly = (λ b. accepted-when .0 (begins .0 b), λ h. begins .1 (accepted-when .1 h));
+          figures = λ b. figures-printed (begins .0 b);
+          order = all-ranked s;
+          only = read-exactly text .only;
+        },
+        prints-within p,
+      )
 
   module _ {d : Contents} (from-file : ReadsFile text d) where
     pub refused-printed : {before after : List ℕ} {r : ℕ} → d .number ≢ 0 → Prints (refusalLine (makeAnswer (d .number) (d .place) 0)) before after r → PrintsFile text before after r × Within r after

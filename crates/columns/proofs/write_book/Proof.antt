@@ -1,11 +1,13 @@
 -- `write_book` writes each column at the front of its list. Assumes nothing.
 use mathlib.Core.Path.{_≡_}
+use mathlib.Core.List.{[], _∷_}
 use native.Mathlib.Omega.{arith}
 use lib.ListN.{length}
 use borrow.Author.Needs.{needs}
 use Rattle.holding.specs.Holding.{numbersOf}
 use Rattle.proposal.specs.Submission.{rowsOf, pricesOf}
-use Rattle.columns.proofs.Encoded.{firsts-written, each-written}
+use Rattle.columns.specs.Columns.{filledFrom}
+use Rattle.columns.proofs.Encoded.{firsts-written, entries-written}
 use Rattle.columns.proofs.write_book.Statement.{statement}
 use Rattle.columns.proofs.write_book.Tie as tie
 
@@ -29,7 +31,7 @@ write-words-requires c κs =
     (search needs, search needs)
 
 returns : tie.Need-returns
-unfolding rowsOf pricesOf
+unfolding rowsOf pricesOf filledFrom
 returns c =
     let value = c .before .before in
     let days = value .before .before .before .before in
@@ -39,8 +41,13 @@ returns c =
     let price = side .before .before .before .before .before in
     record {
       rows =
-          each-written numbersOf _ _ 0 _ _
-          (side .write-rows .ensures, (kind .write-rows2 .ensures, (issuer .write-rows3 .ensures, (days .write-rows4 .ensures, (value .write-rows5 .ensures, tt)))));
+          λ i.
+          entries-written numbersOf _ _ 0 _ (side .write-rows .ensures) i
+          ∷ entries-written numbersOf _ _ 1 _ (kind .write-rows2 .ensures) i
+          ∷ entries-written numbersOf _ _ 2 _ (issuer .write-rows3 .ensures) i
+          ∷ entries-written numbersOf _ _ 3 _ (days .write-rows4 .ensures) i
+          ∷ entries-written numbersOf _ _ 4 _ (value .write-rows5 .ensures) i
+          ∷ [];
       prices = firsts-written _ _ _ (omega (arith, long (price .before), start (price .before) .pre .few)) (price .write-words .ensures);
     }
 

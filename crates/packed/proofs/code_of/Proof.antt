@@ -4,32 +4,16 @@ use Rattle.packed.proofs.Back.{back}
 use Rattle.packed.proofs.code_of.Statement.{statement}
 use Rattle.packed.proofs.code_of.Tie as tie
 
-mul-result : tie.Need-mul-result
-mul-result c = search needs
-
-add-result : tie.Need-add-result
-add-result c = search needs
-
-mul-result-2 : tie.Need-mul-result-2
-mul-result-2 c = search needs
-
-add-result-2 : tie.Need-add-result-2
-add-result-2 c = search needs
-
-mul-result-3 : tie.Need-mul-result-3
-mul-result-3 c = search needs
-
-add-result-3 : tie.Need-add-result-3
-add-result-3 c = search needs
-
-mul-result-4 : tie.Need-mul-result-4
-mul-result-4 c = search needs
-
-add-result-4 : tie.Need-add-result-4
-add-result-4 c = search needs
-
-returns : tie.Need-returns
-returns c = back _ (c .before .before .before .before .before .pre)
-
 pub code-of-spec : {M : Type 1} → statement M
-code-of-spec = tie.close (tie.spec mul-result add-result mul-result-2 add-result-2 mul-result-3 add-result-3 mul-result-4 add-result-4 returns)
+code-of-spec =
+    tie.close
+    (tie.spec
+    (λ c. search needs)
+    (λ c. search needs)
+    (λ c. search needs)
+    (λ c. search needs)
+    (λ c. search needs)
+    (λ c. search needs)
+    (λ c. search needs)
+    (λ c. search needs)
+    (λ c. back _ (c .before .before .before .before .before .pre)))

@@ -1,12 +1,8 @@
 -- `entry` is what a list has at a number. Assumes nothing.
-use mathlib.Core.Path.{sym}
 use lib.ListN.{List·getD-eq-default}
 use borrow.Author.Needs.{needs}
 use Rattle.report.proofs.entry.Statement.{statement}
 use Rattle.report.proofs.entry.Tie as tie
 
-returns-2 : tie.Need-returns-2
-returns-2 c = sym (List·getD-eq-default (c .before .args .list .now) 0 {n = c .before .args .k} (search needs))
-
 pub entry-spec : {M : Type 1} → statement M
-entry-spec = tie.close (tie.spec (λ c. search needs) (λ c. search needs) (λ c. search needs) returns-2)
+entry-spec = tie.close (tie.spec (λ c. search needs) (λ c. search needs) (λ c. search needs) (λ c. search (needs, List·getD-eq-default)))

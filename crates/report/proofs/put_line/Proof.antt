@@ -18,17 +18,6 @@ Inv-loop letter count at out₀ numbers next₀ i₀ out next i =
 abbrev μ-loop : tie.MeasureT-loop
 μ-loop letter count at out₀ numbers next₀ i₀ out next i = count - i
 
--- back to where the letter was written, and to the start
-abbrev begun : tie.At-loop Inv-loop μ-loop → tie.After-put-byte Inv-loop μ-loop
-begun c = c .before .before .before
-
-abbrev start : tie.At-loop Inv-loop μ-loop → tie.Start Inv-loop μ-loop
-start c = begun c .before .before .before
-
-loop-holds : tie.Need-loop-holds Inv-loop μ-loop
-unfolding flatMap
-loop-holds c = (search needs, search needs, search needs, written-none _ _)
-
 loop-again : tie.Need-loop-again Inv-loop μ-loop
 loop-again c =
     let put = c .before .before in
@@ -36,7 +25,7 @@ loop-again c =
       search needs,
       search needs,
       search needs,
-      written-more afterComma (start at .args .t2) (at .loop .i) (search needs) (search needs) (at .loop .inv .3) (put .put-number .ensures .0),
+      written-more afterComma _ (at .loop .i) (search needs) (search needs) (at .loop .inv .3) (put .put-number .ensures .0),
     )
 
 returns : tie.Need-returns Inv-loop μ-loop
@@ -44,18 +33,20 @@ returns c =
     let feed = c .before .before in
     let back = feed .before .before .before .before in
     let at = back .before .before .before in
-    let all : at .loop .i ≡ start at .args .count = search needs in
-    let numbers = rw all at (at .loop .inv .3) in
-    (line-written (take (start at .args .count) (start at .args .t2)) (search needs) (search needs) (search needs) (begun at .put-byte .ensures) numbers (back .put-byte2 .ensures) (feed .put-byte3 .ensures), search needs)
+    let begun = at .before .before .before in
+    let count = begun .before .before .before .args .count in
+    let all : at .loop .i ≡ count = search needs in
+    (line-written _ (search needs) (search needs) (search needs) (begun .put-byte .ensures) (rw all at (at .loop .inv .3)) (back .put-byte2 .ensures) (feed .put-byte3 .ensures), search needs)
 
 pub put-line-spec : {M : Type 1} → statement M
+unfolding flatMap
 put-line-spec =
     tie.close
     (tie.spec
     Inv-loop
     μ-loop
     (λ c κs. search needs)
-    loop-holds
+    (λ c. (search needs, search needs, search needs, written-none _ _))
     (λ c. search needs)
     (λ c. search needs)
     (λ c κs. search needs)

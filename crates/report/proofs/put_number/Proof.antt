@@ -11,11 +11,11 @@ put-digits-requires c κs =
     let comma = c .before .before .before in
     omega (arith, comma .put-byte .ensures .ends, digits-word (comma .before .before .before .args .x) (search needs))
 
-returns : tie.Need-returns
-returns c =
-    let digits = c .before .before in
-    let comma = digits .before .before .before .before in
-    number-written (search needs) (search needs) (comma .put-byte .ensures) (digits .put-digits .ensures)
-
 pub put-number-spec : {M : Type 1} → statement M
-put-number-spec = tie.close (tie.spec (λ c κs. search needs) put-digits-requires (λ c. search needs) returns)
+put-number-spec =
+    tie.close
+    (tie.spec
+    (λ c κs. search needs)
+    put-digits-requires
+    (λ c. search needs)
+    (λ c. number-written (search needs) (search needs) (c .before .before .before .before .before .before .put-byte .ensures) (c .before .before .put-digits .ensures)))

@@ -25,13 +25,6 @@ abbrev μ-loop : tie.MeasureT-loop
 abbrev start : tie.At-loop Inv-loop μ-loop → tie.Start Inv-loop μ-loop
 start c = c .before .before .before .before .before
 
-loop-holds : tie.Need-loop-holds Inv-loop μ-loop
-unfolding flatMap
-loop-holds c = (search needs, search needs, search needs, search needs, written-none _ _)
-
-returns : tie.Need-returns Inv-loop μ-loop
-returns c = rw (c .if1 .taken) at (c .before .before .loop .inv .4)
-
 loop-again : tie.Need-loop-again Inv-loop μ-loop
 loop-again c =
     let put = c .before .before in
@@ -59,14 +52,15 @@ returns-2 c =
     rw (end, all) at (at .loop .inv .4)
 
 pub put-remainders-spec : {M : Type 1} → statement M
+unfolding flatMap
 put-remainders-spec =
     tie.close
     (tie.spec
     Inv-loop
     μ-loop
-    loop-holds
+    (λ c. (search needs, search needs, search needs, search needs, written-none _ _))
     (λ c. search needs)
-    returns
+    (λ c. rw (c .if1 .taken) at (c .before .before .loop .inv .4))
     (λ c κs. search needs)
     (λ c κs. search needs)
     (λ c κs. search needs)

@@ -5,32 +5,24 @@ use Rattle.report.proofs.Lines.{refused-written, accepted-written}
 use Rattle.report.proofs.report.Statement.{statement}
 use Rattle.report.proofs.report.Tie as tie
 
--- from where the M line was written back to where the numbers of the verdict were taken
-abbrev numbered : tie.After-put-line2 → tie.After-numbers-of
-numbered c = c .before .before .before
-
-returns : tie.Need-returns
-returns c = no-room _ _ (search needs)
-
 returns-2 : tie.Need-returns-2
 returns-2 c =
     let put = c .before .before in
     let refused = put .before .before in
-    let numbered = refused .before in
-    printed (numbered .before .if1 .left) (refused-written _ _ _ _ _ (numbered .numbers-of .ensures) (refused .if2 .taken) (put .put-line .ensures .0))
+    printed (search needs) (refused-written _ _ _ _ _ (refused .before .numbers-of .ensures) (refused .if2 .taken) (put .put-line .ensures .0))
 
 returns-3 : tie.Need-returns-3
 returns-3 c =
     let put = c .before .before in
     let margin = put .before .before .before .before in
-    printed (numbered margin .before .if1 .left)
-    (accepted-written _ _ _ _ _ (numbered margin .numbers-of .ensures) (margin .before .before .if2 .left) (margin .put-line2 .ensures .0) (put .put-remainders .ensures))
+    let kept = margin .before .before in
+    printed (search needs) (accepted-written _ _ _ _ _ (kept .before .numbers-of .ensures) (kept .if2 .left) (margin .put-line2 .ensures .0) (put .put-remainders .ensures))
 
 pub report-spec : {M : Type 1} → statement M
 report-spec =
     tie.close
     (tie.spec
-    returns
+    (λ c. no-room _ _ (search needs))
     (λ c κs. search needs)
     (λ c. search needs)
     (λ c κs. search needs)
