@@ -1,6 +1,6 @@
 -- The walk over the lines: what holds at each of its turns, and what that says where it starts, goes on, stops and ends. Assumes nothing.
 use mathlib.Core.Path.{_≡_, refl, sym, ap, _∙_}
-use mathlib.Core.List.{List, [], _∷_, _++_}
+use mathlib.Core.List.{List, [], _∷_}
 use Prim.Native.Nat.{ℕ, _+_, _-_, _*_, _≤_, _<_}
 use native.Mathlib.Nat.{le-trans, sub-le}
 use native.Mathlib.Numerals.{add-one}
@@ -17,7 +17,6 @@ use Rattle.lists.proofs.Firsts.{first-of-none}
 use Rattle.lists.proofs.Passed.{Passed, passed-none, passed-more, passed-first, passed-all}
 use Rattle.holding.specs.Holding.{valueLimit}
 use Rattle.article.specs.Answer.{makeAnswer}
-use Rattle.article.specs.Pair.{pairRateOf, savingRateOf}
 use Rattle.article.specs.declared.pair.Leg.{Leg}
 use Rattle.pairing.specs.Pairing as pairing
 use Rattle.pairing.specs.declared.Line.{Line}
