@@ -15,7 +15,7 @@ use Rattle.lists.proofs.Tables.{length-to}
 use Rattle.lists.proofs.Tests.{same-or-not}
 use Rattle.lists.proofs.Firsts.{first-append, first-refused, first-of-none}
 use Rattle.article.specs.Answer.{Answer, makeAnswer}
-use Rattle.proposal.specs.Submission.{Submission, lineNumbers, rowsOf, pricesOf, linesOf, submitted}
+use Rattle.proposal.specs.Submission.{Submission, lineNumbers, rowsOf, linesOf, submitted}
 use Rattle.proposal.proofs.Clear.{number}
 use Rattle.holding.specs.Holding.{numbersOf}
 use Rattle.words.specs.Words.{encode}

@@ -10,7 +10,7 @@ use lib.ListN.{length, getD}
 use borrow.Author.Tests.{leb-true, eq-eqb, eqb-true}
 use Rattle.lists.specs.Choice.{same, some}
 use Rattle.lists.specs.Each.{Each}
-use Rattle.lists.proofs.Tests.{neither}
+use Rattle.lists.proofs.Tests.{neither, either-way}
 
 abbrev pub every : {A : Type 0} → (A → Bool) → List A → Bool
 every test [] = true
@@ -99,19 +99,11 @@ pub eq-same : (xs ys : List ℕ) → xs ≡ ys → same xs ys ≡ true
 eq-same xs ys e = rw e (same-refl ys)
 
 pub ne-same : (xs ys : List ℕ) → (xs ≡ ys → ⊥) → same xs ys ≡ false
-ne-same xs ys n = by (same xs ys) refl
-  where
-    by : (t : Bool) → same xs ys ≡ t → same xs ys ≡ false
-    by true e = absurd (n (same-true xs ys e))
-    by false e = e
+ne-same xs ys n = either-way (same xs ys) (λ e. absurd (n (same-true xs ys e))) (λ e. e)
 
 pub same-false : (xs ys : List ℕ) → same xs ys ≡ false → xs ≡ ys → ⊥
 same-false xs ys e s = false≢true (sym e ∙ eq-same xs ys s)
 
 -- two lists of numbers are one, or not
 pub one-or-not : {P : Type 0} (xs ys : List ℕ) → (xs ≡ ys → P) → ((xs ≡ ys → ⊥) → P) → P
-one-or-not {P} xs ys p q = by (same xs ys) refl
-  where
-    by : (t : Bool) → same xs ys ≡ t → P
-    by true e = p (same-true xs ys e)
-    by false e = q (same-false xs ys e)
+one-or-not xs ys p q = either-way (same xs ys) (λ e. p (same-true xs ys e)) (λ e. q (same-false xs ys e))

@@ -5,5 +5,4 @@ pub mod Tables
 pub mod Sums
 pub mod Order
 pub mod Passed
-pub mod Filled
 pub mod Overwrite

@@ -44,19 +44,15 @@ module _ {A : Type 0} where
       (rw (take-at kept rest n long, drop-at kept rest n long, drop-drop (length ys) n old)
       (rw (overwrite-parts at (xs ++ ys) old, more, ← append-assoc (take at old) xs ys)))
 
-  pub length-overwrite : (at : ℕ) (xs old : List A) → at + length xs ≤ length old → length (overwrite at xs old) ≡ length old
+  length-overwrite : (at : ℕ) (xs old : List A) → at + length xs ≤ length old → length (overwrite at xs old) ≡ length old
   length-overwrite at xs old h =
       rw (overwrite-parts at xs old) (length-append (take at old ++ xs) (drop (at + length xs) old) ∙ omega (arith, before at xs old (omega arith), length-drop (at + length xs) old))
-
-  length-laid : (n : ℕ) (f : ℕ → A) (old : List A) → n ≤ length old → length (front (listTo n f) old) ≡ length old
-  unfolding overwrite
-  length-laid n f old h = length-overwrite 0 (listTo n f) old (omega (arith, length-to n f))
 
   -- the first n entries of f stand at the front of a list, and one more is written
   pub laid-more : (n : ℕ) (f : ℕ → A) (x : A) (so-far old : List A) → n < length old → x ≡ f n → so-far ≡ front (listTo n f) old
       → set so-far n x ≡ front (listTo (n + 1) f) old
   unfolding overwrite listTo
   laid-more n f x so-far old h e g =
-      let all : n < length (front (listTo n f) old) = omega (arith, length-laid n f old (omega arith)) in
+      let all : n < length (front (listTo n f) old) = omega (arith, length-overwrite 0 (listTo n f) old (omega (arith, length-to n f))) in
       let at : 0 + length (listTo n f) ≡ n = omega (arith, length-to n f) in
       rw (g, e, add-one) (overwrite-one n (f n) (front (listTo n f) old) all ∙ rw at at (overwrite-overwrite 0 (listTo n f) (f n ∷ []) old (omega arith)))

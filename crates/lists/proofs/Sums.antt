@@ -1,13 +1,13 @@
 -- Laws of sums over the numbers below n and over a list. Assumes nothing.
-use mathlib.Core.Path.{_≡_, refl}
-use mathlib.Core.Logic.{⊎-elim}
+use mathlib.Core.Path.{_≡_, refl, ap}
 use mathlib.Core.List.{List, [], _∷_, _++_}
 use Prim.Native.Nat.{ℕ, zero, suc, _+_, _*_, _≤_, _<_}
-use native.Mathlib.Nat.{le-refl, eq-or-lt-of-le, mul-le-mul}
+use native.Mathlib.Nat.{le-refl, mul-le-mul}
 use native.Mathlib.Numerals.{add-one}
 use native.Mathlib.Omega.{arith}
 use borrow.Author.Tests.{eq-eqb, ne-eqb}
 use Rattle.lists.specs.Sums.{sumTo, sumOf, only}
+use Rattle.lists.proofs.Tests.{same-or-not}
 
 pub only-same : (i x : ℕ) → only i x i ≡ x
 unfolding only
@@ -51,21 +51,16 @@ sumTo-product-bound n a b f g h j = sumTo-bound n (a * b) _ (λ k q. mul-le-mul 
 pub sumTo-none : (n : ℕ) (f : ℕ → ℕ) → ((k : ℕ) → k < n → f k ≡ 0) → sumTo n f ≡ 0
 sumTo-none n f h = omega (arith, sumTo-bound n 0 f (λ k q. omega (arith, h k q)))
 
-weighed-other : (w : ℕ → ℕ) (i x k : ℕ) → (i ≡ k → ⊥) → w k * only i x k ≡ 0
-weighed-other w i x k h = rw (only-other i x k h) (omega arith)
-
 -- a weighted sum of what stands at one place
 pub sumTo-only : (n : ℕ) (w : ℕ → ℕ) (i x : ℕ) → i < n → sumTo n (λ k. w k * only i x k) ≡ w i * x
 unfolding sumTo
 sumTo-only zero w i x h = absurd (omega arith)
 sumTo-only (suc n) w i x h =
-    ⊎-elim
+    same-or-not i n
     (λ e.
-    let last : i ≡ n = omega arith in
-    let here : w n * only i x n ≡ w i * x = rw (← last, only-same) in
-    omega (arith, sumTo-none n _ (λ k q. weighed-other w i x k (λ r. omega arith))))
-    (λ l. omega (arith, sumTo-only n w i x (omega arith), weighed-other w i x n (λ r. omega arith)))
-    (eq-or-lt-of-le h)
+    let here : w n * only i x n ≡ w i * x = rw (← e, only-same) in
+    omega (arith, sumTo-none n (λ k. w k * only i x k) (λ k q. rw (only-other i x k (λ r. omega arith)) (omega arith))))
+    (λ o. omega (arith, sumTo-only n w i x (omega arith), ap (λ (v : ℕ). w n * v) (only-other i x n (λ r. omega arith))))
 
 pub sumOf-append : {A : Type 0} (xs ys : List A) (f : A → ℕ) → sumOf (xs ++ ys) f ≡ sumOf xs f + sumOf ys f
 unfolding sumOf

@@ -10,9 +10,7 @@ use Rattle.lists.specs.Choice.{within}
 
 -- the end of a range in a `match`, as `..=10`, is tested as below 11
 pub below-leb : (a b : ℕ) → a < suc b → leb a b ≡ true
-below-leb a b h =
-    let k : a ≤ b = omega arith in
-    le-leb a b k
+below-leb a b h = le-leb a b (omega arith)
 
 pub ruleset tests = (leb·zero, le-leb, below-leb, lt-leb, lt-ltb, le-ltb, eq-eqb, ne-eqb)
 
@@ -30,9 +28,7 @@ true-within low high x a b = rw (le-leb low x a, le-leb x high b)
 -- the arms of a `match` on 0, on 1 to high, and on the rest: `search arms`
 pub zero-out : (high n : ℕ) → n ≡ 0 → within 1 high n ≡ false
 unfolding within
-zero-out high n e =
-    let k : n < 1 = omega arith in
-    rw (lt-leb 1 n k)
+zero-out high n e = rw (lt-leb 1 n (omega arith))
 
 pub range-in : (high n : ℕ) → (n ≡ 0 → ⊥) → n < suc high → within 1 high n ≡ true
 range-in high n z h =
@@ -50,13 +46,13 @@ pub by-test : {A : Type 0} (P : A → Type 0) (t : Bool) {x y : A} → (t ≡ tr
 by-test P true p q = p refl
 by-test P false p q = q refl
 
+pub either-way : {P : Type 0} (t : Bool) → (t ≡ true → P) → (t ≡ false → P) → P
+either-way true p q = p refl
+either-way false p q = q refl
+
 -- what holds below n and from n on holds everywhere
 pub by-end : (P : ℕ → Type 0) (n : ℕ) → ((k : ℕ) → k < n → P k) → ((k : ℕ) → n ≤ k → P k) → (k : ℕ) → P k
-by-end P n p q k = by (ltb k n) refl
-  where
-    by : (t : Bool) → ltb k n ≡ t → P k
-    by true e = p k (ltb-true k n e)
-    by false e = q k (ltb-false k n e)
+by-end P n p q k = either-way (ltb k n) (λ e. p k (ltb-true k n e)) (λ e. q k (ltb-false k n e))
 
 -- neither of two tests holds
 pub neither : (s t : Bool) → (s || t) ≡ false → (s ≡ false) × (t ≡ false)
@@ -65,8 +61,4 @@ neither false t e = (refl, e)
 
 -- two numbers are one, or not
 pub same-or-not : {P : Type 0} (a b : ℕ) → (a ≡ b → P) → (a ≢ b → P) → P
-same-or-not {P} a b p q = by (eqb a b) refl
-  where
-    by : (t : Bool) → eqb a b ≡ t → P
-    by true e = p (eqb-true a b e)
-    by false e = q (eqb-false a b e)
+same-or-not a b p q = either-way (eqb a b) (λ e. p (eqb-true a b e)) (λ e. q (eqb-false a b e))

@@ -16,10 +16,6 @@ module _ (s : Submission) where
   value-high : Limits s → (k : ℕ) → k < priced s .count → priced s .value k ≤ valueLimit
   value-high l k h = rw (value-at s k) (l .each-row k (in-book s k h) .value-high)
 
-  price-high : Limits s → (k : ℕ) → k < priced s .count → priced s .price k ≤ priceLimit
-  unfolding priced bookOf
-  price-high l k h = l .prices k h
-
   few : Limits s → priced s .count ≤ 256
   unfolding priced bookOf
   few l = l .holdings
@@ -40,4 +36,4 @@ module _ (s : Submission) where
   pub priced-fits : Limits s → pricedTotal (termsOf (priced s)) (priced s .price) ≤ 256 * savedLimit
   unfolding termsOf
   priced-fits l =
-      omega (arith, priced-high (termsOf (priced s)) (priced s .price) priceLimit valueLimit (λ k h. price-high l k h) (value-high l), few l)
+      omega (arith, priced-high (termsOf (priced s)) (priced s .price) priceLimit valueLimit (λ k h. unfold priced bookOf in l .prices k h) (value-high l), few l)

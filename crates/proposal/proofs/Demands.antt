@@ -1,11 +1,11 @@
 -- The outcome keeps what document 01 demands of the check's answer. Assumes nothing.
 use mathlib.Core.Path.{_≡_, refl, ap, _∙_}
-use mathlib.Core.Bool.{Bool, true, false, not, _&&_}
-use Prim.Native.Nat.{ℕ, _+_, _<_}
+use mathlib.Core.Bool.{Bool, false, not}
+use Prim.Native.Nat.{ℕ, _<_}
 use native.Mathlib.Omega.{arith}
-use lib.Dec.{ltb}
 use lib.ListN.{length}
 use borrow.Author.Tests.{ltb-false, le-ltb, eqb-true, eq-eqb, not-false}
+use Rattle.lists.proofs.Tests.{either-way}
 use Rattle.lists.proofs.Entries.{at-each}
 use Rattle.lists.proofs.Firsts.{none-first, first-of-none}
 use Rattle.lists.proofs.Tables.{length-to, getD-to}
@@ -14,7 +14,7 @@ use Rattle.article.specs.Answer.{Answer}
 use Rattle.article.proofs.Article.{article}
 use Rattle.article.specs.Pair.{legOf, allowed}
 use Rattle.article.specs.declared.pair.Leg.{Leg}
-use Rattle.pairing.specs.Pairing.{savingRate, AllowedPair, IsPairing, Covers, Least}
+use Rattle.pairing.specs.Pairing.{AllowedPair, IsPairing, Covers, Least}
 use Rattle.pairing.proofs.Least.{least}
 use Rattle.proposal.specs.Submission.{Submission, PricedBook, bookOf, termsOf, priced, noLine, holdingAt}
 use Rattle.proposal.specs.Figures.{remainder, margin, unitsOf, remaindersOf}
@@ -23,24 +23,18 @@ use Rattle.proposal.specs.Demands.{Limits, Acceptable, PairTerms, Remain
 use Rattle.proposal.proofs.PricedBooks.{leg-at, value-at, book-in, holding-in-range, fair}
 use Rattle.proposal.proofs.Clear.{Clear, none-clear, clear-none, numbered}
 use Rattle.proposal.proofs.Limits.{limits, ranges-none}
-use Rattle.proposal.proofs.KeepsArticle.{none-fits, fits-none, all-within, pair-may, may-pair, fitting-keeps, keeps-fitting}
+use Rattle.proposal.proofs.KeepsArticle.{none-fits, fits-none, all-within, may-exactly, fitting-keeps, keeps-fitting}
 use Rattle.proposal.proofs.Figures.{units-sum, rounded}
 
 -- an allowed pair that is not uncovered is covered
 module _ (b : PricedBook) where
   clear-covers : ((i j : ℕ) → i < b .count → j < b .count → uncovered b i j ≡ false) → Covers (termsOf b) (b .price)
   unfolding uncovered termsOf
-  clear-covers h i j p q e =
-      let g : (true && ltb (b .price i + b .price j) (savingRate (termsOf b) i j)) ≡ false = rw e at (h i j p q) in
-      ltb-false _ _ g
+  clear-covers h i j p q e = ltb-false _ _ (rw e at (h i j p q))
 
   covers-clear : Covers (termsOf b) (b .price) → (i j : ℕ) → i < b .count → j < b .count → uncovered b i j ≡ false
   unfolding uncovered termsOf
-  covers-clear h i j p q = by (allowed (b .leg i) (b .leg j)) refl
-    where
-      by : (t : Bool) → allowed (b .leg i) (b .leg j) ≡ t → (t && ltb (b .price i + b .price j) (savingRate (termsOf b) i j)) ≡ false
-      by true e = le-ltb _ _ (h i j p q e)
-      by false e = refl
+  covers-clear h i j p q = either-way (allowed (b .leg i) (b .leg j)) (λ e. rw e (le-ltb _ _ (h i j p q e))) (λ e. rw e)
 
 module _ (s : Submission) where
   -- acceptable lines are a pairing at 1
@@ -65,7 +59,7 @@ module _ (s : Submission) where
     value = value-at s i;
     price = unfold priced bookOf in refl;
     rate = ap (λ (x : Leg). x .rate) (leg-at s i p);
-    allowed = (pair-may s l i j p q, may-pair s l i j p q);
+    allowed = may-exactly s l i j p q;
     pair-rate = rw (leg-at s i p, leg-at s j q);
     pair = article .pairs (holdingAt s i) (holdingAt s j) (holding-in-range s l i p) (holding-in-range s l j q);
   }

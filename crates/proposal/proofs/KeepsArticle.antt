@@ -2,7 +2,7 @@
 -- before it, is what all may take together. Assumes nothing.
 use mathlib.Core.Path.{_≡_, ap, _∙_}
 use mathlib.Core.Bool.{true, and-eq-true-iff}
-use mathlib.Core.Logic.{_≢_}
+use mathlib.Core.Logic.{_↔_, _≢_}
 use mathlib.Core.List.{List, [], _∷_, _++_}
 use Prim.Native.Nat.{ℕ, zero, suc, _+_, _≤_, _<_}
 use native.Mathlib.Omega.{arith}
@@ -64,19 +64,8 @@ module _ (b : PricedBook) (earlier : List Line) (l : Line) where
   unfolding lineFaults pairFaults isLong isShort
   fits-none f =
       let m = allowed-meets _ _ (f .pair) in
-      let some : l .amount ≢ 0 = λ e. omega (arith, f .amount) in (
-        rw (lt-ltb _ _ (f .first), lt-ltb _ _ (f .second)),
-        (
-          rw (eq-eqb _ _ (m .long), eq-eqb _ _ (m .short)),
-          (
-            rw (f .pair),
-            (
-              ne-eqb (l .amount) 0 some,
-              (rw (le-ltb _ _ (f .long-left), le-ltb _ _ (f .short-left)), tt),
-            ),
-          ),
-        ),
-      )
+      let some : l .amount ≢ 0 = λ e. omega (arith, f .amount) in
+      (rw (lt-ltb _ _ (f .first), lt-ltb _ _ (f .second)), (rw (eq-eqb _ _ (m .long), eq-eqb _ _ (m .short)), (rw (f .pair), (ne-eqb (l .amount) 0 some, (rw (le-ltb _ _ (f .long-left), le-ltb _ _ (f .short-left)), tt)))))
 
   -- the line more takes no holding beyond its value
   pub fits-within : Fits b earlier l → (k : ℕ) → used earlier k ≤ b .value k → used (earlier ++ (l ∷ [])) k ≤ b .value k
@@ -101,9 +90,7 @@ module _ (b : PricedBook) (lines : List Line) where
       (fits-within b (take i lines) (getD lines i noLine) (f i h) k (first-within f i (omega arith) k))
 
   pub all-within : Fitting → (k : ℕ) → used lines k ≤ b .value k
-  all-within f k =
-      let h : used (take (length lines) lines) k ≤ b .value k = first-within f (length lines) (omega arith) k in
-      rw (take-length lines) at h
+  all-within f k = rw (take-length lines) at (first-within f (length lines) (omega arith) k)
 
   -- a line of a proposal that takes no holding beyond its value finds its amount left of each leg
   pub amount-left : (i k : ℕ) → i < length lines → used lines k ≤ b .value k → used (getD lines i noLine ∷ []) k ≤ remainder b (take i lines) k
@@ -115,20 +102,16 @@ module _ (b : PricedBook) (lines : List Line) where
 
 -- of what is submitted, within the limits
 module _ (s : Submission) (l : Limits s) where
-  pub pair-may : (i j : ℕ) → i < length (s .rows) → j < length (s .rows) → allowed (priced s .leg i) (priced s .leg j) ≡ true → MayPair (holdingAt s i) (holdingAt s j)
-  pair-may i j p q e =
-      article .pairs (holdingAt s i) (holdingAt s j) (holding-in-range s l i p) (holding-in-range s l j q) .permitted .0 (rw (leg-at s i p, leg-at s j q) at e)
-
-  pub may-pair : (i j : ℕ) → i < length (s .rows) → j < length (s .rows) → MayPair (holdingAt s i) (holdingAt s j) → allowed (priced s .leg i) (priced s .leg j) ≡ true
-  may-pair i j p q m =
-      rw (leg-at s i p, leg-at s j q) (article .pairs (holdingAt s i) (holdingAt s j) (holding-in-range s l i p) (holding-in-range s l j q) .permitted .1 m)
+  pub may-exactly : (i j : ℕ) → i < length (s .rows) → j < length (s .rows) → (allowed (priced s .leg i) (priced s .leg j) ≡ true) ↔ MayPair (holdingAt s i) (holdingAt s j)
+  may-exactly i j p q =
+      rw (leg-at s i p, leg-at s j q) (article .pairs (holdingAt s i) (holdingAt s j) (holding-in-range s l i p) (holding-in-range s l j q) .permitted)
 
   pub fitting-keeps : Fitting (priced s) (s .lines) → KeepsArticle s
   fitting-keeps f = record {
     lines = at-each (KeepsLine s) noLine (s .lines) (λ i h. let g = f i h in record {
       long = in-book s _ (g .first);
       short = in-book s _ (g .second);
-      pair = pair-may _ _ (in-book s _ (g .first)) (in-book s _ (g .second)) (g .pair);
+      pair = may-exactly _ _ (in-book s _ (g .first)) (in-book s _ (g .second)) .0 (g .pair);
       amount = omega (arith, g .amount);
     });
     within = λ k h. omega (arith, value-at s k, all-within (priced s) (s .lines) f k);
@@ -138,7 +121,7 @@ module _ (s : Submission) (l : Limits s) where
   keeps-fitting a i h =
       let g = each-at (KeepsLine s) noLine (s .lines) (a .lines) i h in
       let line = getD (s .lines) i noLine in
-      let pair = may-pair _ _ (g .long) (g .short) (g .pair) in
+      let pair = may-exactly _ _ (g .long) (g .short) .1 (g .pair) in
       let two : line .long ≡ line .short → ⊥ = legs-apart (priced s) _ _ pair in
       let room : (k : ℕ) → k < length (s .rows) → used (line ∷ []) k ≤ remainder (priced s) (take i (s .lines)) k =
       λ k q. amount-left (priced s) (s .lines) i k h (omega (arith, value-at s k, a .within k q)) in

@@ -1,10 +1,8 @@
 -- What the priced book of a submission has at a holding's number, and that its terms are the article's, which are fair. Assumes nothing.
 use mathlib.Core.Path.{_≡_, refl}
-use mathlib.Core.List.{List}
 use Prim.Native.Nat.{ℕ, _<_}
 use lib.ListN.{length, getD, List·getD-map}
-use Rattle.lists.specs.Tables.{listTo}
-use Rattle.lists.proofs.Tables.{length-to, getD-map-in, to-back}
+use Rattle.lists.proofs.Tables.{getD-map-in}
 use Rattle.holding.specs.Holding.{InRange, holdingOf}
 use Rattle.holding.specs.declared.Row.{Row}
 use Rattle.holding.proofs.Ranges.{none-fault, kept}
@@ -15,9 +13,7 @@ use Rattle.article.specs.Pair as article
 use Rattle.pairing.specs.Pairing.{savingRate, Fair}
 use Rattle.pairing.specs.declared.Line.{Line}
 use Rattle.proposal.specs.Demands.{Limits}
-use Rattle.proposal.specs.Submission.{Submission, PricedBook, lineNumbers, lineBy, bookOf, termsOf, priced, noRow, noLeg, holdingAt, rowsOf, linesOf}
-use Rattle.proposal.specs.declared.Book.{Book}
-use Rattle.proposal.specs.declared.Proposal.{Proposal}
+use Rattle.proposal.specs.Submission.{Submission, PricedBook, lineNumbers, lineBy, bookOf, termsOf, priced, noRow, noLeg, holdingAt}
 
 module _ (s : Submission) where
   -- the book has as many holdings as there are rows
@@ -54,20 +50,7 @@ pub saving-rate : (b : PricedBook) (i j : ℕ) → savingRate (termsOf b) i j �
 unfolding savingRate article.savingRateOf termsOf
 saving-rate b i j = refl
 
--- a book and a proposal by value have as many holdings and lines as they say
-pub rows-count : (book : Book) → length (rowsOf book) ≡ book .count
-unfolding rowsOf
-rows-count book = length-to (book .count) _
-
-pub lines-count : (proposal : Proposal) → length (linesOf proposal) ≡ proposal .count
-unfolding linesOf
-lines-count proposal = length-to (proposal .count) _
-
--- a line and the list of its numbers give each other back
+-- a line back from the list of its numbers
 pub line-back : (l : Line) → lineBy (lineNumbers l) ≡ l
 unfolding lineNumbers
 line-back l = refl
-
-pub line-numbers-back : (xs : List ℕ) → length xs ≡ 3 → lineNumbers (lineBy xs) ≡ xs
-unfolding lineNumbers listTo
-line-numbers-back xs h = to-back 3 xs 0 h

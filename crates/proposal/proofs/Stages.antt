@@ -2,9 +2,9 @@
 use mathlib.Core.Path.{_≡_, refl, sym, ap, _∙_}
 use mathlib.Core.Bool.{Bool, false}
 use mathlib.Core.List.{List, _++_}
-use Prim.Native.Nat.{_≤_, _<_}
+use Prim.Native.Nat.{_≤_}
 use lib.ListN.{length}
-use borrow.Author.Tests.{lt-ltb, le-ltb, eq-eqb, ne-eqb}
+use borrow.Author.Tests.{le-ltb, eq-eqb, ne-eqb}
 use Rattle.lists.specs.Choice.{firstOf}
 use Rattle.lists.proofs.Firsts.{Numbered, first-found, first-passed}
 use Rattle.article.specs.Answer.{Answer, makeAnswer}
@@ -23,17 +23,7 @@ module _ (o : Answer) (stage rest : List (Bool × Answer)) (z : Answer) (so : o 
   passes n e = so ∙ first-passed number stage rest (makeAnswer 0 0 0) z n (sym (ap number found) ∙ e)
 
 module _ (one two : Bool) (s : Submission) where
-  -- 3: more than 256 holdings
-  pub many-holdings : one ≡ false → 256 < length (s .rows) → outcome one two s ≡ makeAnswer 3 0 0
-  unfolding outcome faults sizeFaults atPlace firstOf
-  many-holdings p h = rw (p, lt-ltb _ _ h)
-
-  -- 9: more than 512 lines
-  pub many-lines : one ≡ false → length (s .rows) ≤ 256 → 512 < length (s .lines) → outcome one two s ≡ makeAnswer 9 0 0
-  unfolding outcome faults sizeFaults atPlace firstOf
-  many-lines p h m = rw (p, le-ltb _ _ h, lt-ltb _ _ m)
-
-  -- then holdings, lines, pairs and totals
+  -- lengths that fit: holdings, lines, pairs and totals decide
   pub from-holdings : one ≡ false → two ≡ false → length (s .rows) ≤ 256 → length (s .lines) ≤ 512 → outcome one two s ≡ firstOf (fromBook s) (accepted (priced s) (s .lines))
   unfolding outcome faults sizeFaults atPlace firstOf
   from-holdings p q h m = rw (p, le-ltb _ _ h, le-ltb _ _ m, q)

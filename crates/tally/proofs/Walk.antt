@@ -1,6 +1,6 @@
 -- The walk over the lines: what holds at each of its turns, and what that says where it starts, goes on, stops and ends. Assumes nothing.
 use mathlib.Core.Path.{_≡_, refl, sym, ap, _∙_}
-use mathlib.Core.List.{List, [], _∷_, _++_}
+use mathlib.Core.List.{List, [], _∷_}
 use Prim.Native.Nat.{ℕ, _+_, _-_, _*_, _≤_, _<_}
 use native.Mathlib.Nat.{le-trans, sub-le}
 use native.Mathlib.Numerals.{add-one}
@@ -17,7 +17,6 @@ use Rattle.lists.proofs.Firsts.{first-of-none}
 use Rattle.lists.proofs.Passed.{Passed, passed-none, passed-more, passed-first, passed-all}
 use Rattle.holding.specs.Holding.{valueLimit}
 use Rattle.article.specs.Answer.{makeAnswer}
-use Rattle.article.specs.Pair.{pairRateOf, savingRateOf}
 use Rattle.article.specs.declared.pair.Leg.{Leg}
 use Rattle.pairing.specs.Pairing as pairing
 use Rattle.pairing.specs.declared.Line.{Line}
@@ -110,23 +109,6 @@ module _ {n : ℕ} {legs before : List ℕ} {line : ℕ → Line} {m : ℕ} {lef
         left-high = walk .going .high;
       })
 
--- one line more: its units, its saving, and its amounts off what remains
-module _ (b : PricedBook) (lines : List Line) (l : Line) where
-  units-more : pairing.pairUnits (termsOf b) lines + pairRateOf (b .leg (l .long)) (b .leg (l .short)) * l .amount
-      ≡ pairing.pairUnits (termsOf b) (lines ++ (l ∷ []))
-  unfolding termsOf pairing.pairUnits
-  units-more = sumOf-more lines l (λ x. pairRateOf (b .leg (x .long)) (b .leg (x .short)) * x .amount)
-
-  saving-more : pairing.saving (termsOf b) lines + savingRateOf (b .leg (l .long)) (b .leg (l .short)) * l .amount
-      ≡ pairing.saving (termsOf b) (lines ++ (l ∷ []))
-  unfolding pairing.saving
-  saving-more =
-      rw (← saving-rate b (l .long) (l .short)) (sumOf-more lines l (λ x. pairing.savingRate (termsOf b) (x .long) (x .short) * x .amount))
-
-  remains-more : (k : ℕ) → remainder b lines k - pairing.used (l ∷ []) k ≡ remainder b (lines ++ (l ∷ [])) k
-  unfolding remainder
-  remains-more k = omega (arith, used-append lines (l ∷ []) k)
-
 -- a turn of the walk
 pub record Turn (n : ℕ) (legs before : List ℕ) (line : ℕ → Line) (m : ℕ) (left : List ℕ) (u s i : ℕ) : Type 0 where
   pub room : n ≤ length before
@@ -200,15 +182,7 @@ module _ {n : ℕ} {legs before : List ℕ} {line : ℕ → Line} {m : ℕ} {lef
           let remains = turn .walk .walking b holds .remains in
           let p : l .long < b .count = omega (arith, holds .0 .count, read .first) in
           let q : l .short < b .count = omega (arith, holds .0 .count, read .second) in
-          rw (
-            read .is,
-            lt-ltb (l .long) (b .count) p,
-            lt-ltb (l .short) (b .count) q,
-            first-leg,
-            second-leg,
-            ← remains (l .long) p,
-            ← remains (l .short) q,
-          )
+          rw (read .is, lt-ltb (l .long) (b .count) p, lt-ltb (l .short) (b .count) q, first-leg, second-leg, ← remains (l .long) p, ← remains (l .short) q)
 
     module _ {r : Applied} (applies : Applies (tallyAt left l u s) (l .amount) long short r) where
       -- the line is refused
@@ -241,10 +215,10 @@ module _ {n : ℕ} {legs before : List ℕ} {line : ℕ → Line} {m : ℕ} {lef
                 record {
                   passed = passed-more (w .passed) (turn .more)
                       (rw (at-line b line m i (turn .more)) (zero-at i _ (line-listed b _ _) (line-faults b holds ∙ first-of-none _ 0 (done .none))));
-                  units = rw (add-one i, read .is, w .units, ← first-leg b holds, ← second-leg b holds) (units-more b (listTo i line) l);
-                  saving = rw (add-one i, read .is, w .saving, ← first-leg b holds, ← second-leg b holds) (saving-more b (listTo i line) l);
+                  units = rw (add-one i, read .is, w .units, ← first-leg b holds, ← second-leg b holds) (unfold termsOf pairing.pairUnits in sumOf-more (listTo i line) l _);
+                  saving = rw (add-one i, read .is, w .saving, ← first-leg b holds, ← second-leg b holds, ← saving-rate b (l .long) (l .short)) (unfold pairing.saving in sumOf-more (listTo i line) l _);
                   remains = λ k h.
                       written-at left l apart p q k ∙ ap (λ (x : ℕ). x - pairing.used (l ∷ []) k) (w .remains k h)
-                      ∙ rw (add-one i, read .is) (remains-more b (listTo i line) l k);
+                      ∙ rw (add-one i, read .is) (unfold remainder in omega (arith, used-append (listTo i line) (l ∷ []) k));
                 };
           })

@@ -1,5 +1,5 @@
 -- The check phase by phase: what each phase found decides, or hands on to the next. Assumes nothing.
-use mathlib.Core.Path.{_≡_, refl, sym, ap, subst, _∙_}
+use mathlib.Core.Path.{_≡_, sym, ap, subst, _∙_}
 use mathlib.Core.Bool.{Bool}
 use mathlib.Core.List.{List, [], _∷_, _++_, map}
 use Prim.Native.Nat.{ℕ, _+_, _*_, _/_, _≤_, _<_}
@@ -14,7 +14,6 @@ use Rattle.lists.proofs.Sums.{sumTo-eq}
 use Rattle.lists.proofs.Tables.{length-to, getD-to, to-eq, front-at, front-long, front-again}
 use Rattle.article.specs.Answer.{Answer}
 use Rattle.article.specs.declared.pair.Leg.{Leg}
-use Rattle.holding.specs.Holding.{valueLimit}
 use Rattle.holding.specs.declared.Row.{Row}
 use Rattle.pairing.specs.Pairing.{pairUnits, saving, pricedTotal}
 use Rattle.ranking.specs.Ranking.{rankingOf}
@@ -24,23 +23,23 @@ use Rattle.columns.specs.Columns.{Columns, makeColumns, columnAt, countIn, rows
 use Rattle.columns.proofs.Columns.{column-entries}
 use Rattle.sizes.specs.Sizes.{entriesOf, differ, lengthFault}
 use Rattle.sizes.proofs.Sizes as sizes
-use Rattle.packed.specs.Held.{legAt, Legs, LegsOf, Same, AtMost, entry}
+use Rattle.packed.specs.Held.{Legs, LegsOf, Same, entry}
 use Rattle.proposal.specs.Submission.{Submission, PricedBook, bookOf, termsOf, priced}
-use Rattle.proposal.specs.Figures.{priceLimit, marginLimit, remainder, margin, remaindersOf, marginsOf, unitsOf, ranked, RoundedUp}
+use Rattle.proposal.specs.Figures.{remainder, margin, remaindersOf, marginsOf, unitsOf, ranked, RoundedUp}
 use Rattle.proposal.specs.Outcome.{makeFault, faultAnswer, bookFaults, linesFaults, uncoveredPairs, totalsFaults, fromPairs, fromLines, fromBook, firstFault, accepted, outcome}
 use Rattle.proposal.specs.declared.Fault.{Fault}
 use Rattle.proposal.proofs.PricedBooks.{value-at}
 use Rattle.proposal.proofs.Clear.{book-numbered, lines-numbered, uncovered-numbered}
 use Rattle.proposal.proofs.Stages.{refuses, passes, from-holdings, totals-differ, totals-equal}
-use Rattle.positions.specs.Opens.{OpenRoom, Opened, Opens}
+use Rattle.positions.specs.Opens.{Opened, Opens}
 use Rattle.tally.specs.Lines.{LinesLent, takenLines, Walks, Takes}
 use Rattle.tally.specs.declared.Walked.{Walked}
 use Rattle.cover.specs.Cover.{Priced, Finds, Valued, Totals}
 use Rattle.figures.specs.Margins.{MarginsLent, leftMargin, Margins}
-use Rattle.verdict.specs.Judges.{refusalOf, outcomeIn, ScratchRoom, Scratch, makeScratch, Judges}
+use Rattle.verdict.specs.Judges.{refusalOf, outcomeIn, Scratch, makeScratch, Judges}
 use Rattle.verdict.specs.declared.Verdict.{Verdict}
 use Rattle.verdict.specs.declared.Verdict.the-variants.{Accepted}
-use Rattle.verdict.proofs.Judged.{ranked-length, refusal-judged, figures-judged}
+use Rattle.verdict.proofs.Judged.{refusal-judged, figures-judged}
 
 -- columns of as many bytes each have an entry for each number below n
 long-enough : (n : ℕ) (columns : List (List ℕ)) → Each (λ size. size ≡ 8 * n) (map length columns) → Each (λ c. 8 * n ≤ length c) columns
@@ -192,7 +191,10 @@ module _ (two : Bool) (side : List ℕ) (rest : List (List ℕ)) (price long : L
     }
 
     -- a holding's value is in the fifth column
-    pub value-in : Same n (wordAt (columnAt (side ∷ rest) 4)) (b .value)
+    abbrev fifth : List ℕ
+    fifth = columnAt (side ∷ rest) 4
+
+    value-in : Same n (wordAt fifth) (b .value)
     unfolding entries
     value-in k q = sym (value-at s k ∙ column-entries c .holding k q .value)
 
@@ -200,19 +202,14 @@ module _ (two : Bool) (side : List ℕ) (rest : List (List ℕ)) (price long : L
     unfolding entries
     entries-are = omega (arith, h .sized .prices)
 
-    -- the column of values by name
-    module _ {value : List ℕ} (here : Same n (wordAt value) (b .value)) where
-      pub values-lent : 8 * n ≤ length value → Valued price value
-      unfolding priced
-      values-lent long = record {
-        count = omega (arith, entries-are, h .sized .few);
-        held = omega (arith, entries-are);
-        prices = rw entries-are (prices-lent .high);
-        values = rw entries-are (λ k q. rw (here k q) (h .opened .values-high k (omega (arith, rows-are))));
-      }
-
-      pub total-of : {total : ℕ} → Totals price value total → total ≡ pricedTotal (termsOf b) (b .price)
-      total-of totals = totals .total b (count-is ∙ sym entries-are) (rw entries-are price-is) (rw entries-are here)
+    pub values-lent : 8 * n ≤ length fifth → Valued price fifth
+    unfolding priced
+    values-lent long = record {
+      count = omega (arith, entries-are, h .sized .few);
+      held = omega (arith, entries-are);
+      prices = rw entries-are (prices-lent .high);
+      values = rw entries-are (λ k q. rw (value-in k q) (h .opened .values-high k (omega (arith, rows-are))));
+    }
 
     -- the lines, whose remainders go over the values
     module _ {left′ : List ℕ} {w : Walked} (takes : Takes n legs left (linesIn (long ∷ more)) left′ w) where
@@ -258,67 +255,70 @@ module _ (two : Bool) (side : List ℕ) (rest : List (List ℕ)) (price long : L
           unfolding faultAnswer
           pair-refused q = refused-by g q (refuses _ (uncoveredPairs b) (totalsFaults b (s .lines)) figures lines-next _ pair-found q)
 
-          pub pairs-next : g .number ≡ 0 → outcomeIn two c ≡ firstOf (totalsFaults b (s .lines)) figures
-          unfolding faultAnswer
-          pairs-next q = passes _ (uncoveredPairs b) (totalsFaults b (s .lines)) figures lines-next _ pair-found (uncovered-numbered two two s) q
+          -- the totals
+          module _ (none : g .number ≡ 0) {total : ℕ} (totals : Totals price fifth total) where
+            next : outcomeIn two c ≡ firstOf (totalsFaults b (s .lines)) figures
+            unfolding faultAnswer
+            next = passes _ (uncoveredPairs b) (totalsFaults b (s .lines)) figures lines-next _ pair-found (uncovered-numbered two two s) none
 
-        -- the totals
-        module _ (next : outcomeIn two c ≡ firstOf (totalsFaults b (s .lines)) figures) (total : ℕ) (total-found : total ≡ pricedTotal (termsOf b) (b .price)) where
-          saving-found : w .saving ≡ saving (termsOf b) (s .lines)
-          saving-found = walks .saving ∙ rw all-taken
+            total-found : total ≡ pricedTotal (termsOf b) (b .price)
+            total-found = totals .total b (count-is ∙ sym entries-are) (rw entries-are price-is) (rw entries-are value-in)
 
-          pub totals-refused : {before after : Scratch} {r : Verdict} → (total ≡ w .saving → ⊥) → r ≡ refusalOf (makeFault 17 0 0) → Judges two c before after r
-          unfolding faultAnswer
-          totals-refused q =
-              refused-by (makeFault 17 0 0) (λ z. omega arith) (totals-differ b (s .lines) _ figures next (λ z. q (total-found ∙ z ∙ sym saving-found)))
+            saving-found : w .saving ≡ saving (termsOf b) (s .lines)
+            saving-found = walks .saving ∙ rw all-taken
 
-          -- the figures
-          module _ {margins₀ margins : List ℕ} {sum : ℕ} (found : Margins n legs left′ margins₀ margins sum) where
-            margin-is : (k : ℕ) → k < n → leftMargin legs left′ k ≡ margin b (s .lines) k
-            unfolding leftMargin margin remaindersOf
-            margin-is k q =
-                let rate = ap (λ (l : Leg). l .rate) (legs-of .leg k q) in
-                let left-is : entry left′ k ≡ remainder b (s .lines) k =
-                ap (λ (xs : List ℕ). getD xs k 0) remainders-are
-                ∙ front-at (remaindersOf b (s .lines)) left₀ k (omega (arith, remainders-length))
-                ∙ getD-to (b .count) (remainder b (s .lines)) k 0 (omega (arith, count-is)) in
-                rw (rate, left-is)
+            pub totals-refused : {before after : Scratch} {r : Verdict} → (total ≡ w .saving → ⊥) → r ≡ refusalOf (makeFault 17 0 0) → Judges two c before after r
+            unfolding faultAnswer
+            totals-refused q =
+                refused-by (makeFault 17 0 0) (λ z. omega arith) (totals-differ b (s .lines) _ figures next (λ z. q (total-found ∙ z ∙ sym saving-found)))
 
-            -- the list of margins is the book's
-            listed : listTo n (leftMargin legs left′) ≡ marginsOf b (s .lines)
-            unfolding marginsOf
-            listed = to-eq n _ _ margin-is ∙ ap (λ (m : ℕ). listTo m (margin b (s .lines))) (sym count-is)
+            -- the figures
+            module _ {margins₀ margins : List ℕ} {sum : ℕ} (found : Margins n legs left′ margins₀ margins sum) where
+              margin-is : (k : ℕ) → k < n → leftMargin legs left′ k ≡ margin b (s .lines) k
+              unfolding leftMargin margin remaindersOf
+              margin-is k q =
+                  let rate = ap (λ (l : Leg). l .rate) (legs-of .leg k q) in
+                  let left-is : entry left′ k ≡ remainder b (s .lines) k =
+                  ap (λ (xs : List ℕ). getD xs k 0) remainders-are
+                  ∙ front-at (remaindersOf b (s .lines)) left₀ k (omega (arith, remainders-length))
+                  ∙ getD-to (b .count) (remainder b (s .lines)) k 0 (omega (arith, count-is)) in
+                  rw (rate, left-is)
 
-            listed-is : (k : ℕ) → k < n → entry margins k ≡ margin b (s .lines) k
-            listed-is k q =
-                ap (λ (xs : List ℕ). getD xs k 0) (found .each)
-                ∙ front-at _ margins₀ k (omega (arith, length-to n (leftMargin legs left′)))
-                ∙ getD-to n (leftMargin legs left′) k 0 q
-                ∙ margin-is k q
+              -- the list of margins is the book's
+              listed : listTo n (leftMargin legs left′) ≡ marginsOf b (s .lines)
+              unfolding marginsOf
+              listed = to-eq n _ _ margin-is ∙ ap (λ (m : ℕ). listTo m (margin b (s .lines))) (sym count-is)
 
-            units-are : w .units + sum ≡ unitsOf b (s .lines)
-            unfolding unitsOf
-            units-are =
-                let pairs : w .units ≡ pairUnits (termsOf b) (s .lines) = walks .units ∙ rw all-taken in
-                let left-over : sum ≡ sumTo (b .count) (margin b (s .lines)) =
-                found .sum ∙ sumTo-eq n _ _ margin-is ∙ ap (λ (m : ℕ). sumTo m (margin b (s .lines))) (sym count-is) in
-                rw (pairs, left-over)
+              listed-is : (k : ℕ) → k < n → entry margins k ≡ margin b (s .lines) k
+              listed-is k q =
+                  ap (λ (xs : List ℕ). getD xs k 0) (found .each)
+                  ∙ front-at _ margins₀ k (omega (arith, length-to n (leftMargin legs left′)))
+                  ∙ getD-to n (leftMargin legs left′) k 0 q
+                  ∙ margin-is k q
 
-            ranking-is : rankingOf (entry margins) n ≡ ranked b (s .lines)
-            unfolding ranked
-            ranking-is = ranking-same _ _ n listed-is ∙ ap (rankingOf (margin b (s .lines))) (sym count-is)
+              units-are : w .units + sum ≡ unitsOf b (s .lines)
+              unfolding unitsOf
+              units-are =
+                  let pairs : w .units ≡ pairUnits (termsOf b) (s .lines) = walks .units ∙ rw all-taken in
+                  let left-over : sum ≡ sumTo (b .count) (margin b (s .lines)) =
+                  found .sum ∙ sumTo-eq n _ _ margin-is ∙ ap (λ (m : ℕ). sumTo m (margin b (s .lines))) (sym count-is) in
+                  rw (pairs, left-over)
 
-            pub margins-held : n ≤ length margins₀ → n ≤ length margins
-            margins-held q =
-                let long = length-to n (leftMargin legs left′) in
-                omega (arith, ap (λ (xs : List ℕ). length xs) (found .each), front-long (listTo n (leftMargin legs left′)) margins₀ (omega (arith, long)), q)
+              ranking-is : rankingOf (entry margins) n ≡ ranked b (s .lines)
+              unfolding ranked
+              ranking-is = ranking-same _ _ n listed-is ∙ ap (rankingOf (margin b (s .lines))) (sym count-is)
 
-            pub all-judged : {ranks₀ ranks : List ℕ} {units cents : ℕ} → ranks ≡ front (rankingOf (entry margins) n) ranks₀ → total ≡ w .saving → units ≡ w .units + sum → RoundedUp units cents
-                → Judges two c (makeScratch left₀ margins₀ ranks₀) (makeScratch left′ margins ranks) (Accepted units cents)
-            all-judged {ranks₀} {units = units} {cents} p q u r =
-                figures-judged two c _ _ units cents (totals-equal b (s .lines) _ figures next (sym total-found ∙ q ∙ saving-found)) (u ∙ units-are) r
-                record {
-                  remainders = remainders-are;
-                  margins = found .each ∙ ap (λ (xs : List ℕ). front xs margins₀) listed;
-                  ranking = p ∙ ap (λ (xs : List ℕ). front xs ranks₀) ranking-is;
-                }
+              pub margins-held : n ≤ length margins₀ → n ≤ length margins
+              margins-held q =
+                  let long = length-to n (leftMargin legs left′) in
+                  omega (arith, ap (λ (xs : List ℕ). length xs) (found .each), front-long (listTo n (leftMargin legs left′)) margins₀ (omega (arith, long)), q)
+
+              pub all-judged : {ranks₀ ranks : List ℕ} {units cents : ℕ} → ranks ≡ front (rankingOf (entry margins) n) ranks₀ → total ≡ w .saving → units ≡ w .units + sum → RoundedUp units cents
+                  → Judges two c (makeScratch left₀ margins₀ ranks₀) (makeScratch left′ margins ranks) (Accepted units cents)
+              all-judged {ranks₀} {units = units} {cents} p q u r =
+                  figures-judged two c _ _ units cents (totals-equal b (s .lines) _ figures next (sym total-found ∙ q ∙ saving-found)) (u ∙ units-are) r
+                  record {
+                    remainders = remainders-are;
+                    margins = found .each ∙ ap (λ (xs : List ℕ). front xs margins₀) listed;
+                    ranking = p ∙ ap (λ (xs : List ℕ). front xs ranks₀) ranking-is;
+                  }

@@ -1,11 +1,10 @@
 -- From an outcome to what the check promises: of a refusal, and of the figures. Assumes nothing.
-use mathlib.Core.Path.{_≡_, sym, _∙_}
+use mathlib.Core.Path.{_≡_, sym}
 use mathlib.Core.Bool.{Bool}
 use mathlib.Core.List.{List, []}
 use Prim.Native.Nat.{ℕ}
 use lib.ListN.{length}
 use borrow.Author.Tests.{ne-eqb}
-use Rattle.ranking.specs.Ranking.{rankingOf}
 use Rattle.ranking.proofs.Ranking.{ranking, ranking-length}
 use Rattle.article.specs.Answer.{Answer, makeAnswer}
 use Rattle.columns.specs.Columns.{Columns, submission, holdingSizes, lineSizes}

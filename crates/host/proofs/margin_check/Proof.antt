@@ -6,12 +6,6 @@ use Rattle.host.proofs.margin_check.Statement.{statement}
 use Rattle.host.proofs.margin_check.Tie as tie
 
 -- up to 128 bytes are up to 16 holdings
-judge-requires : tie.Need-judge-requires
-unfolding entries
-judge-requires c κs =
-    let few = c .before .before .before .before .before .before .before .if1 .taken in
-    record { legs-held = λ _. omega arith; left-held = λ _. omega arith; margins-held = λ _. omega arith; ranks-held = λ _. omega arith }
-
 pub margin-check-spec : {M : Type 1} → statement M
 margin-check-spec =
     tie.close
@@ -20,7 +14,9 @@ margin-check-spec =
     (λ c. search needs)
     (λ c. search needs)
     (λ c. search needs)
-    judge-requires
+    (λ c κs.
+    let few = c .before .before .before .before .before .before .before .if1 .taken in
+    unfold entries in record { legs-held = λ _. omega arith; left-held = λ _. omega arith; margins-held = λ _. omega arith; ranks-held = λ _. omega arith })
     (λ c. search needs)
     (λ c. search needs)
     (λ c. search needs)

@@ -39,19 +39,6 @@ returns-2 c =
     let asked = short .before in
     list-refused _ _ _ (read-file asked .read .ensures) (tested asked .if1 .left) (same asked) _ _ (short .if2 .taken) (answered .put-answer2 .ensures)
 
-write-book-requires : tie.Need-write-book-requires
-write-book-requires c κs =
-    let fits = c .before .before .before .before .before .before in
-    let asked = fits .before in
-    book-room _ (lent (read-file asked)) (start (read-file asked) .args .answer .now) (read-file asked .read .ensures) (tested asked .if1 .left) (same asked) (fits .if2 .left)
-
-write-proposal-requires : tie.Need-write-proposal-requires
-write-proposal-requires c κs =
-    let fits =
-    c .before .before .before .before .before .before .before .before .before .before .before .before .before .before .before .before .before .before .before .before .before .before in
-    let asked = fits .before in
-    lines-room _ (lent (read-file asked)) (start (read-file asked) .args .answer .now) (read-file asked .read .ensures) (tested asked .if1 .left) (same asked) (fits .if2 .left)
-
 returns-3 : tie.Need-returns-3
 returns-3 c =
     let answered = c .before .before in
@@ -74,8 +61,15 @@ margin-read-spec =
     (λ c κs. search needs)
     (λ c. search needs)
     returns-2
-    write-book-requires
-    write-proposal-requires
+    (λ c κs.
+    let fits = c .before .before .before .before .before .before in
+    let asked = fits .before in
+    book-room _ (lent (read-file asked)) (start (read-file asked) .args .answer .now) (read-file asked .read .ensures) (tested asked .if1 .left) (same asked) (fits .if2 .left))
+    (λ c κs.
+    let fits =
+    c .before .before .before .before .before .before .before .before .before .before .before .before .before .before .before .before .before .before .before .before .before .before in
+    let asked = fits .before in
+    lines-room _ (lent (read-file asked)) (start (read-file asked) .args .answer .now) (read-file asked .read .ensures) (tested asked .if1 .left) (same asked) (fits .if2 .left))
     (λ c κs. search needs)
     (λ c. search needs)
     (λ c. search needs)

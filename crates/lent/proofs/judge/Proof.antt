@@ -31,28 +31,6 @@ returns c =
     let k = checked (v .before .before) in
     accepted-checks _ _ (tested k .lists-too-short .ensures) (k .check .ensures) (v .verdict .given .1) (p .write-words .ensures) (q .write-words2 .ensures) (a .put-answer .ensures)
 
-write-words-requires : tie.Need-write-words-requires
-unfolding countIn entries two sizesOf
-write-words-requires c κs =
-    let v = c .before .before .before in
-    let k = checked (v .before .before) in
-    remainder-room _ (lists (tested k)) (tested k .lists-too-short .ensures) (k .check .ensures) (v .verdict .given .1)
-
-write-words-requires-2 : tie.Need-write-words-requires-2
-unfolding countIn entries two sizesOf
-write-words-requires-2 c κs =
-    let v = c .before .before .before .before .before .before .before .before in
-    let k = checked (v .before .before) in
-    ranking-room _ (lists (tested k)) (tested k .lists-too-short .ensures) (k .check .ensures) (v .verdict .given .1)
-
-returns-2 : tie.Need-returns-2
-unfolding countIn entries two sizesOf
-returns-2 c =
-    let a = c .before .before in
-    let v = a .before .before .before in
-    let k = checked (v .before .before) in
-    refused-checks _ _ (tested k .lists-too-short .ensures) (k .check .ensures) (v .verdict2 .given .1) (a .put-answer2 .ensures)
-
 pub judge-spec : {M : Type 1} → statement M
 judge-spec =
     tie.close
@@ -60,8 +38,16 @@ judge-spec =
     (λ c κs. search needs)
     (λ c κs. search needs)
     (λ c. search needs)
-    write-words-requires
-    write-words-requires-2
+    (λ c κs.
+    let v = c .before .before .before in
+    let k = checked (v .before .before) in
+    unfold countIn entries two sizesOf in
+    remainder-room _ (lists (tested k)) (tested k .lists-too-short .ensures) (k .check .ensures) (v .verdict .given .1))
+    (λ c κs.
+    let v = c .before .before .before .before .before .before .before .before in
+    let k = checked (v .before .before) in
+    unfold countIn entries two sizesOf in
+    ranking-room _ (lists (tested k)) (tested k .lists-too-short .ensures) (k .check .ensures) (v .verdict .given .1))
     (λ c κs. search needs)
     (λ c. search needs)
     (λ c. search needs)
@@ -78,4 +64,9 @@ judge-spec =
     (λ c. search needs)
     (λ c. search needs)
     (λ c. search needs)
-    returns-2)
+    (λ c.
+    let a = c .before .before in
+    let v = a .before .before .before in
+    let k = checked (v .before .before) in
+    unfold countIn entries two sizesOf in
+    refused-checks _ _ (tested k .lists-too-short .ensures) (k .check .ensures) (v .verdict2 .given .1) (a .put-answer2 .ensures)))

@@ -4,9 +4,5 @@ use Rattle.lists.specs.Tables.{zeros}
 use Rattle.lists.proofs.zeros.Statement.{statement}
 use Rattle.lists.proofs.zeros.Tie as tie
 
-returns : tie.Need-returns
-unfolding zeros
-returns c = refl
-
 pub zeros-spec : {M : Type 1} → statement M
-zeros-spec = tie.close (tie.spec returns)
+zeros-spec = tie.close (tie.spec (λ c. unfold zeros in refl))

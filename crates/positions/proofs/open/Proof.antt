@@ -18,10 +18,6 @@ Inv-loop side kind issuer days value price legs₀ left₀ n i₀ legs left i =
 abbrev μ-loop : tie.MeasureT-loop
 μ-loop side kind issuer days value price legs₀ left₀ n i₀ legs left i = n - i
 
-loop-holds : tie.Need-loop-holds Inv-loop μ-loop
-unfolding countIn entries
-loop-holds c = (refl, opening-none (search needs))
-
 returns : tie.Need-returns Inv-loop μ-loop
 returns c =
     let made = c .before .before .before .before in
@@ -36,11 +32,6 @@ returns-2 c =
     opens-price (turn .before .loop .inv .1) (omega arith) (search row-read) (made .holding-of .ensures)
     (c .before .before .before .before .built2 .given .1) (c .before .before .word6 .ensures) (omega arith) (c .fault-at2 .ensures)
 
-code-of-requires : tie.Need-code-of-requires Inv-loop μ-loop
-code-of-requires c κs =
-    let made = c .before .before .before .before .before .before in
-    small-leg (made .holding-of .ensures) (c .before .before .before .before .built2 .given .1) (c .leg-of .ensures .0)
-
 loop-again : tie.Need-loop-again Inv-loop μ-loop
 loop-again c =
     let made = c .before .before .before .before .before .before .before in
@@ -50,16 +41,13 @@ loop-again c =
           (c .before .before .before .before .before .built2 .given .1) (c .before .before .before .word6 .ensures) (omega arith) (c .before .leg-of .ensures .0) (c .code-of .ensures),
     )
 
-returns-3 : tie.Need-returns-3 Inv-loop μ-loop
-returns-3 c = opens-all (c .before .before .loop .inv .1) (omega arith) (c .fault-at3 .ensures)
-
 pub open-spec : {M : Type 1} → statement M
 open-spec =
     tie.close
     (tie.spec
     Inv-loop
     μ-loop
-    loop-holds
+    (λ c. unfold countIn entries in (refl, opening-none (search needs)))
     (λ c κs. search needs)
     (λ c κs. search needs)
     (λ c κs. search needs)
@@ -78,7 +66,7 @@ open-spec =
     (λ c. search needs)
     returns-2
     (λ c κs. search needs)
-    code-of-requires
+    (λ c κs. small-leg (c .before .before .before .before .before .before .holding-of .ensures) (c .before .before .before .before .built2 .given .1) (c .leg-of .ensures .0))
     (λ c. search needs)
     (λ c. search needs)
     (λ c. search needs)
@@ -89,4 +77,4 @@ open-spec =
     (λ c κs. search needs)
     (λ c. search needs)
     (λ c. search needs)
-    returns-3)
+    (λ c. opens-all (c .before .before .loop .inv .1) (omega arith) (c .fault-at3 .ensures)))

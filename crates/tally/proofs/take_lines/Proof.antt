@@ -42,12 +42,12 @@ turn c =
     record { room = start .pre .held; bounded = start .pre .bounded; walk = c .before .loop .inv; more = c .loop-test .taken; few = start .pre .few }
 
 -- the line stands in each column
-in-each : (cs : List (List ℕ)) (i m : ℕ) → i < m → Each (λ c. 8 * m ≤ length c) cs → Each (λ c. 8 * i + 8 ≤ length c) cs
-in-each cs i m h = each-so (λ c. 8 * m ≤ length c) (λ c. 8 * i + 8 ≤ length c) (λ c q. omega arith) cs
-
 stands : (c : tie.In-loop Inv-loop μ-loop) → Each (λ (xs : List ℕ). 8 * c .before .loop .i + 8 ≤ length xs) (columns (c .before))
 unfolding countIn entries
-stands c = in-each (columns (c .before)) (c .before .loop .i) _ (c .loop-test .taken) (entry (c .before) .pre .each)
+stands c =
+    let m = length (entry (c .before) .args .long .now) / 8 in
+    let i = c .before .loop .i in
+    each-so (λ (xs : List ℕ). 8 * m ≤ length xs) (λ xs. 8 * i + 8 ≤ length xs) (λ xs q. omega (arith, c .loop-test .taken)) (columns (c .before)) (entry (c .before) .pre .each)
 
 -- where both numbers of the line are in the book
 abbrev inside : tie.After-leg-in2 Inv-loop μ-loop → tie.Else2 Inv-loop μ-loop
@@ -85,9 +85,6 @@ read c =
       short-leg = c .leg-in2 .ensures;
     }
 
-loop-holds : tie.Need-loop-holds Inv-loop μ-loop
-loop-holds c = starts (c .before .before .before .before .before .pre .high)
-
 returns : tie.Need-returns Inv-loop μ-loop
 unfolding linesIn countIn entries numbersAt
 returns c =
@@ -101,12 +98,6 @@ returns-2 c =
     let at = listed .before .before in
     no-short (turn (at .before)) (omega (arith, at .word .ensures, listed .if1 .left)) (omega (arith, listed .before .word2 .ensures, c .before .if2 .taken)) (c .stopped2 .ensures)
 
-apply-requires : tie.Need-apply-requires Inv-loop μ-loop
-apply-requires c κs = ready (turn (now (inside c))) (read c)
-
-same-length-3 : tie.Need-same-length-3 Inv-loop μ-loop
-same-length-3 c = turn (now (inside (c .before .before .before .before .before))) .walk .going .long
-
 returns-3 : tie.Need-returns-3 Inv-loop μ-loop
 unfolding linesIn countIn entries
 returns-3 c =
@@ -116,27 +107,6 @@ returns-3 c =
 -- a line that is taken off, where it was applied
 abbrev at-apply : tie.After-known-told2 Inv-loop μ-loop → tie.After-leg-in2 Inv-loop μ-loop
 at-apply c = c .before .before .before .before
-
-mul-left : tie.Need-mul-left Inv-loop μ-loop
-mul-left c = omega (arith, room (inside (at-apply c)))
-
-slice-write-left : tie.Need-slice-write-left Inv-loop μ-loop
-slice-write-left c = omega (arith, room (inside (at-apply c)))
-
-mul-left-2 : tie.Need-mul-left-2 Inv-loop μ-loop
-mul-left-2 c = omega (arith, room (inside (at-apply c)))
-
-slice-write-left-2 : tie.Need-slice-write-left-2 Inv-loop μ-loop
-slice-write-left-2 c = simp length-set (omega (arith, room (inside (at-apply c))))
-
-add-i : tie.Need-add-i Inv-loop μ-loop
-add-i c = omega (arith, turn (now (inside (at-apply c))))
-
-loop-less : tie.Need-loop-less Inv-loop μ-loop
-loop-less c = omega (arith, turn (now (inside (at-apply c))))
-
-loop-again : tie.Need-loop-again Inv-loop μ-loop
-loop-again c = goes (turn (now (inside (at-apply c)))) (read (at-apply c)) (c .before .before .before .apply .ensures) (c .before .applied2 .given .1)
 
 returns-4 : tie.Need-returns-4 Inv-loop μ-loop
 unfolding linesIn countIn entries
@@ -151,7 +121,7 @@ take-lines-spec =
     (tie.spec
     Inv-loop
     μ-loop
-    loop-holds
+    (λ c. starts (c .before .before .before .before .before .pre .high))
     (λ c κs. stands c .0)
     (λ c κs. stands (c .before) .1 .0)
     (λ c κs. search needs)
@@ -171,19 +141,19 @@ take-lines-spec =
     (λ c. search needs)
     (λ c. search needs)
     (λ c κs. search needs)
-    apply-requires
+    (λ c κs. ready (turn (now (inside c))) (read c))
     (λ c. search needs)
     (λ c κs. search needs)
-    same-length-3
+    (λ c. turn (now (inside (c .before .before .before .before .before))) .walk .going .long)
     returns-3
     (λ c. search needs)
-    mul-left
-    slice-write-left
-    mul-left-2
-    slice-write-left-2
-    add-i
-    loop-less
-    loop-again
+    (λ c. omega (arith, room (inside (at-apply c))))
+    (λ c. omega (arith, room (inside (at-apply c))))
+    (λ c. omega (arith, room (inside (at-apply c))))
+    (λ c. simp length-set (omega (arith, room (inside (at-apply c)))))
+    (λ c. omega (arith, turn (now (inside (at-apply c)))))
+    (λ c. omega (arith, turn (now (inside (at-apply c)))))
+    (λ c. goes (turn (now (inside (at-apply c)))) (read (at-apply c)) (c .before .before .before .apply .ensures) (c .before .applied2 .given .1))
     (λ c κs. search needs)
     (λ c. search needs)
     returns-4)

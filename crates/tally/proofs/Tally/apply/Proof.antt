@@ -28,42 +28,6 @@ adds c =
     let found = rates (paired c) in
     high (le-trans (c .before .before .if4 .left) (entry (paired c) .pre .left)) (found .rate-high) (found .saving-high)
 
-returns : tie.Need-returns
-unfolding appliedOf refusals pairFaults firstOf isLong isShort
-returns c = record { answer = search tests }
-
-returns-2 : tie.Need-returns-2
-unfolding appliedOf refusals pairFaults firstOf isLong isShort
-returns-2 c = record { answer = search tests }
-
-returns-3 : tie.Need-returns-3
-unfolding appliedOf refusals pairFaults firstOf isLong isShort
-returns-3 c = record { answer = search (tests, answered-refused (c .before .before .pair-legs .ensures) (c .enum-told .given .1)) }
-
-returns-4 : tie.Need-returns-4
-unfolding appliedOf refusals pairFaults firstOf isLong isShort
-returns-4 c = record { answer = search (tests, rates (c .before .before) .may) }
-
-returns-5 : tie.Need-returns-5
-unfolding appliedOf refusals pairFaults firstOf isLong isShort
-returns-5 c = record { answer = search (tests, rates (c .before .before .before .before) .may) }
-
-returns-6 : tie.Need-returns-6
-unfolding appliedOf refusals pairFaults firstOf isLong isShort
-returns-6 c = record { answer = search (tests, rates (c .before .before .before .before .before .before) .may) }
-
-mul-units : tie.Need-mul-t12
-mul-units c = omega (arith, adds (c .before .before))
-
-add-units : tie.Need-add-t13
-add-units c = omega (arith, adds (c .before .before .before), entry (paired (c .before .before .before)) .pre)
-
-mul-saving : tie.Need-mul-t14
-mul-saving c = omega (arith, adds (c .before .before .before))
-
-add-saving : tie.Need-add-t15
-add-saving c = omega (arith, adds (c .before .before .before .before), entry (paired (c .before .before .before .before)) .pre)
-
 returns-7 : tie.Need-returns-7
 unfolding appliedOf refusals pairFaults firstOf isLong isShort taken
 returns-7 c =
@@ -74,17 +38,17 @@ pub apply-spec : {M : Type 1} → statement M
 apply-spec =
     tie.close
     (tie.spec
-    returns
-    returns-2
+    (λ c. unfold appliedOf refusals pairFaults firstOf isLong isShort in record { answer = search tests })
+    (λ c. unfold appliedOf refusals pairFaults firstOf isLong isShort in record { answer = search tests })
     (λ c κs. search needs)
     (λ c. search needs)
-    returns-3
+    (λ c. unfold appliedOf refusals pairFaults firstOf isLong isShort in record { answer = search (tests, answered-refused (c .before .before .pair-legs .ensures) (c .enum-told .given .1)) })
     (λ c. search needs)
-    returns-4
-    returns-5
-    returns-6
-    mul-units
-    add-units
-    mul-saving
-    add-saving
+    (λ c. unfold appliedOf refusals pairFaults firstOf isLong isShort in record { answer = search (tests, rates (c .before .before) .may) })
+    (λ c. unfold appliedOf refusals pairFaults firstOf isLong isShort in record { answer = search (tests, rates (c .before .before .before .before) .may) })
+    (λ c. unfold appliedOf refusals pairFaults firstOf isLong isShort in record { answer = search (tests, rates (c .before .before .before .before .before .before) .may) })
+    (λ c. omega (arith, adds (c .before .before)))
+    (λ c. omega (arith, adds (c .before .before .before), entry (paired (c .before .before .before)) .pre))
+    (λ c. omega (arith, adds (c .before .before .before)))
+    (λ c. omega (arith, adds (c .before .before .before .before), entry (paired (c .before .before .before .before)) .pre))
     returns-7)
