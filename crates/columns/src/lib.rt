@@ -10,8 +10,7 @@ ghost use lib.ListN.{length, getD};
 ghost use Rattle.lists.specs.Tables.{listTo};
 ghost use Rattle.holding.specs.Holding.{numbersOf};
 ghost use Rattle.proposal.specs.Submission.{linesOf, lineNumbers};
-ghost use Rattle.columns.specs.Columns.{column, filledFrom};
-ghost use Rattle.columns.specs.Writing.{rowNumber, lineNumber, BookRoom, LinesRoom, BookWritten};
+ghost use Rattle.columns.specs.Columns.{column, filledFrom, rowNumber, lineNumber, BookRoom, LinesRoom, BookWritten};
 
 // The number of a row in column j: side, kind, issuer, days, value.
 fn row_number(row: Row, j: usize) -> u64

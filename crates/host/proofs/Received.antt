@@ -19,8 +19,7 @@ use Rattle.proposal.specs.Submission.{Submission, lineNumbers, rowsOf, linesOf,
 use Rattle.proposal.proofs.Clear.{number}
 use Rattle.holding.specs.Holding.{numbersOf}
 use Rattle.words.specs.Words.{encode}
-use Rattle.columns.specs.Columns.{Columns, makeColumns, holdingSizes, lineSizes, column, filledFrom, filled}
-use Rattle.columns.specs.Writing.{BookRoom, LinesRoom, BookWritten}
+use Rattle.columns.specs.Columns.{Columns, makeColumns, holdingSizes, lineSizes, column, filledFrom, filled, BookRoom, LinesRoom, BookWritten}
 use Rattle.columns.proofs.ReadBack.{price-read, rows-read, lines-read}
 use Rattle.sizes.specs.Sizes.{Room, tooShort}
 use Rattle.sizes.proofs.Sizes.{room-exactly}

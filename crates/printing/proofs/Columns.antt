@@ -12,8 +12,7 @@ use Rattle.lists.proofs.Tables.{length-to}
 use Rattle.proposal.specs.Submission.{rowsOf, pricesOf, linesOf, lineNumbers, submitted}
 use Rattle.proposal.specs.declared.Book.{Book}
 use Rattle.proposal.specs.declared.Proposal.{Proposal}
-use Rattle.columns.specs.Columns.{Columns, makeColumns, columnAt, submission, holdingSizes, lineSizes, filledFrom, filled}
-use Rattle.columns.specs.Writing.{BookRoom, LinesRoom, BookWritten}
+use Rattle.columns.specs.Columns.{Columns, makeColumns, columnAt, submission, holdingSizes, lineSizes, filledFrom, filled, BookRoom, LinesRoom, BookWritten}
 use Rattle.columns.proofs.Columns.{column-entries}
 use Rattle.columns.proofs.ReadBack.{SubmissionFits, cut, submission-filled}
 use Rattle.sizes.specs.Sizes.{entriesOf, Equal, differ}

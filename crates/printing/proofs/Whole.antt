@@ -24,8 +24,7 @@ use Rattle.reader.specs.ReadsFile.{ReadsFile}
 use Rattle.reader.specs.declared.Contents.{Contents}
 use Rattle.readable.specs.Readable.{Submits}
 use Rattle.readable.proofs.Exactly.{read-exactly}
-use Rattle.columns.specs.Columns.{makeColumns, filledFrom}
-use Rattle.columns.specs.Writing.{BookRoom, LinesRoom, BookWritten}
+use Rattle.columns.specs.Columns.{makeColumns, filledFrom, BookRoom, LinesRoom, BookWritten}
 use Rattle.verdict.specs.Judges.{outcomeIn}
 use Rattle.verdict.proofs.Judged.{all-ranked}
 use Rattle.report.specs.Report.{lineOf, refusalLine, marginLine, remainderLine, printedLines, bookLine, printedOf}

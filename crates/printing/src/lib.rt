@@ -2,8 +2,7 @@
 ghost use mathlib.Core.Path.{_≡_};
 ghost use mathlib.Core.List.{[], _∷_};
 ghost use lib.ListN.{length};
-ghost use Rattle.columns.specs.Columns.{makeColumns};
-ghost use Rattle.columns.specs.Writing.{BookRoom, LinesRoom};
+ghost use Rattle.columns.specs.Columns.{makeColumns, BookRoom, LinesRoom};
 ghost use Rattle.printing.specs.Printed.{PrintsFile};
 ghost use Rattle.printing.specs.Columns.{cutTo, PrintsColumns};
 ghost use Rattle.printing.specs.Within.{Within};

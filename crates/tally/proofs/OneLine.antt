@@ -18,7 +18,7 @@ use Rattle.article.proofs.PairRates.{saving-high}
 use Rattle.proposal.specs.Figures.{marginLimit, savedLimit}
 use Rattle.proposal.specs.Outcome.{pairFaults}
 use Rattle.proposal.proofs.Places.{pair-listed}
-use Rattle.tally.specs.Applied.{refusals, taken, appliedOf, Ready, Applies}
+use Rattle.tally.specs.Lines.{refusals, taken, appliedOf, Ready, Applies}
 use Rattle.tally.specs.declared.Tally.{Tally}
 use Rattle.tally.specs.declared.Applied.{Applied}
 use Rattle.tally.specs.declared.Applied.the-variants.{Taken, Refused}

@@ -27,8 +27,7 @@ use Rattle.proposal.specs.Outcome.{faultAnswer, atPlace, pairFaults, lineFaults
 use Rattle.proposal.proofs.Places.{zero-at, first-at, line-listed}
 use Rattle.proposal.proofs.PricedBooks.{saving-rate}
 use Rattle.packed.specs.Held.{Legs, LegsOf, Same, AtMost, entry, legAt}
-use Rattle.tally.specs.Applied.{taken, Ready, Applies}
-use Rattle.tally.specs.Lines.{stoppedAt, takenLines, Takes}
+use Rattle.tally.specs.Lines.{taken, Ready, Applies, stoppedAt, takenLines, Takes}
 use Rattle.tally.specs.declared.Tally.{Tally}
 use Rattle.tally.specs.declared.Applied.{Applied}
 use Rattle.tally.specs.declared.Applied.the-variants.{Taken, Refused}

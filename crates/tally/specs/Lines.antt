@@ -1,21 +1,57 @@
--- Document 01, "each line in turn": what taking the lines of three columns off the first entries of a list promises. Assumes nothing.
+-- Document 01, "Each pair line takes the tally of unpaired values in and hands it back", "each line in turn": what one line does to the tally of its two
+-- holdings, and what taking the lines of three columns off the first entries of a list promises. Assumes nothing.
 use mathlib.Core.Path.{_≡_}
-use mathlib.Core.Bool.{cond}
-use mathlib.Core.List.{List}
-use Prim.Native.Nat.{ℕ, _*_, _≤_}
+use mathlib.Core.Bool.{Bool, cond}
+use mathlib.Core.List.{List, map}
+use Prim.Native.Nat.{ℕ, _+_, _-_, _*_, _≤_}
+use Rattle.lists.specs.Choice.{firstOf}
+use Rattle.holding.specs.Holding.{valueLimit}
+use Rattle.article.specs.Pair.{pairRateOf, savingRateOf, RateInRange}
+use Rattle.article.specs.declared.pair.Leg.{Leg}
+use Rattle.proposal.specs.Figures.{marginLimit, savedLimit, remaindersOf}
+use Rattle.proposal.specs.Outcome.{pairFaults, makeFault, faultAnswer, linesFaults, firstFault}
+use Rattle.tally.specs.declared.Tally.{Tally}
+use Rattle.tally.specs.declared.Applied.{Applied}
+use Rattle.tally.specs.declared.Applied.the-variants.{Taken, Refused}
 use lib.Dec.{eqb}
 use lib.ListN.{length, take}
 use Rattle.lists.specs.Each.{Each}
 use Rattle.lists.specs.Tables.{front}
-use Rattle.holding.specs.Holding.{valueLimit}
 use Rattle.pairing.specs.Pairing as pairing
 use Rattle.pairing.specs.declared.Line.{Line}
 use Rattle.columns.specs.Columns.{countIn}
 use Rattle.proposal.specs.Submission.{PricedBook, termsOf}
-use Rattle.proposal.specs.Figures.{marginLimit, remaindersOf}
-use Rattle.proposal.specs.Outcome.{makeFault, faultAnswer, linesFaults, firstFault}
 use Rattle.packed.specs.Held.{Legs, LegsOf, Same, AtMost, entry}
 use Rattle.tally.specs.declared.Walked.{Walked}
+
+-- refusals, each with its test, as answers on a line
+unfoldable pub refusals : List (Bool × ℕ) → List (Bool × Applied)
+refusals faults = map (λ f. (f .0, Refused (f .1))) faults
+
+-- one line off a tally: its amount off both legs, its units and its saving added
+unfoldable pub taken : Tally → ℕ → Leg → Leg → Tally
+taken t amount long short = record {
+  long = t .long - amount;
+  short = t .short - amount;
+  units = t .units + pairRateOf long short * amount;
+  saving = t .saving + savingRateOf long short * amount;
+}
+
+-- the answer on one line: the first of 12 to 15 that holds against what the tally has left, by its number, or the new tally
+unfoldable pub appliedOf : Tally → ℕ → Leg → Leg → Applied
+appliedOf t amount long short = firstOf (refusals (pairFaults long short amount (t .long) (t .short))) (Taken (taken t amount long short))
+
+-- a tally of at most 511 lines, and two legs
+pub record Ready (t : Tally) (long short : Leg) : Type 0 where
+  pub long-rate : RateInRange long
+  pub short-rate : RateInRange short
+  pub left : t .long ≤ valueLimit
+  pub units : t .units ≤ 511 * marginLimit
+  pub saving : t .saving ≤ 511 * savedLimit
+
+-- what applying one line promises
+pub record Applies (t : Tally) (amount : ℕ) (long short : Leg) (r : Applied) : Type 0 where
+  pub answer : r ≡ appliedOf t amount long short
 
 -- what is lent: packed legs and values of n holdings within the limits, and columns of at most 512 lines
 pub record LinesLent (n : ℕ) (legs left : List ℕ) (columns : List (List ℕ)) : Type 0 where

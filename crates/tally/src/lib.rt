@@ -6,8 +6,7 @@ use proposal::Fault;
 ghost use mathlib.Core.Path.{_≡_};
 ghost use mathlib.Core.List.{[], _∷_};
 ghost use Rattle.columns.specs.Columns.{linesIn};
-ghost use Rattle.tally.specs.Applied.{Ready, Applies};
-ghost use Rattle.tally.specs.Lines.{LinesLent, stoppedAt, Takes};
+ghost use Rattle.tally.specs.Lines.{Ready, Applies, LinesLent, stoppedAt, Takes};
 
 // What is unpaired of the two holdings of a line, and the units and the saving of the lines taken off.
 pub struct Tally {

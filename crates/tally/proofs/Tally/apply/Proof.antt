@@ -7,7 +7,7 @@ use Rattle.lists.proofs.Tests.{tests}
 use Rattle.article.specs.Pair.{isLong, isShort}
 use Rattle.article.proofs.Answered.{Answered, answered-refused, answered-allowed}
 use Rattle.proposal.specs.Outcome.{pairFaults}
-use Rattle.tally.specs.Applied.{refusals, taken, appliedOf}
+use Rattle.tally.specs.Lines.{refusals, taken, appliedOf}
 use Rattle.tally.proofs.OneLine.{High, high}
 use Rattle.tally.proofs.Tally.apply.Statement.{statement}
 use Rattle.tally.proofs.Tally.apply.Tie as tie
