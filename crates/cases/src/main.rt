@@ -1,5 +1,6 @@
 // Runs the cases on standard input: for each its title after `# `, and what `margin` prints of its text.
 // A case is two eight-byte little-endian numbers, the bytes of the title and of the text, then the title, then the text.
+use report::Printed;
 ghost use mathlib.Core.Path.{_≡_};
 ghost use Prim.Native.Nat.{_+_};
 ghost use lib.ListN.{length};
@@ -43,8 +44,11 @@ fn print_title(n: u64, buffer: &mut [u8]) {
 fn print_text(n: u64, buffer: &mut [u8]) {
     let got = read_part(n, buffer);
     let mut out = print_buffer();
-    let written = printing::print_file(&buffer[..got], &mut out);
-    io::write_all(libc::STDOUT_FILENO, &out[..written]);
+    let printed = printing::print_file(&buffer[..got], &mut out);
+    let Printed::Written { bytes } = printed else {
+        return;
+    };
+    io::write_all(libc::STDOUT_FILENO, &out[..bytes]);
 }
 
 // One case; false at the end of the input.

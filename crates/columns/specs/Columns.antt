@@ -2,17 +2,15 @@
 -- filled by the reader. Assumes nothing.
 use mathlib.Core.Path.{_≡_}
 use mathlib.Core.List.{List, [], _∷_, _++_, map}
-use Prim.Native.Nat.{ℕ, suc, _*_, _/_, _≤_, _<_}
-use lib.ListN.{length, getD}
+use Prim.Native.Nat.{ℕ, suc, _+_, _*_, _/_, _≤_, _<_}
+use lib.ListN.{length, getD, take, drop}
 use Rattle.lists.specs.Each.{Each}
 use Rattle.lists.specs.Tables.{listTo, front}
 use Rattle.holding.specs.Holding.{numbersOf, rowBy}
 use Rattle.holding.specs.declared.Row.{Row}
 use Rattle.pairing.specs.declared.Line.{Line}
-use Rattle.proposal.specs.Submission.{Submission, noRow, noLine, lineNumbers, lineBy, rowsOf, pricesOf}
-use Rattle.proposal.specs.declared.Book.{Book}
-use Rattle.proposal.specs.declared.Proposal.{Proposal}
-use Rattle.words.specs.Words.{wordAt, entries, decode, encode}
+use Rattle.proposal.specs.Submission.{Submission, noRow, noLine, lineNumbers, lineBy}
+use Rattle.words.specs.Words.{wordAt, withWord, entries, decode, encode}
 
 -- the columns of the holdings, side, kind, issuer, days, value; of their prices; and of the lines, long, short, amount
 pub record Columns : Type 0 where
@@ -89,24 +87,37 @@ filled s old = record {
   lines = filledFrom 0 (map lineNumbers (s .lines)) (old .lines);
 }
 
--- number j of an entry of an array
-abbrev pub rowNumber : ℕ → List Row → ℕ → ℕ
-rowNumber j rows k = getD (numbersOf (getD rows k noRow)) j 0
+-- a table: columns of so many rows that stand one after another in a list of bytes; the first n entries of column j
+unfoldable pub columnIn : ℕ → ℕ → List ℕ → ℕ → List ℕ
+columnIn rows n table j = take (8 * n) (drop (8 * (rows * j)) table)
 
-abbrev pub lineNumber : ℕ → List Line → ℕ → ℕ
-lineNumber j lines k = getD (lineNumbers (getD lines k noLine)) j 0
+-- they are there
+abbrev pub ColumnThere : ℕ → ℕ → ℕ → List ℕ → Type 0
+ColumnThere rows n j table = 8 * (rows * j + n) ≤ length table
 
--- what writing n holdings, or n lines, asks of the columns
-pub record BookRoom (n : ℕ) (columns : List (List ℕ)) (price : List ℕ) : Type 0 where
-  pub few : n ≤ 256
-  pub each : Each (λ c. 8 * n ≤ length c) columns
-  pub prices : 8 * n ≤ length price
+-- entries in a table: number j of each in column j, for as many columns as are counted, and all else as it was
+pub record Entered (count rows : ℕ) (numbers : List (List ℕ)) (old now : List ℕ) : Type 0 where
+  pub long : length now ≡ length old
+  pub each : (j : ℕ) → j < count → columnIn rows rows now j ≡ column (map (λ ns. getD ns j 0) numbers) (columnIn rows rows old j)
 
-pub record LinesRoom (n : ℕ) (columns : List (List ℕ)) : Type 0 where
-  pub few : n ≤ 512
-  pub each : Each (λ c. 8 * n ≤ length c) columns
+-- what writing an entry asks: the table has just the columns that are counted, the entry is within them, and a value is there for each
+pub record EntryRoom (count rows k : ℕ) (values table : List ℕ) : Type 0 where
+  pub whole : length table ≡ 8 * (rows * count)
+  pub within : k < rows
+  pub enough : count ≤ length values
 
--- a book and the prices on its holdings are in the columns
-pub record BookWritten (book : Book) (proposal : Proposal) (columns : List (List ℕ)) (price : List ℕ) (columns′ : List (List ℕ)) (price′ : List ℕ) : Type 0 where
-  pub rows : columns′ ≡ filledFrom 0 (map numbersOf (rowsOf book)) columns
-  pub prices : price′ ≡ column (pricesOf book (proposal .prices)) price
+-- an entry that was written: value j in column j, and all else as it was
+pub record EntryPut (count rows k : ℕ) (values old now : List ℕ) : Type 0 where
+  pub long : length now ≡ length old
+  pub each : (j : ℕ) → j < count → columnIn rows rows now j ≡ withWord (columnIn rows rows old j) k (getD values j 0)
+
+-- the first n entries of column j, of the next, and so on, each at the front of a list
+unfoldable pub copied : ℕ → ℕ → List ℕ → ℕ → List (List ℕ) → List (List ℕ)
+copied rows n table j [] = []
+copied rows n table j (old ∷ olds) = front (columnIn rows n table j) old ∷ copied rows n table (suc j) olds
+
+-- what that asks: so many columns, and room in each list
+pub record CopyRoom (rows n : ℕ) (table : List ℕ) (lists : List (List ℕ)) : Type 0 where
+  pub few : n ≤ rows
+  pub whole : length table ≡ 8 * (rows * length lists)
+  pub each : Each (λ c. 8 * n ≤ length c) lists

@@ -1,73 +1,35 @@
-// A book and a proposal written into lent columns of bytes.
-use holding::Row;
-use pairing::Line;
-use proposal::Book;
-use proposal::Proposal;
+// Columns of bytes that stand one after another in a list, which is a table: written an entry at a time, and handed out.
 ghost use mathlib.Core.Path.{_≡_};
-ghost use mathlib.Core.List.{[], _∷_, map};
-ghost use Prim.Native.Nat.{_*_, _≤_};
-ghost use lib.ListN.{length, getD};
-ghost use Rattle.lists.specs.Tables.{listTo};
-ghost use Rattle.holding.specs.Holding.{numbersOf};
-ghost use Rattle.proposal.specs.Submission.{linesOf, lineNumbers};
-ghost use Rattle.columns.specs.Columns.{column, filledFrom, rowNumber, lineNumber, BookRoom, LinesRoom, BookWritten};
+ghost use mathlib.Core.List.{[], _∷_};
+ghost use Rattle.columns.specs.Columns.{columnIn, ColumnThere, EntryRoom, EntryPut, CopyRoom, copied};
 
-// The number of a row in column j: side, kind, issuer, days, value.
-fn row_number(row: Row, j: usize) -> u64
-    ensures { λ r. ⌜ r ≡ getD (numbersOf row) j 0 ⌝ }
+// Writes entry k of a table, each of whose columns has `rows` entries: value j into column j, for as many columns as are counted.
+pub fn put_entry(values: &[u64], count: usize, rows: usize, k: usize, table: &mut [u8])
+    requires { ⌜ EntryRoom count rows k (now values) (now table) ⌝ }
+    ensures { λ _. ⌜ EntryPut count rows k (now (values .entry)) (now (table .entry)) (now (table .exit)) ⌝ }
 {
-    match j {
-        0 => row.side,
-        1 => row.kind,
-        2 => row.issuer,
-        3 => row.days,
-        4 => row.value,
-        _ => 0,
+    let mut j: usize = 0;
+    while j < count {
+        words::put_word(table, rows * j + k, values[j]);
+        j = j + 1;
     }
 }
 
-// The number of a line in column j: long, short, amount.
-fn line_number(line: Line, j: usize) -> u64
-    ensures { λ r. ⌜ r ≡ getD (lineNumbers line) j 0 ⌝ }
+// The first n entries of column j of a table.
+pub fn column(table: &[u8], rows: usize, n: usize, j: usize) -> &[u8]
+    requires { ⌜ ColumnThere rows n j (now table) ⌝ }
+    ensures { λ r. ⌜ now r ≡ columnIn rows n (now (table .entry)) j ⌝ }
 {
-    match j {
-        0 => line.long,
-        1 => line.short,
-        2 => line.amount,
-        _ => 0,
-    }
+    let start = 8 * (rows * j);
+    let end = start + 8 * n;
+    &table[start..end]
 }
 
-// Writes column j of the first n rows at the front; the bytes past them are kept.
-fn write_rows(rows: [Row; 256], n: usize, j: usize, bytes: &mut [u8])
-    requires { ⌜ (n ≤ 256) × (8 * n ≤ length (now bytes)) ⌝ }
-    ensures { λ _. ⌜ now (bytes .exit) ≡ column (listTo n (rowNumber j rows)) (now (bytes .entry)) ⌝ }
-{
-    let mut i: usize = 0;
-    while i < n {
-        let row = rows[i];
-        words::put_word(bytes, i, row_number(row, j));
-        i = i + 1;
-    }
-}
-
-// Writes column j of the first n lines in the same way.
-fn write_lines(lines: [Line; 512], n: usize, j: usize, bytes: &mut [u8])
-    requires { ⌜ (n ≤ 512) × (8 * n ≤ length (now bytes)) ⌝ }
-    ensures { λ _. ⌜ now (bytes .exit) ≡ column (listTo n (lineNumber j lines)) (now (bytes .entry)) ⌝ }
-{
-    let mut i: usize = 0;
-    while i < n {
-        let line = lines[i];
-        words::put_word(bytes, i, line_number(line, j));
-        i = i + 1;
-    }
-}
-
-// Writes a book and the prices on its holdings into their columns.
-pub fn write_book(
-    book: Book,
-    proposal: Proposal,
+// Copies the first n entries of each column of a table of holdings to the front of a list.
+pub fn copy_book(
+    table: &[u8],
+    rows: usize,
+    n: usize,
     side: &mut [u8],
     kind: &mut [u8],
     issuer: &mut [u8],
@@ -75,28 +37,34 @@ pub fn write_book(
     value: &mut [u8],
     price: &mut [u8],
 )
-    requires { ⌜ BookRoom (book .count) (now side ∷ now kind ∷ now issuer ∷ now days ∷ now value ∷ []) (now price) ⌝ }
-    ensures { λ _. ⌜ BookWritten book proposal (now (side .entry) ∷ now (kind .entry) ∷ now (issuer .entry) ∷ now (days .entry) ∷ now (value .entry) ∷ []) (now (price .entry)) (now (side .exit) ∷ now (kind .exit) ∷ now (issuer .exit) ∷ now (days .exit) ∷ now (value .exit) ∷ []) (now (price .exit)) ⌝ }
+    requires { ⌜ CopyRoom rows n (now table)
+        (now side ∷ now kind ∷ now issuer ∷ now days ∷ now value ∷ now price ∷ []) ⌝ }
+    ensures { λ _. ⌜ (now (side .exit) ∷ now (kind .exit) ∷ now (issuer .exit) ∷ now (days .exit) ∷ now (value .exit) ∷ now (price .exit) ∷ [])
+        ≡ copied rows n (now (table .entry)) 0
+        (now (side .entry) ∷ now (kind .entry) ∷ now (issuer .entry) ∷ now (days .entry) ∷ now (value .entry) ∷ now (price .entry) ∷ []) ⌝ }
 {
-    let n = book.count;
-    let prices = proposal.prices;
-    words::write_words(&prices, n, price);
-    let rows = book.rows;
-    write_rows(rows, n, 0, side);
-    write_rows(rows, n, 1, kind);
-    write_rows(rows, n, 2, issuer);
-    write_rows(rows, n, 3, days);
-    write_rows(rows, n, 4, value);
+    lists::copy(column(table, rows, n, 0), side);
+    lists::copy(column(table, rows, n, 1), kind);
+    lists::copy(column(table, rows, n, 2), issuer);
+    lists::copy(column(table, rows, n, 3), days);
+    lists::copy(column(table, rows, n, 4), value);
+    lists::copy(column(table, rows, n, 5), price);
 }
 
-// Writes the lines of a proposal into their columns.
-pub fn write_proposal(proposal: Proposal, long: &mut [u8], short: &mut [u8], amount: &mut [u8])
-    requires { ⌜ LinesRoom (proposal .count) (now long ∷ now short ∷ now amount ∷ []) ⌝ }
-    ensures { λ _. ⌜ (now (long .exit) ∷ now (short .exit) ∷ now (amount .exit) ∷ []) ≡ filledFrom 0 (map lineNumbers (linesOf proposal)) (now (long .entry) ∷ now (short .entry) ∷ now (amount .entry) ∷ []) ⌝ }
+// The same of a table of lines.
+pub fn copy_lines(
+    table: &[u8],
+    rows: usize,
+    n: usize,
+    long: &mut [u8],
+    short: &mut [u8],
+    amount: &mut [u8],
+)
+    requires { ⌜ CopyRoom rows n (now table) (now long ∷ now short ∷ now amount ∷ []) ⌝ }
+    ensures { λ _. ⌜ (now (long .exit) ∷ now (short .exit) ∷ now (amount .exit) ∷ [])
+        ≡ copied rows n (now (table .entry)) 0 (now (long .entry) ∷ now (short .entry) ∷ now (amount .entry) ∷ []) ⌝ }
 {
-    let n = proposal.count;
-    let lines = proposal.lines;
-    write_lines(lines, n, 0, long);
-    write_lines(lines, n, 1, short);
-    write_lines(lines, n, 2, amount);
+    lists::copy(column(table, rows, n, 0), long);
+    lists::copy(column(table, rows, n, 1), short);
+    lists::copy(column(table, rows, n, 2), amount);
 }

@@ -1,18 +1,20 @@
 -- Records read from a text by places, which is what the code promises. That they are those of `Grammar` is shown in the crate `grammar`.
 -- Assumes nothing.
+use mathlib.Core.Path.{_≡_}
 use mathlib.Core.Bool.{Bool, true, false, cond, _&&_}
 use mathlib.Core.List.{List, [], _∷_, map}
 use Prim.Native.Nat.{ℕ, zero, suc, _+_, _-_}
 use lib.Dec.{ltb, eqb}
-use lib.ListN.{length, take, drop, replicate}
-use Rattle.lists.specs.Tables.{front}
+use lib.ListN.{length, getD, take, drop}
+use Rattle.lists.specs.Tables.{listTo, front}
 use Rattle.csv.specs.Bytes.{isText, isQuotable}
 use Rattle.csv.specs.declared.Span.{Span}
 use Rattle.csv.specs.declared.Found.{Found}
 use Rattle.csv.specs.declared.Found.the-variants.{At, Nothing}
 use Rattle.csv.specs.declared.Piece.{Piece}
 use Rattle.csv.specs.declared.Piece.the-variants.{Field, Broken}
-use Rattle.csv.specs.declared.Fields.{Fields}
+use Rattle.csv.specs.declared.Scanned.{Scanned}
+use Rattle.csv.specs.declared.Scanned.the-variants.{Fields, Malformed}
 
 -- from a place to another
 abbrev pub span : ℕ → ℕ → Span
@@ -99,14 +101,36 @@ fieldsFrom text (suc k) i = onPiece (fieldAt text i) (fieldsFrom text k)
 unfoldable pub recordAt : List ℕ → ℕ → Split
 recordAt text i = fieldsFrom text (suc (length text)) i
 
--- no span in any place
-abbrev pub noSpans : List Span
-noSpans = replicate 7 (span 0 0)
+-- the number of fields that a record of the file has
+abbrev pub fieldCount : ℕ
+fieldCount = 7
 
--- a record as the code hands it back: the first seven spans written over zeros, and the count of all
-unfoldable pub fieldsOf : Split → Fields
-fieldsOf (fields ss next) = record { formed = true; count = length ss; spans = front (take 7 ss) noSpans; next = next }
-fieldsOf malformed = record { formed = false; count = 0; spans = noSpans; next = 0 }
+-- what is said of a record that was looked at: the count of all its fields, and where the next one starts, with the places of the first
+-- fieldCount fields at the front of two lists; of a record outside the grammar what the lists hold is free
+abbrev pub Scans : Split → List ℕ → List ℕ → List ℕ → List ℕ → Scanned → Type 0
+Scans (fields ss next) starts ends starts′ ends′ r =
+    (r ≡ Fields (length ss) next)
+    × (starts′ ≡ front (map (λ s. s .start) (take fieldCount ss)) starts)
+    × (ends′ ≡ front (map (λ s. s .end) (take fieldCount ss)) ends)
+Scans malformed starts ends starts′ ends′ r = r ≡ Malformed
+
+-- the texts of a record's fields
+abbrev pub textsOf : List ℕ → Split → List (List ℕ)
+textsOf text (fields ss next) = map (part text) ss
+textsOf text malformed = []
+
+-- the texts of the fields whose places are in two lists, as many as are counted
+unfoldable pub textsIn : List ℕ → ℕ → List ℕ → List ℕ → List (List ℕ)
+textsIn text count starts ends = take count (listTo fieldCount (λ k. part text (span (getD starts k 0) (getD ends k 0))))
+
+-- field k of a record that was read: the part of the text between its separators, enclosing quotes dropped; a k that the record does not have
+-- gives the empty part
+pub record HandsBack (text : List ℕ) (count : ℕ) (starts ends : List ℕ) (k : ℕ) (r : List ℕ) : Type 0 where
+  -- by the places in the lists
+  pub by-places : r ≡ getD (textsIn text count starts ends) k []
+  -- of the record at any place that was looked at with these lists
+  pub of-record : (at next : ℕ) (old old′ : List ℕ) → Scans (recordAt text at) old old′ starts ends (Fields count next)
+      → r ≡ getD (take fieldCount (textsOf text (recordAt text at))) k []
 
 -- a record of a file: the texts of its fields, or outside the grammar
 pub data Read : Type 0 where

@@ -1,7 +1,7 @@
 // RFC 4180 in one pass: a field, what follows it, a record. A byte is written as its number: 10 LF, 13 CR, 34 the quote, 44 the comma.
 ghost use mathlib.Core.Path.{_≡_};
 ghost use Rattle.csv.specs.Bytes.{isText, isQuotable};
-ghost use Rattle.csv.specs.Reading.{span, part, textEnd, closeAt, followed, opens, fieldAt, malformed, recordAt, fieldsOf};
+ghost use Rattle.csv.specs.Reading.{span, part, textEnd, closeAt, followed, opens, fieldAt, recordAt, Scans, HandsBack};
 
 // The number of fields that a record of the file has.
 pub const FIELDS: usize = 7;
@@ -24,12 +24,10 @@ pub enum Piece {
     Broken,
 }
 
-// A record that was looked at: whether it is in the grammar, how many fields it has, the first FIELDS of them, where the next record starts.
-pub struct Fields {
-    pub formed: bool,
-    pub count: usize,
-    pub spans: [Span; FIELDS],
-    pub next: usize,
+// A record that was looked at: how many fields it has and where the next record starts; or one outside the grammar.
+pub enum Scanned {
+    Fields { count: usize, next: usize },
+    Malformed,
 }
 
 // TEXTDATA: what is printable, but for the quote and the comma.
@@ -152,48 +150,37 @@ fn field_at(text: &[u8], at: usize) -> Piece
     ended(text, start, end, end + 1)
 }
 
-// A record that is not in the grammar.
-fn malformed() -> Fields
-    ensures { λ r. ⌜ r ≡ fieldsOf malformed ⌝ }
+// The record at a place. Where its first FIELDS fields start and end goes into the lent lists; the count goes on past FIELDS.
+pub fn record(
+    text: &[u8],
+    at: usize,
+    starts: &mut [usize; FIELDS],
+    ends: &mut [usize; FIELDS],
+) -> Scanned
+    ensures { λ r. ⌜ Scans (recordAt (now (text .entry)) at) (now (starts .entry)) (now (ends .entry))
+        (now (starts .exit)) (now (ends .exit)) r ⌝ }
 {
-    Fields {
-        formed: false,
-        count: 0,
-        spans: [Span { start: 0, end: 0 }; FIELDS],
-        next: 0,
-    }
-}
-
-// The record at a place. The count goes on past FIELDS.
-pub fn record(text: &[u8], at: usize) -> Fields
-    ensures { λ r. ⌜ r ≡ fieldsOf (recordAt (now (text .entry)) at) ⌝ }
-{
-    let mut spans = [Span { start: 0, end: 0 }; FIELDS];
     let mut count: usize = 0;
     let mut i = at;
     loop {
         let piece = field_at(text, i);
         let Piece::Field(span, last, next) = piece else {
-            return malformed();
+            return Scanned::Malformed;
         };
         if count < FIELDS {
-            spans[count] = span;
+            starts[count] = span.start;
+            ends[count] = span.end;
         }
         count += 1;
         if last {
-            return Fields {
-                formed: true,
-                count,
-                spans,
-                next,
-            };
+            return Scanned::Fields { count, next };
         }
         i = next;
     }
 }
 
-// A field as a part of the lent text, enclosing quotes dropped.
-pub fn field(text: &[u8], start: usize, end: usize) -> &[u8]
+// The bytes of a text from one place to another.
+fn part(text: &[u8], start: usize, end: usize) -> &[u8]
     ensures { λ r. ⌜ now r ≡ part (now (text .entry)) (span start end) ⌝ }
 {
     let n = text.len();
@@ -207,4 +194,24 @@ pub fn field(text: &[u8], start: usize, end: usize) -> &[u8]
         return &text[start..end];
     }
     &text[start..]
+}
+
+// Field k of a record that was read, from the count and the places that `record` gave: the part of the text between its separators, enclosing
+// quotes dropped. A k that the record does not have gives the empty part.
+pub fn field<'a, 'b>(
+    text: &'a [u8],
+    count: usize,
+    starts: &'b [usize; FIELDS],
+    ends: &'b [usize; FIELDS],
+    k: usize,
+) -> &'a [u8]
+    ensures { λ r. ⌜ HandsBack (now (text .entry)) count (now (starts .entry)) (now (ends .entry)) k (now r) ⌝ }
+{
+    if k >= count {
+        return &text[..0];
+    }
+    if k >= FIELDS {
+        return &text[..0];
+    }
+    part(text, starts[k], ends[k])
 }

@@ -3,7 +3,7 @@
 use mathlib.Core.Path.{_≡_}
 use mathlib.Core.Logic.{_↔_}
 use mathlib.Core.Bool.{cond}
-use mathlib.Core.List.{List, _++_, map}
+use mathlib.Core.List.{List, [], _++_, map}
 use Prim.Native.Nat.{ℕ, _<_}
 use lib.Dec.{eqb}
 use lib.ListN.{length, getD}
@@ -14,7 +14,6 @@ use Rattle.columns.specs.Columns.{Columns, holdingSizes, lineSizes, filled, Row
 use Rattle.sizes.specs.Sizes.{Room, tooShort}
 use Rattle.lent.specs.Lists.{Answers}
 use Rattle.reader.specs.File.{submissionIn, readAnswer}
-use Rattle.reader.specs.ReadsFile.{nothing}
 use Rattle.readable.specs.Readable.{Submits}
 
 -- the lists that the reader writes to: an entry for each holding that the file has, or each line, with the bytes that are lent
@@ -26,6 +25,9 @@ unfoldable pub readingAnswer : List ℕ → Columns → List ℕ → Answer
 readingAnswer text c slice = readAnswer (tooShort (listsOf (submissionIn text) c) (length slice)) text
 
 -- what goes into the columns: on a refusal nothing
+abbrev pub nothing : Submission
+nothing = record { rows = []; prices = []; lines = [] }
+
 unfoldable pub filling : List ℕ → Columns → List ℕ → Submission
 filling text c slice = cond (eqb (readingAnswer text c slice .number) 0) (submissionIn text) nothing
 

@@ -1,17 +1,13 @@
 -- Document 01, "The file": the layout of a record, parsed, and the refusals 19 to 21. Assumes nothing.
 use mathlib.Core.Path.{_≡_}
-use mathlib.Core.Bool.{true, false, cond}
-use mathlib.Core.List.{List, [], _∷_, map}
-use Prim.Native.Nat.{ℕ, zero, suc}
-use lib.Dec.{eqb}
+use mathlib.Core.Bool.{Bool, true, false, cond}
+use mathlib.Core.List.{List, [], _∷_, _++_, map}
+use Prim.Native.Nat.{ℕ, suc, _-_}
+use lib.Dec.{eqb, leb}
 use lib.ListN.{length, getD, replicate}
 use Rattle.lists.specs.Texts.{ascii}
-use Rattle.holding.specs.Holding.{rowBy}
-use Rattle.holding.specs.declared.Row.{Row}
-use Rattle.pairing.specs.declared.Line.{Line}
-use Rattle.proposal.specs.Submission.{lineBy}
-use Rattle.csv.specs.Reading.{part, Split, fields, malformed, recordAt, fieldsOf, Read, formed, broken}
-use Rattle.codes.specs.Codes.{placeOf}
+use Rattle.csv.specs.Reading.{part, Split, fields, malformed, recordAt, fieldCount, Read, formed, broken}
+use Rattle.codes.specs.Codes.{placeOf, Named}
 use Rattle.codes.specs.declared.Place.{Place}
 use Rattle.codes.specs.declared.Place.the-variants.{At, Nowhere}
 use Rattle.layout.specs.Sorts.{AreValues, valueOf}
@@ -20,31 +16,33 @@ use Rattle.layout.specs.declared.Sort.the-variants.{Side, Kind, Issuer, 
 use Rattle.layout.specs.declared.Value.{Value}
 use Rattle.layout.specs.declared.Value.the-variants.{Of, Wrong}
 use Rattle.layout.specs.declared.Parsed.{Parsed}
-use Rattle.layout.specs.declared.Parsed.the-variants.{Holding, Line as Lined, Refused}
+use Rattle.layout.specs.declared.Parsed.the-variants.{Good, Refused}
 use Rattle.layout.specs.declared.Entry.{Entry}
-use Rattle.layout.specs.declared.Cells.{Cells}
 
--- `H`, then side, kind, issuer, days, value, price; `P`, then long, short, amount, three empty fields
+-- one for each field of a record after its letter: those given, and x for the rest
+abbrev pub padded : {A : Type 0} → A → List A → List A
+padded x xs = xs ++ replicate (fieldCount - suc (length xs)) x
+
+-- the letters, each with what follows it: `H`, side, kind, issuer, days, value, price; `P`, long, short, amount; further fields are empty
+abbrev pub layouts : List (List ℕ × List Sort)
+layouts = (ascii "H", Side ∷ Kind ∷ Issuer ∷ Six ∷ Twelve ∷ Six ∷ []) ∷ (ascii "P", Six ∷ Six ∷ Twelve ∷ []) ∷ []
+
+-- the letters by number, and the sorts of the fields after each
 abbrev pub letters : List (List ℕ)
-letters = ascii "H" ∷ ascii "P" ∷ []
+letters = map (λ l. l .0) layouts
 
 abbrev pub sortsBy : ℕ → List Sort
-sortsBy zero = Side ∷ Kind ∷ Issuer ∷ Six ∷ Twelve ∷ Six ∷ []
-sortsBy (suc k) = Six ∷ Six ∷ Twelve ∷ Empty ∷ Empty ∷ Empty ∷ []
+sortsBy k = padded Empty (getD layouts k ([], []) .1)
 
--- a good H, with the row and the price of its holding
-abbrev pub IsHolding : List (List ℕ) → Row → ℕ → Type 0
-IsHolding [] row price = ⊥
-IsHolding (letter ∷ texts) row price =
-    (letter ≡ ascii "H")
-    × AreValues (sortsBy 0) texts (row .side ∷ row .kind ∷ row .issuer ∷ row .days ∷ row .value ∷ price ∷ [])
+-- what may follow what, by letter, all H before all P: anything comes first, and then nothing of an earlier letter
+abbrev pub mayFollow : Place → ℕ → Bool
+mayFollow Nowhere letter = true
+mayFollow (At before) letter = leb before letter
 
--- a good P, with its line
-abbrev pub IsLine : List (List ℕ) → Line → Type 0
-IsLine [] line = ⊥
-IsLine (letter ∷ texts) line =
-    (letter ≡ ascii "P")
-    × AreValues (sortsBy 1) texts (line .long ∷ line .short ∷ line .amount ∷ 0 ∷ 0 ∷ 0 ∷ [])
+-- a good record of the letter of number k, with the values after it
+abbrev pub IsRecord : ℕ → List (List ℕ) → List ℕ → Type 0
+IsRecord k [] vs = ⊥
+IsRecord k (letter ∷ texts) vs = Named letter letters k × AreValues (sortsBy k) texts (padded 0 vs)
 
 -- the values of texts, one of each sort
 pub data Values : Type 0 where
@@ -62,41 +60,52 @@ valuesOf [] (t ∷ ts) = wrong
 valuesOf (s ∷ ss) [] = wrong
 valuesOf (s ∷ ss) (t ∷ ts) = andValue (valueOf s t) (valuesOf ss ts)
 
--- what the values after a letter are: a holding's row and price, or a line
-abbrev pub parsedBy : ℕ → List ℕ → Parsed
-parsedBy zero vs = Holding (rowBy vs) (getD vs 5 0)
-parsedBy (suc k) vs = Lined (lineBy vs)
+-- what a record means: its letter by number with the values after it, or its refusal
+pub data Meaning : Type 0 where
+  good : ℕ → List ℕ → Meaning
+  refused : ℕ → Meaning
 
-abbrev pub parsedIf : ℕ → Values → Parsed
-parsedIf k (values vs) = parsedBy k vs
-parsedIf k wrong = Refused 21
+abbrev pub meant : ℕ → Values → Meaning
+meant k (values vs) = good k vs
+meant k wrong = refused 21
 
-abbrev pub afterLetter : Place → List (List ℕ) → Parsed
-afterLetter (At k) texts = parsedIf k (valuesOf (sortsBy k) texts)
-afterLetter Nowhere texts = Refused 21
+abbrev pub afterLetter : Place → List (List ℕ) → Meaning
+afterLetter (At k) texts = meant k (valuesOf (sortsBy k) texts)
+afterLetter Nowhere texts = refused 21
 
--- of seven fields: 21 a field isn't a value of its sort, one that must be empty is filled, or the first is no known letter
-unfoldable pub parsedOf : List (List ℕ) → Parsed
-parsedOf [] = Refused 21
+-- of as many fields as a record has: 21 a field isn't a value of its sort, one that must be empty is filled, or the first is no known letter
+unfoldable pub parsedOf : List (List ℕ) → Meaning
+parsedOf [] = refused 21
 parsedOf (letter ∷ texts) = afterLetter (placeOf letter letters) texts
 
 -- of a record: 19 outside the grammar, 20 not seven fields, then 21
-unfoldable pub parse : Read → Parsed
-parse broken = Refused 19
-parse (formed texts) = cond (eqb (length texts) 7) (parsedOf texts) (Refused 20)
+unfoldable pub parse : Read → Meaning
+parse broken = refused 19
+parse (formed texts) = cond (eqb (length texts) fieldCount) (parsedOf texts) (refused 20)
 
--- what the code hands back: the values with whether they are good, and a record with where the next one starts
-abbrev pub cellsOf : Values → Cells
-cellsOf (values vs) = record { good = true; values = vs }
-cellsOf wrong = record { good = false; values = replicate 6 0 }
-
-abbrev pub entry : Parsed → ℕ → Entry
-entry parsed next = record { parsed = parsed; next = next }
-
+-- the record at a place, and where the next one starts
 abbrev pub readOf : List ℕ → Split → Read
 readOf text (fields ss next) = formed (map (part text) ss)
 readOf text malformed = broken
 
--- the record at a place, parsed, and where the next one starts
-abbrev pub EntryAt : List ℕ → ℕ → Entry → Type 0
-EntryAt text at r = r ≡ entry (parse (readOf text (recordAt text at))) (fieldsOf (recordAt text at) .next)
+abbrev pub nextOf : Split → ℕ
+nextOf (fields ss next) = next
+nextOf malformed = 0
+
+-- values that are in a list, if all are good; what it holds where one is wrong is free
+abbrev pub Found : Values → List ℕ → Bool → Type 0
+Found (values vs) found all = (all ≡ true) × (found ≡ vs)
+Found wrong found all = all ≡ false
+
+-- the paper's number and values of each case of what the code hands back: good, with the values in the lent list, or the refusal's number
+abbrev pub meaningOf : Parsed → List ℕ → Meaning
+meaningOf (Good letter) vs = good letter vs
+meaningOf (Refused number) vs = refused number
+
+abbrev pub entry : Parsed → ℕ → Entry
+entry parsed next = record { parsed = parsed; next = next }
+
+-- the record at a place, parsed, its values in the lent list, and where the next one starts; what the list holds of a refused record is free
+pub record EntryAt (text : List ℕ) (at : ℕ) (vs : List ℕ) (r : Entry) : Type 0 where
+  pub means : meaningOf (r .parsed) vs ≡ parse (readOf text (recordAt text at))
+  pub next : r .next ≡ nextOf (recordAt text at)

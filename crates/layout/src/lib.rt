@@ -1,15 +1,15 @@
-// The layout of a record: a letter, and after it six fields, each of a sort.
+// The layout of a record: a letter, and after it fields, each of a sort.
 use codes::Place;
-use csv::Span;
-use holding::Row;
+use csv::Scanned;
 use numerals::Numeral;
-use pairing::Line;
 ghost use mathlib.Core.Path.{_≡_};
-ghost use mathlib.Core.List.{map};
 ghost use lib.ListN.{drop, getD};
-ghost use Rattle.csv.specs.Reading.{part};
+ghost use Rattle.csv.specs.Reading.{textsIn};
 ghost use Rattle.layout.specs.Sorts.{byPlace, byNumeral, valueOf};
-ghost use Rattle.layout.specs.Layout.{sortsBy, valuesOf, cellsOf, parsedBy, entry, EntryAt};
+ghost use Rattle.layout.specs.Layout.{sortsBy, valuesOf, Found, mayFollow, entry, EntryAt};
+
+// The number of values in a record: one for each field after its letter.
+pub const VALUES: usize = csv::FIELDS - 1;
 
 // What a field can be: a letter or a code that is named, a numeral of at most so many digits, or nothing.
 pub enum Sort {
@@ -27,10 +27,9 @@ pub enum Value {
     Wrong,
 }
 
-// A record as parsed: a holding with its price, a line, or a refusal from 19 to 21.
+// A record as parsed: good, of the letter of a number, or a refusal from 19 to 21.
 pub enum Parsed {
-    Holding { row: Row, price: u64 },
-    Line { line: Line },
+    Good { letter: usize },
     Refused { number: u64 },
 }
 
@@ -40,18 +39,12 @@ pub struct Entry {
     pub next: usize,
 }
 
-// The values after a letter, if all are good.
-pub struct Cells {
-    pub good: bool,
-    pub values: [u64; 6],
-}
-
-// The sort of field j after the letter.
+// The sort of field j after the letter of a number: H, then P.
 fn sort_at(letter: usize, j: usize) -> Sort
     ensures { λ r. ⌜ r ≡ getD (sortsBy letter) j Sort.Empty ⌝ }
 {
     if letter == 0 {
-        match j {
+        return match j {
             0 => Sort::Side,
             1 => Sort::Kind,
             2 => Sort::Issuer,
@@ -59,15 +52,17 @@ fn sort_at(letter: usize, j: usize) -> Sort
             4 => Sort::Twelve,
             5 => Sort::Six,
             _ => Sort::Empty,
-        }
-    } else {
-        match j {
+        };
+    }
+    if letter == 1 {
+        return match j {
             0 => Sort::Six,
             1 => Sort::Six,
             2 => Sort::Twelve,
             _ => Sort::Empty,
-        }
+        };
     }
+    Sort::Empty
 }
 
 // A place among named texts, as a value.
@@ -108,54 +103,45 @@ fn value_in(sort: Sort, text: &[u8]) -> Value
     }
 }
 
-// The values of the fields after a letter.
-fn values_after(text: &[u8], spans: [Span; csv::FIELDS], letter: usize) -> Cells
-    ensures { λ r. ⌜ r ≡ cellsOf (valuesOf (sortsBy letter) (drop 1 (map (part (now (text .entry))) spans))) ⌝ }
+// The values of the fields after a letter go into the lent list; false where one is wrong.
+fn values_after(
+    text: &[u8],
+    count: usize,
+    starts: &[usize; csv::FIELDS],
+    ends: &[usize; csv::FIELDS],
+    letter: usize,
+    values: &mut [u64; VALUES],
+) -> bool
+    ensures { λ r. ⌜ Found (valuesOf (sortsBy letter)
+        (drop 1 (textsIn (now (text .entry)) count (now (starts .entry)) (now (ends .entry)))))
+        (now (values .exit)) r ⌝ }
 {
-    let mut values = [0u64; 6];
     let mut j: usize = 0;
-    while j < 6 {
-        let k = j + 1;
-        let s = spans[k];
-        let value = value_in(sort_at(letter, j), csv::field(text, s.start, s.end));
+    while j < VALUES {
+        let value = value_in(
+            sort_at(letter, j),
+            csv::field(text, count, starts, ends, j + 1),
+        );
         match value {
             Value::Of(v) => {
                 values[j] = v;
             }
             Value::Wrong => {
-                return Cells {
-                    good: false,
-                    values: [0; 6],
-                };
+                return false;
             }
         }
         j = j + 1;
     }
-    Cells { good: true, values }
+    true
 }
 
-// What good values after a letter are.
-fn parsed_by(letter: usize, values: [u64; 6]) -> Parsed
-    ensures { λ r. ⌜ r ≡ parsedBy letter values ⌝ }
+// Whether a record of a letter may follow one of the letter before, or none.
+pub fn may_follow(before: Place, letter: usize) -> bool
+    ensures { λ r. ⌜ r ≡ mayFollow before letter ⌝ }
 {
-    if letter == 0 {
-        return Parsed::Holding {
-            row: Row {
-                side: values[0],
-                kind: values[1],
-                issuer: values[2],
-                days: values[3],
-                value: values[4],
-            },
-            price: values[5],
-        };
-    }
-    Parsed::Line {
-        line: Line {
-            long: values[0],
-            short: values[1],
-            amount: values[2],
-        },
+    match before {
+        Place::Nowhere => true,
+        Place::At(k) => k <= letter,
     }
 }
 
@@ -169,31 +155,28 @@ fn refused(number: u64, next: usize) -> Entry
     }
 }
 
-// The record at `at`, parsed, and where the next one starts.
-pub fn entry_at(text: &[u8], at: usize) -> Entry
-    ensures { λ r. ⌜ EntryAt (now (text .entry)) at r ⌝ }
+// The record at `at`, parsed, and where the next one starts. The values of a good one are in the lent list.
+pub fn entry_at(text: &[u8], at: usize, values: &mut [u64; VALUES]) -> Entry
+    ensures { λ r. ⌜ EntryAt (now (text .entry)) at (now (values .exit)) r ⌝ }
 {
-    let fields = csv::record(text, at);
-    let next = fields.next;
-    if !fields.formed {
-        return refused(19, next);
-    }
-    if fields.count != csv::FIELDS {
+    let mut starts = [0usize; csv::FIELDS];
+    let mut ends = [0usize; csv::FIELDS];
+    let scanned = csv::record(text, at, &mut starts, &mut ends);
+    let Scanned::Fields { count, next } = scanned else {
+        return refused(19, 0);
+    };
+    if count != csv::FIELDS {
         return refused(20, next);
     }
-    let spans = fields.spans;
-    let s = spans[0];
-    let place = codes::place_in(csv::field(text, s.start, s.end), b"HP", 1, 2);
+    let place = codes::place_in(csv::field(text, count, &starts, &ends, 0), b"HP", 1, 2);
     let Place::At(letter) = place else {
         return refused(21, next);
     };
-    let cells = values_after(text, spans, letter);
-    if !cells.good {
+    if !values_after(text, count, &starts, &ends, letter, values) {
         return refused(21, next);
     }
-    let values = cells.values;
     Entry {
-        parsed: parsed_by(letter, values),
+        parsed: Parsed::Good { letter },
         next,
     }
 }

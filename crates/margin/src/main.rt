@@ -1,4 +1,5 @@
 // Reads a file on standard input, and prints its margin, or why it is refused.
+use report::Printed;
 ghost use mathlib.Core.Path.{_≡_};
 ghost use Prim.Native.Nat.{_+_};
 ghost use lib.ListN.{length};
@@ -49,8 +50,11 @@ fn read_input(buffer: &mut [u8]) -> Input
 // Prints the margin of a file, or its refusal.
 fn print_margin(text: &[u8]) {
     let mut out = print_buffer();
-    let written = printing::print_file(text, &mut out);
-    if !io::write_all(libc::STDOUT_FILENO, &out[..written]) {
+    let printed = printing::print_file(text, &mut out);
+    let Printed::Written { bytes } = printed else {
+        return;
+    };
+    if !io::write_all(libc::STDOUT_FILENO, &out[..bytes]) {
         io::write_all(
             libc::STDERR_FILENO,
             b"margin: standard output could not be written to its end.\n",

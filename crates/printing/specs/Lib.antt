@@ -1,3 +1,1 @@
 pub mod Printed
-pub mod Columns
-pub mod Within

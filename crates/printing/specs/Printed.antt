@@ -4,9 +4,10 @@ use mathlib.Core.Path.{_≡_}
 use mathlib.Core.Logic.{_↔_}
 use mathlib.Core.Bool.{cond, false}
 use mathlib.Core.List.{List, [], _∷_, _++_, flatMap}
-use Prim.Native.Nat.{ℕ, _*_, _≤_}
+use Prim.Native.Nat.{ℕ, _*_, _≤_, _<_}
 use lib.Dec.{eqb}
 use lib.ListN.{length, getD, take}
+use Rattle.lists.specs.Tables.{listTo, front}
 use Rattle.lists.specs.Texts.{ascii}
 use Rattle.article.specs.Answer.{Answer, makeAnswer}
 use Rattle.proposal.specs.Submission.{Submission, priced}
@@ -15,8 +16,28 @@ use Rattle.proposal.specs.Outcome.{outcome}
 use Rattle.proposal.specs.Demands.{Acceptable, Demands}
 use Rattle.reader.specs.File.{submissionIn, fileFault}
 use Rattle.readable.specs.Readable.{Submits}
+use Rattle.columns.specs.Columns.{Columns, makeColumns, submission, columnIn}
+use Rattle.verdict.specs.Judges.{outcomeIn}
 use Rattle.report.specs.Report.{lineOf, printedOf}
-use Rattle.report.specs.Written.{Prints}
+use Rattle.report.specs.Written.{Prints, printedAnswer}
+use Rattle.report.specs.declared.Printed.{Printed}
+
+-- what is printed of columns: the lines of what they submit, by its outcome, where nothing else is lent
+abbrev pub PrintsColumns : Columns → List ℕ → List ℕ → Printed → Type 0
+PrintsColumns c before after r = Prints (printedOf (submission c) (outcomeIn false c)) before after r
+
+-- the columns of the first n holdings and the first m lines of two tables, and that they are there
+abbrev pub columnsOf : ℕ → ℕ → List ℕ → List ℕ → Columns
+columnsOf n m book lines =
+    let held : ℕ → List ℕ = columnIn 512 n book in
+    let lined : ℕ → List ℕ = columnIn 512 m lines in
+    makeColumns (held 0 ∷ held 1 ∷ held 2 ∷ held 3 ∷ held 4 ∷ []) (held 5) (lined 0 ∷ lined 1 ∷ lined 2 ∷ [])
+
+pub record TablesHold (n m : ℕ) (book lines : List ℕ) : Type 0 where
+  pub few-holdings : n ≤ 512
+  pub few-lines : m ≤ 512
+  pub whole-book : length book ≡ 8 * (512 * 6)
+  pub whole-lines : length lines ≡ 8 * (512 * 3)
 
 -- the answer to a file: the reader's refusal with its place; or, of what the file submits, the figures or the check's refusal with its places
 unfoldable pub fileAnswer : List ℕ → Answer
@@ -37,13 +58,17 @@ pub record PrintsFigures (s : Submission) (bytes : List ℕ) : Type 0 where
   pub keeps : Demands s false false (makeAnswer 0 units cents)
   pub lines : bytes ≡ lineOf (ascii "M") (units ∷ cents ∷ []) ++ flatMap (holdingLine s) (ranked (priced s) (s .lines))
 
--- what printing a file promises of the lent list, before and after, and of the count that is returned
-module _ (text before after : List ℕ) (r : ℕ) where
+-- what printing a file promises of the lent list, before and after, and of what is returned
+module _ (text before after : List ℕ) (r : Printed) where
   pub record PrintsFile : Type 0 where
-    -- the bytes stand at the front of the list, all others are kept, and r is how many they are; a list without room is left alone
-    pub stands : Prints (printed text) before after r
-    -- there is room in 257 lines of at most 66 bytes, and the first r bytes are then those that are printed
-    pub room : 257 * 66 ≤ length before → take r after ≡ printed text
+    -- the bytes stand at the front of the list, all others are kept, and they are counted; or the list is too short
+    pub prints : Prints (printed text) before after r
+    -- a list that holds the bytes is written: 0 and how many they are; its first bytes are then those that are printed
+    pub written : length (printed text) ≤ length before → (printedAnswer r ≡ makeAnswer 0 (length (printed text)) 0) × (take (length (printed text)) after ≡ printed text)
+    -- a list that is shorter is refused with 2, and left alone
+    pub too-short : length before < length (printed text) → (printedAnswer r ≡ makeAnswer 2 0 0) × (after ≡ before)
+    -- 257 lines of at most 66 bytes hold whatever is printed
+    pub room : length (printed text) ≤ 257 * 66
     -- they begin with M exactly when the file submits a book and a proposal in the paper's words, and they are acceptable
     pub exactly : (take 1 (printed text) ≡ ascii "M") ↔ (Submits text (submissionIn text) × Acceptable (submissionIn text))
     -- the units and cents that they then print are the least margin of what is submitted, rounded once

@@ -2,7 +2,6 @@
 use mathlib.Core.List.{List, [], _∷_, map}
 use Prim.Native.Nat.{ℕ}
 use lib.ListN.{length, getD}
-use Rattle.lists.specs.Tables.{listTo}
 use Rattle.holding.specs.Holding.{holdingOf}
 use Rattle.holding.specs.declared.Holding.{Holding}
 use Rattle.holding.specs.declared.Row.{Row}
@@ -10,8 +9,6 @@ use Rattle.article.specs.Pair.{legOf, allowed, pairRateOf}
 use Rattle.article.specs.declared.pair.Leg.{Leg}
 use Rattle.pairing.specs.Pairing.{Terms}
 use Rattle.pairing.specs.declared.Line.{Line}
-use Rattle.proposal.specs.declared.Book.{Book}
-use Rattle.proposal.specs.declared.Proposal.{Proposal}
 
 -- a book's rows, the prices on its holdings, and the pair lines
 pub record Submission : Type 0 where
@@ -35,19 +32,6 @@ noLine = record { long = 0; short = 0; amount = 0 }
 
 abbrev pub noLeg : Leg
 noLeg = record { side = 0; kind = 0; issuer = 0; period = 0; rate = 0 }
-
--- a book and a proposal by value: the first entries, as many as each has, and a price for each holding
-unfoldable pub rowsOf : Book → List Row
-rowsOf b = listTo (b .count) (λ k. getD (b .rows) k noRow)
-
-unfoldable pub pricesOf : Book → List ℕ → List ℕ
-pricesOf b prices = listTo (b .count) (λ k. getD prices k 0)
-
-unfoldable pub linesOf : Proposal → List Line
-linesOf p = listTo (p .count) (λ k. getD (p .lines) k noLine)
-
-unfoldable pub submitted : Book → Proposal → Submission
-submitted b p = record { rows = rowsOf b; prices = pricesOf b (p .prices); lines = linesOf p }
 
 -- a priced book by the numbers of its holdings: what a pair asks of each, its market value, and its price
 pub record PricedBook : Type 0 where

@@ -4,12 +4,20 @@ use mathlib.Core.Logic.{_↔_}
 use mathlib.Core.List.{List, [], _∷_, _++_}
 use Prim.Native.Nat.{ℕ, _≤_}
 use lib.ListN.{length}
+use Rattle.holding.specs.Holding.{numbersOf}
 use Rattle.holding.specs.declared.Row.{Row}
 use Rattle.pairing.specs.declared.Line.{Line}
-use Rattle.proposal.specs.Submission.{Submission}
+use Rattle.proposal.specs.Submission.{Submission, lineNumbers}
 use Rattle.csv.specs.Grammar.{File}
-use Rattle.layout.specs.Layout.{IsHolding, IsLine}
+use Rattle.layout.specs.Layout.{IsRecord}
 use Rattle.reader.specs.File.{parsedIn, submissionOf, fileFault}
+
+-- a good H, with the row and the price of its holding; a good P, with its line
+abbrev pub IsHolding : List (List ℕ) → Row → ℕ → Type 0
+IsHolding texts row price = IsRecord 0 texts (numbersOf row ++ (price ∷ []))
+
+abbrev pub IsLine : List (List ℕ) → Line → Type 0
+IsLine texts line = IsRecord 1 texts (lineNumbers line)
 
 -- records each a good H, with their rows and prices
 pub data AreHoldings : List (List (List ℕ)) → List Row → List ℕ → Type 0 where

@@ -1,59 +1,72 @@
 -- Document 01, "Reader order: 18; each record in turn 19 to 22, then 3 or 9 if it is one too many; after all records 2": what a file submits,
 -- and its refusals as one list in that order. Assumes nothing.
-use mathlib.Core.Bool.{Bool, true}
+use mathlib.Core.Path.{_≡_}
+use mathlib.Core.Bool.{Bool, true, false, cond, not}
 use mathlib.Core.List.{List, [], _∷_, _++_, map}
-use Prim.Native.Nat.{ℕ}
+use Prim.Native.Nat.{ℕ, zero, suc, _-_, _*_, _≤_, _<_}
 use lib.Dec.{ltb, eqb}
 use lib.ListN.{length, getD, take}
 use Rattle.lists.specs.Choice.{firstOf}
 use Rattle.lists.specs.Tables.{inTurn}
-use Rattle.holding.specs.declared.Row.{Row}
+use Rattle.holding.specs.Holding.{rowBy}
 use Rattle.article.specs.Answer.{Answer, makeAnswer}
-use Rattle.pairing.specs.declared.Line.{Line}
-use Rattle.proposal.specs.Submission.{Submission}
-use Rattle.csv.specs.Reading.{recordsOf}
-use Rattle.layout.specs.Layout.{parse}
-use Rattle.layout.specs.declared.Parsed.{Parsed}
-use Rattle.layout.specs.declared.Parsed.the-variants.{Holding, Line as Lined, Refused}
+use Rattle.proposal.specs.Submission.{Submission, lineBy}
+use Rattle.codes.specs.declared.Place.{Place}
+use Rattle.codes.specs.declared.Place.the-variants.{At, Nowhere}
+use Rattle.csv.specs.Reading.{fieldCount, recordsOf}
+use Rattle.layout.specs.Layout.{Meaning, good, refused, parse, mayFollow}
+use Rattle.columns.specs.Columns.{Entered}
+use Rattle.reader.specs.declared.Contents.{Contents}
+use Rattle.reader.specs.declared.Contents.the-variants.{Read, Refused}
 
 -- the records of a text, parsed, up to the first that is outside the grammar
-unfoldable pub parsedIn : List ℕ → List Parsed
+unfoldable pub parsedIn : List ℕ → List Meaning
 parsedIn text = map parse (recordsOf text)
 
--- the holdings' rows, their prices, and the lines, each in the order of the records
-unfoldable pub parsedRows : List Parsed → List Row
-parsedRows [] = []
-parsedRows (Holding row price ∷ rest) = row ∷ parsedRows rest
-parsedRows (Lined line ∷ rest) = parsedRows rest
-parsedRows (Refused number ∷ rest) = parsedRows rest
+-- the values of the good records of letter k, in the order of the records
+unfoldable pub valuesBy : ℕ → List Meaning → List (List ℕ)
+valuesBy k [] = []
+valuesBy k (good letter vs ∷ rest) = cond (eqb letter k) (vs ∷ valuesBy k rest) (valuesBy k rest)
+valuesBy k (refused number ∷ rest) = valuesBy k rest
 
-unfoldable pub parsedPrices : List Parsed → List ℕ
-parsedPrices [] = []
-parsedPrices (Holding row price ∷ rest) = price ∷ parsedPrices rest
-parsedPrices (Lined line ∷ rest) = parsedPrices rest
-parsedPrices (Refused number ∷ rest) = parsedPrices rest
-
-unfoldable pub parsedLines : List Parsed → List Line
-parsedLines [] = []
-parsedLines (Holding row price ∷ rest) = parsedLines rest
-parsedLines (Lined line ∷ rest) = line ∷ parsedLines rest
-parsedLines (Refused number ∷ rest) = parsedLines rest
-
-unfoldable pub submissionOf : List Parsed → Submission
-submissionOf parsed = record { rows = parsedRows parsed; prices = parsedPrices parsed; lines = parsedLines parsed }
+-- what they submit: of each H a holding's row and its price, of each P a line
+unfoldable pub submissionOf : List Meaning → Submission
+submissionOf parsed = record {
+  rows = map rowBy (valuesBy 0 parsed);
+  prices = map (λ vs. getD vs 5 0) (valuesBy 0 parsed);
+  lines = map lineBy (valuesBy 1 parsed);
+}
 
 -- what a text submits by its records
 abbrev pub submissionIn : List ℕ → Submission
 submissionIn text = submissionOf (parsedIn text)
 
--- of record n after so many holdings and lines: 19 to 21, 22 H after P, 3 more than 256 holdings, 9 more than 512 lines
-abbrev pub faultsOf : ℕ → ℕ → ℕ → Parsed → List (Bool × Answer)
-faultsOf n holdings lines (Refused number) = (true, makeAnswer number n 0) ∷ []
-faultsOf n holdings lines (Holding row price) = (ltb 0 lines, makeAnswer 22 n 0) ∷ (eqb holdings 256, makeAnswer 3 0 0) ∷ []
-faultsOf n holdings lines (Lined line) = (eqb lines 512, makeAnswer 9 0 0) ∷ []
+-- the most records of a letter, and the refusal of one more: 3 more than 256 holdings, 9 more than 512 lines
+abbrev pub limits : List (ℕ × ℕ)
+limits = (256, 3) ∷ (512, 9) ∷ []
 
-unfoldable pub atRecord : List Parsed → ℕ → List (Bool × Answer)
-atRecord parsed n = faultsOf n (length (parsedRows (take n parsed))) (length (parsedLines (take n parsed))) (getD parsed n (Refused 0))
+abbrev pub limitOf : ℕ → ℕ × ℕ
+limitOf letter = getD limits letter (0, 0)
+
+-- of record n, by the letter before it and the count of each letter before: 19 to 21, 22 a letter that may not follow, 3 or 9
+abbrev pub faultsOf : ℕ → Place → (ℕ → ℕ) → Meaning → List (Bool × Answer)
+faultsOf n before count (refused number) = (true, makeAnswer number n 0) ∷ []
+faultsOf n before count (good letter vs) =
+    (not (mayFollow before letter), makeAnswer 22 n 0)
+    ∷ (eqb (count letter) (limitOf letter .0), makeAnswer (limitOf letter .1) 0 0)
+    ∷ []
+
+-- the letter of a record, and the letter before record n
+abbrev pub letterOf : Meaning → Place
+letterOf (good letter vs) = At letter
+letterOf (refused number) = Nowhere
+
+abbrev pub letterBefore : List Meaning → ℕ → Place
+letterBefore parsed zero = Nowhere
+letterBefore parsed (suc n) = letterOf (getD parsed n (refused 0))
+
+unfoldable pub atRecord : List Meaning → ℕ → List (Bool × Answer)
+atRecord parsed n = faultsOf n (letterBefore parsed n) (λ k. length (valuesBy k (take n parsed))) (getD parsed n (refused 0))
 
 -- the most bytes that a file may have
 abbrev pub fileLimit : ℕ
@@ -73,4 +86,29 @@ unfoldable pub readAnswer : Bool → List ℕ → Answer
 readAnswer two text =
     firstOf
     (fileFaults text ++ ((two, makeAnswer 2 0 0) ∷ []))
-    (makeAnswer 0 (length (parsedRows (parsedIn text))) (length (parsedLines (parsedIn text))))
+    (makeAnswer 0 (length (submissionIn text .rows)) (length (submissionIn text .lines)))
+
+-- the paper's number and values of each case: 0 with the number of holdings and of lines, or the refusal's number with its place
+abbrev pub contentsAnswer : Contents → Answer
+contentsAnswer (Read holdings lines) = makeAnswer 0 holdings lines
+contentsAnswer (Refused number place) = makeAnswer number place 0
+
+-- the case of an answer: read for the number 0 and for no other
+unfoldable pub contentsOf : Answer → Contents
+contentsOf a = cond (eqb (a .number) 0) (Read (a .first) (a .second)) (Refused (a .number) (a .first))
+
+-- tables for a file: a column for each value of an H, three for a P, each with an entry for any record that the file can have
+pub record TableRoom (rows : ℕ) (text book lines : List ℕ) : Type 0 where
+  pub book : length book ≡ 8 * (rows * (fieldCount - 1))
+  pub lines : length lines ≡ 8 * (rows * 3)
+  pub enough : rows < 512 → length text ≤ rows
+
+-- what reading a file into two tables promises; after a refusal what they hold is free
+pub record ReadsFile (text : List ℕ) (rows : ℕ) (book lines book′ lines′ : List ℕ) (r : Contents) : Type 0 where
+  -- the first refusal in the reader's order, or the counts
+  pub answer : contentsAnswer r ≡ readAnswer false text
+  -- read is a case of its own
+  pub contents : r ≡ contentsOf (readAnswer false text)
+  -- the values of each H, and of each P, are in the columns of their tables
+  pub holdings : contentsAnswer r .number ≡ 0 → Entered (fieldCount - 1) rows (valuesBy 0 (parsedIn text)) book book′
+  pub lines : contentsAnswer r .number ≡ 0 → Entered 3 rows (valuesBy 1 (parsedIn text)) lines lines′

@@ -1,96 +1,81 @@
-// The file of a book and a proposal, read in one pass.
+// The file of a book and a proposal, read in one pass into a table of holdings and a table of lines.
+use codes::Place;
 use layout::Parsed;
-use proposal::Book;
-use proposal::Proposal;
-ghost use Rattle.reader.specs.ReadsFile.{ReadsFile, refusedContents};
-ghost use mathlib.Core.Path.{_≡_};
+ghost use Rattle.reader.specs.File.{TableRoom, ReadsFile};
 
 // The most bytes that a file may have.
 pub const LIMIT: usize = 65536;
 
-// A file that was read: the book and the proposal that it submits, or a refusal, 0 for none, with its place and both empty.
-pub struct Contents {
-    pub number: u64,
-    pub place: u64,
-    pub book: Book,
-    pub proposal: Proposal,
+// A file that was read: how many holdings and lines it has, or its refusal with the place.
+pub enum Contents {
+    Read { holdings: usize, lines: usize },
+    Refused { number: u64, place: u64 },
 }
 
-// A refusal, with nothing submitted.
-fn refused(number: u64, place: u64) -> Contents
-    ensures { λ r. ⌜ r ≡ refusedContents number place ⌝ }
-{
-    Contents {
-        number,
-        place,
-        book: Book {
-            rows: proposal::no_rows(),
-            count: 0,
-        },
-        proposal: Proposal {
-            prices: lists::zeros(),
-            lines: proposal::no_lines(),
-            count: 0,
-        },
-    }
-}
-
-// Reads a file: 18; each record in turn 19 to 22, then 3 or 9; else what it submits.
-pub fn read(text: &[u8]) -> Contents
-    ensures { λ r. ⌜ ReadsFile (now (text .entry)) r ⌝ }
+// Reads a file: 18; each record in turn 19 to 22, then 3 or 9; else what it submits is in the two tables, each of whose columns has `rows` entries.
+// A value that depends on the records before is worked out here, between `entry_at` and `put_entry`.
+pub fn read(text: &[u8], rows: usize, book: &mut [u8], lines: &mut [u8]) -> Contents
+    requires { ⌜ TableRoom rows (now text) (now book) (now lines) ⌝ }
+    ensures { λ r. ⌜ ReadsFile (now (text .entry)) rows (now (book .entry)) (now (lines .entry)) (now (book .exit)) (now (lines .exit)) r ⌝ }
 {
     if text.len() > LIMIT {
-        return refused(18, 0);
+        return Contents::Refused {
+            number: 18,
+            place: 0,
+        };
     }
-    let mut rows = proposal::no_rows();
-    let mut prices = lists::zeros();
-    let mut lines = proposal::no_lines();
+    let mut values = [0u64; layout::VALUES];
+    let mut before = Place::Nowhere;
     let mut holdings: usize = 0;
     let mut pairs: usize = 0;
     let mut record: usize = 0;
     let mut at: usize = 0;
     while at < text.len() {
-        let entry = layout::entry_at(text, at);
+        let entry = layout::entry_at(text, at, &mut values);
         let parsed = entry.parsed;
         match parsed {
-            Parsed::Holding { row, price } => {
-                if pairs != 0 {
-                    return refused(22, record as u64);
-                }
-                if holdings == 256 {
-                    return refused(3, 0);
-                }
-                rows[holdings] = row;
-                prices[holdings] = price;
-                holdings = holdings + 1;
-                record = record + 1;
-                at = entry.next;
-            }
-            Parsed::Line { line } => {
-                if pairs == 512 {
-                    return refused(9, 0);
-                }
-                lines[pairs] = line;
-                pairs = pairs + 1;
-                record = record + 1;
-                at = entry.next;
-            }
             Parsed::Refused { number } => {
-                return refused(number, record as u64);
+                return Contents::Refused {
+                    number,
+                    place: record as u64,
+                };
+            }
+            Parsed::Good { letter } => {
+                if !layout::may_follow(before, letter) {
+                    return Contents::Refused {
+                        number: 22,
+                        place: record as u64,
+                    };
+                }
+                before = Place::At(letter);
+                if letter == 0 {
+                    if holdings == 256 {
+                        return Contents::Refused {
+                            number: 3,
+                            place: 0,
+                        };
+                    }
+                    columns::put_entry(&values, layout::VALUES, rows, holdings, book);
+                    holdings = holdings + 1;
+                    record = record + 1;
+                    at = entry.next;
+                } else {
+                    if pairs == 512 {
+                        return Contents::Refused {
+                            number: 9,
+                            place: 0,
+                        };
+                    }
+                    columns::put_entry(&values, 3, rows, pairs, lines);
+                    pairs = pairs + 1;
+                    record = record + 1;
+                    at = entry.next;
+                }
             }
         }
     }
-    Contents {
-        number: 0,
-        place: 0,
-        book: Book {
-            rows,
-            count: holdings,
-        },
-        proposal: Proposal {
-            prices,
-            lines,
-            count: pairs,
-        },
+    Contents::Read {
+        holdings,
+        lines: pairs,
     }
 }

@@ -7,11 +7,17 @@ ghost use lib.ListN.{length, getD, take};
 ghost use Rattle.lists.specs.Tables.{listTo};
 ghost use Rattle.article.specs.Answer.{makeAnswer};
 ghost use Rattle.verdict.specs.Judges.{answerOf};
-ghost use Rattle.report.specs.Written.{Written, Prints};
+ghost use Rattle.report.specs.Written.{Written, reportRoom, Prints};
 ghost use Rattle.report.specs.Report.{afterComma, lineOf, answerNumbers, refusalLine, judgedLine, reportOf};
 
 // Room for 257 lines of at most 66 bytes.
-pub const ROOM: usize = 16962;
+pub const ROOM: usize = 257 * 66;
+
+// What came of printing: so many bytes at the front of the lent list, or a refusal, with the list left alone.
+pub enum Printed {
+    Written { bytes: usize },
+    Refused { number: u64 },
+}
 
 // Writes a byte into out at `at`, and returns the place after it.
 fn put_byte(byte: u8, at: usize, out: &mut [u8]) -> usize
@@ -98,9 +104,8 @@ fn put_remainders(
     next
 }
 
-// The lines of a verdict on `count` holdings at the front of out, and how many bytes they are: their remainders, the margins of those and the
-// ranking are lent. A list with less than ROOM is left alone, and 0 returned.
-pub fn report(
+// Writes the lines of a verdict on `count` holdings at the front of out, and returns how many bytes they are.
+fn put_report(
     verdict: Verdict,
     count: usize,
     left: &[u64],
@@ -108,11 +113,10 @@ pub fn report(
     ranks: &[u64],
     out: &mut [u8],
 ) -> usize
-    ensures { λ r. ⌜ Prints (reportOf verdict count (now (left .entry)) (now (margins .entry)) (now (ranks .entry))) (now (out .entry)) (now (out .exit)) r ⌝ }
+    requires { ⌜ reportRoom ≤ length (now out) ⌝ }
+    ensures { λ r. ⌜ Written (reportOf verdict count (now (left .entry)) (now (margins .entry)) (now (ranks .entry)))
+        0 r (now (out .entry)) (now (out .exit)) ⌝ }
 {
-    if out.len() < ROOM {
-        return 0;
-    }
     let numbers = numbers_of(verdict);
     if numbers[0] != 0 {
         return put_line(b'X', numbers, 3, 0, out);
@@ -121,12 +125,40 @@ pub fn report(
     put_remainders(count, left, margins, ranks, next, out)
 }
 
-// The line of a refusal at the front of out, and how many bytes it is. A list with less than ROOM is left alone, and 0 returned.
-pub fn refusal(number: u64, place: u64, second: u64, out: &mut [u8]) -> usize
+// Prints a text at the front of out; a list that it is longer than is left alone, and 2 returned.
+fn print(text: &[u8], out: &mut [u8]) -> Printed
+    ensures { λ r. ⌜ Prints (now (text .entry)) (now (out .entry)) (now (out .exit)) r ⌝ }
+{
+    let bytes = text.len();
+    if out.len() < bytes {
+        return Printed::Refused { number: 2 };
+    }
+    lists::copy(text, out);
+    Printed::Written { bytes }
+}
+
+// Prints the lines of a verdict on `count` holdings: their remainders, the margins of those and the ranking are lent.
+pub fn report(
+    verdict: Verdict,
+    count: usize,
+    left: &[u64],
+    margins: &[u64],
+    ranks: &[u64],
+    out: &mut [u8],
+) -> Printed
+    ensures { λ r. ⌜ Prints (reportOf verdict count (now (left .entry)) (now (margins .entry)) (now (ranks .entry)))
+        (now (out .entry)) (now (out .exit)) r ⌝ }
+{
+    let mut lines = [0u8; ROOM];
+    let n = put_report(verdict, count, left, margins, ranks, &mut lines);
+    print(&lines[..n], out)
+}
+
+// Prints the line of a refusal.
+pub fn refusal(number: u64, place: u64, second: u64, out: &mut [u8]) -> Printed
     ensures { λ r. ⌜ Prints (refusalLine (makeAnswer number place second)) (now (out .entry)) (now (out .exit)) r ⌝ }
 {
-    if out.len() < ROOM {
-        return 0;
-    }
-    put_line(b'X', [number, place, second], 3, 0, out)
+    let mut line = [0u8; 66];
+    let n = put_line(b'X', [number, place, second], 3, 0, &mut line);
+    print(&line[..n], out)
 }
