@@ -49,10 +49,10 @@ module _ {A : Type 0} where
       rw (overwrite-parts at xs old) (length-append (take at old ++ xs) (drop (at + length xs) old) ∙ omega (arith, before at xs old (omega arith), length-drop (at + length xs) old))
 
   -- the first n entries of f stand at the front of a list, and one more is written
-  pub laid-more : (n : ℕ) (f : ℕ → A) (x : A) (so-far old : List A) → n < length old → x ≡ f n → so-far ≡ front (listTo n f) old
+  pub front-more : (n : ℕ) (f : ℕ → A) (x : A) (so-far old : List A) → n < length old → x ≡ f n → so-far ≡ front (listTo n f) old
       → set so-far n x ≡ front (listTo (n + 1) f) old
   unfolding overwrite listTo
-  laid-more n f x so-far old h e g =
+  front-more n f x so-far old h e g =
       let all : n < length (front (listTo n f) old) = omega (arith, length-overwrite 0 (listTo n f) old (omega (arith, length-to n f))) in
       let at : 0 + length (listTo n f) ≡ n = omega (arith, length-to n f) in
       rw (g, e, add-one) (overwrite-one n (f n) (front (listTo n f) old) all ∙ rw at at (overwrite-overwrite 0 (listTo n f) (f n ∷ []) old (omega arith)))

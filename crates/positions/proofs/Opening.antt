@@ -9,7 +9,7 @@ use borrow.Author.Count.{below-none, below-more}
 use Rattle.lists.specs.Choice.{firstOf}
 use Rattle.lists.specs.Tables.{listTo, front}
 use Rattle.lists.proofs.Firsts.{first-of-none}
-use Rattle.lists.proofs.Overwrite.{laid-more}
+use Rattle.lists.proofs.Overwrite.{front-more}
 use Rattle.lists.proofs.Passed.{Passed, passed-none, passed-more, passed-first, passed-all}
 use Rattle.lists.proofs.Tables.{length-to, getD-to, map-to, to-back}
 use Rattle.holding.specs.Holding.{holdingOf, rowBy, Builds}
@@ -122,7 +122,7 @@ module _ {columns : List (List ℕ)} {price legs₀ left₀ : List ℕ} where
                 below-more (λ (k : ℕ). legAt (set legs i code) k ≡ legOf (holdingOf (row columns k))) i
                 (λ k q. ap legIn (getD-set-other {A = ℕ} legs i k code 0 (λ z. omega arith)) ∙ o .coded k q)
                 (ap legIn (getD-set-same legs i code 0 (omega (arith, o .room .legs-held, o .legs-long))) ∙ ec ∙ el ∙ ap legOf is);
-            values = laid-more i _ _ left left₀ (omega (arith, o .room .left-held)) (ap (λ (x : Row). x .value) is-row) (o .values);
+            values = front-more i _ _ left left₀ (omega (arith, o .room .left-held)) (ap (λ (x : Row). x .value) is-row) (o .values);
           }
 
     -- past the last holding

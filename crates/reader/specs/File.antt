@@ -99,8 +99,8 @@ contentsOf a = cond (eqb (a .number) 0) (Read (a .first) (a .second)) (Refused (
 
 -- tables for a file: a column for each value of an H, three for a P, each with an entry for any record that the file can have
 pub record TableRoom (rows : ℕ) (text book lines : List ℕ) : Type 0 where
-  pub book : length book ≡ 8 * (rows * (fieldCount - 1))
-  pub lines : length lines ≡ 8 * (rows * 3)
+  pub whole-book : length book ≡ 8 * (rows * (fieldCount - 1))
+  pub whole-lines : length lines ≡ 8 * (rows * 3)
   pub enough : rows < 512 → length text ≤ rows
 
 -- what reading a file into two tables promises; after a refusal what they hold is free
@@ -110,5 +110,5 @@ pub record ReadsFile (text : List ℕ) (rows : ℕ) (book lines book′ lines′
   -- read is a case of its own
   pub contents : r ≡ contentsOf (readAnswer false text)
   -- the values of each H, and of each P, are in the columns of their tables
-  pub holdings : contentsAnswer r .number ≡ 0 → Entered (fieldCount - 1) rows (valuesBy 0 (parsedIn text)) book book′
-  pub lines : contentsAnswer r .number ≡ 0 → Entered 3 rows (valuesBy 1 (parsedIn text)) lines lines′
+  pub each-holding : contentsAnswer r .number ≡ 0 → Entered (fieldCount - 1) rows (valuesBy 0 (parsedIn text)) book book′
+  pub each-line : contentsAnswer r .number ≡ 0 → Entered 3 rows (valuesBy 1 (parsedIn text)) lines lines′

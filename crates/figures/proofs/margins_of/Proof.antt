@@ -8,7 +8,7 @@ use lib.ListN.{length, set}
 use borrow.Author.Needs.{needs}
 use Rattle.lists.specs.Sums.{sumTo}
 use Rattle.lists.specs.Tables.{listTo, front}
-use Rattle.lists.proofs.Overwrite.{laid-more}
+use Rattle.lists.proofs.Overwrite.{front-more}
 use Rattle.lists.proofs.Sums.{sumTo-more}
 use Rattle.article.specs.declared.pair.Leg.{Leg}
 use Rattle.proposal.specs.Figures.{marginLimit}
@@ -35,7 +35,7 @@ module _ {n : ℕ} {legs left old : List ℕ} (lent : MarginsLent n legs left ol
   more : {margins : List ℕ} {total : ℕ} → Margins i legs left old margins total
       → Margins (i + 1) legs left old (set margins i (leg .rate * entry left i)) (total + leg .rate * entry left i)
   more {margins} {total} m = record {
-    each = laid-more i _ _ margins old (omega (arith, lent .margins-held)) is-left (m .each);
+    each = front-more i _ _ margins old (omega (arith, lent .margins-held)) is-left (m .each);
     sum = ap (λ (x : ℕ). total + x) is-left ∙ sumTo-more _ i total (m .sum);
     sum-high = omega (arith, high, m .sum-high);
   }
