@@ -1,11 +1,12 @@
 -- `copy` writes one byte after another: the first i are there, and then what the list held. Assumes nothing.
-use mathlib.Core.Path.{_≡_, refl}
-use Prim.Native.Nat.{_-_, _≤_}
+use mathlib.Core.Path.{_≡_, refl, ap, _∙_}
+use mathlib.Core.List.{List}
+use Prim.Native.Nat.{ℕ, _-_, _≤_}
 use lib.ListN.{length, getD}
 use borrow.Author.Needs.{needs}
 use Rattle.lists.specs.Tables.{listTo, front}
 use Rattle.lists.proofs.Tables.{to-back}
-use Rattle.lists.proofs.Overwrite.{front-more, front-none}
+use Rattle.lists.proofs.Overwrite.{front-more}
 use Rattle.lists.proofs.copy.Statement.{statement}
 use Rattle.lists.proofs.copy.Tie as tie
 
@@ -15,13 +16,19 @@ Inv-loop from to₀ i₀ to i = (i ≤ length from) × (length to ≡ length to�
 abbrev μ-loop : tie.MeasureT-loop
 μ-loop from to₀ i₀ to i = length from - i
 
+loop-holds : tie.Need-loop-holds Inv-loop μ-loop
+unfolding front listTo
+loop-holds c = (search needs, refl, refl)
+
 loop-again : tie.Need-loop-again Inv-loop μ-loop
-loop-again c = (search needs, search needs, front-more _ _ _ _ _ (search needs) refl (c .before .before .before .loop .inv .2))
+loop-again c = (search needs, search needs, front-more _ _ _ _ _ (search needs) refl (c .before .before .loop .inv .2))
 
 returns : tie.Need-returns Inv-loop μ-loop
 returns c =
-    let all : c .before .loop .i ≡ length (c .before .before .before .args .from .now) = search needs in
-    ?
+    let at = c .before in
+    let from = at .before .args .from .now in
+    let all : at .loop .i ≡ length from = search needs in
+    at .loop .inv .2 ∙ ap (λ (xs : List ℕ). front xs (at .before .args .to .now)) (rw all (to-back (length from) from 0 refl))
 
 pub copy-spec : {M : Type 1} → statement M
 copy-spec =
@@ -29,7 +36,7 @@ copy-spec =
     (tie.spec
     Inv-loop
     μ-loop
-    (λ c. ?)
+    loop-holds
     (λ c. search needs)
     (λ c. search needs)
     (λ c. search needs)
