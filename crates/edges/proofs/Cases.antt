@@ -28,7 +28,7 @@ use Rattle.layout.specs.declared.Value.{Value}
 use Rattle.layout.specs.declared.Value.the-variants.{Of, Wrong}
 use Rattle.columns.specs.Columns.{Columns, makeColumns, submission, holdingSizes, lineSizes, listsOf, filled}
 use Rattle.sizes.specs.Sizes.{tooShort, lengthFault}
-use Rattle.lent.specs.Lists.{makeLent, answered}
+use Rattle.lent.specs.Boundary.{makeLent, answered}
 use Rattle.lent.specs.Boundary.{two}
 use Rattle.reader.specs.File.{submissionIn, atRecord, readAnswer}
 use Rattle.report.specs.Report.{answerNumbers}

@@ -23,7 +23,7 @@ use Rattle.columns.specs.Columns.{Columns, makeColumns, holdingSizes, lineSizes
 use Rattle.columns.proofs.ReadBack.{price-read, rows-read, lines-read}
 use Rattle.sizes.specs.Sizes.{Room, tooShort}
 use Rattle.sizes.proofs.Sizes.{room-exactly}
-use Rattle.lent.specs.Lists.{Answers}
+use Rattle.lent.specs.Boundary.{Answers}
 use Rattle.reader.specs.File.{submissionOf, submissionIn, fileFaults, fileFault, readAnswer}
 use Rattle.reader.specs.ReadsFile.{ReadsFile, nothing}
 use Rattle.reader.specs.declared.Contents.{Contents}

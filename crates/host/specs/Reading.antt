@@ -12,7 +12,7 @@ use Rattle.proposal.specs.Submission.{Submission, noRow, noLine}
 use Rattle.words.specs.Words.{wordAt}
 use Rattle.columns.specs.Columns.{Columns, listsOf, filled, RowAt, LineAt}
 use Rattle.sizes.specs.Sizes.{Room, tooShort}
-use Rattle.lent.specs.Lists.{Answers}
+use Rattle.lent.specs.Boundary.{Answers}
 use Rattle.reader.specs.File.{submissionIn, readAnswer}
 use Rattle.readable.specs.Readable.{Submits}
 
