@@ -1,5 +1,5 @@
 -- From what was read of a text to what is promised of what is lent. Assumes nothing.
-use mathlib.Core.Path.{_≡_, refl, sym, ap, subst, _∙_}
+use mathlib.Core.Path.{_≡_, refl, sym, ap, _∙_}
 use mathlib.Core.Logic.{_↔_, _≢_}
 use mathlib.Core.Bool.{Bool, true, false, cond}
 use mathlib.Core.List.{List, [], _∷_, _++_, map}
@@ -7,12 +7,9 @@ use Prim.Native.Nat.{ℕ, suc, _*_, _/_, _≤_}
 use native.Mathlib.Omega.{arith}
 use lib.Dec.{eqb}
 use lib.ListN.{length, getD, take, length-map, length-append}
-use borrow.Author.Tests.{eq-eqb, ne-eqb}
-use Rattle.lists.specs.Choice.{firstOf}
+use borrow.Author.Tests.{ne-eqb}
 use Rattle.lists.specs.Each.{Each}
 use Rattle.lists.specs.Tables.{front}
-use Rattle.lists.proofs.Tests.{same-or-not}
-use Rattle.lists.proofs.Firsts.{first-append, first-refused, first-of-none}
 use Rattle.lists.proofs.Entries.{each-so, each-parts, each-back}
 use Rattle.article.specs.Answer.{Answer, makeAnswer}
 use Rattle.proposal.specs.Submission.{Submission, lineNumbers, lineBy}
@@ -25,11 +22,11 @@ use Rattle.columns.proofs.ReadBack.{price-read, rows-read, lines-read}
 use Rattle.sizes.specs.Sizes.{Room, tooShort}
 use Rattle.sizes.proofs.Sizes.{room-exactly}
 use Rattle.lent.specs.Boundary.{Answers}
-use Rattle.reader.specs.File.{parsedIn, valuesBy, submissionOf, submissionIn, fileFaults, fileFault, readAnswer, contentsAnswer, contentsOf, TableRoom, ReadsFile}
+use Rattle.reader.specs.File.{parsedIn, valuesBy, submissionOf, submissionIn, TableRoom, ReadsFile}
 use Rattle.reader.specs.declared.Contents.{Contents}
 use Rattle.reader.specs.declared.Contents.the-variants.{Read, Refused}
 use Rattle.readable.specs.Readable.{Submits}
-use Rattle.readable.proofs.Numbers.{none-exactly}
+use Rattle.readable.proofs.Answered.{answer-refused, answer-none, answer-exactly, contents-refused, was-read, no-fault, holdings-counted, lines-counted, holdings-held, lines-held, few-holdings, few-lines}
 use Rattle.readable.proofs.Exactly.{read-exactly}
 use Rattle.readable.proofs.Fitting.{file-fits}
 use Rattle.host.specs.Reading.{nothing, readingAnswer, filling, Reads}
@@ -52,44 +49,6 @@ with-room : (n : ℕ) (lists : List (List ℕ)) → Each Holds (map (λ (size : 
 with-room n lists h =
     each-so (λ (c : List ℕ). Holds (n, length c)) (λ c. 8 * n ≤ length c) (λ c l. omega arith) lists
     (each-back (λ (size : ℕ). Holds (n, size)) length lists (each-back Holds (λ (size : ℕ). (n, size)) (map length lists) h))
-
--- contents are not of both cases
-is-refused : Contents → Type 0
-is-refused (Read holdings lines) = ⊥
-is-refused (Refused number place) = Unit {0}
-
-refused-number : {number place : ℕ} (a : Answer) → Refused number place ≡ contentsOf a → a .number ≢ 0
-unfolding contentsOf is-refused
-refused-number a e z = subst is-refused (e ∙ rw (eq-eqb (a .number) 0 z)) tt
-
--- what the reader answers by the refusals of the file and by the lengths of the lists
-module _ (text : List ℕ) (two : Bool) where
-  counts : Answer
-  counts = makeAnswer 0 (length (submissionIn text .rows)) (length (submissionIn text .lines))
-
-  answer-refused : fileFault text .number ≢ 0 → readAnswer two text ≡ fileFault text
-  unfolding readAnswer fileFault
-  answer-refused h =
-      first-append (fileFaults text) ((two, makeAnswer 2 0 0) ∷ []) _
-      ∙ first-refused number (fileFaults text) (makeAnswer 0 0 0) _ refl h
-
-  answer-none : fileFault text .number ≡ 0 → readAnswer two text ≡ cond two (makeAnswer 2 0 0) counts
-  unfolding readAnswer firstOf counts
-  answer-none e = first-append (fileFaults text) ((two, makeAnswer 2 0 0) ∷ []) _ ∙ first-of-none (fileFaults text) _ (none-exactly text .0 e)
-
-  answer-exactly : (readAnswer two text .number ≡ 0) ↔ ((fileFault text .number ≡ 0) × (two ≡ false))
-  unfolding counts
-  answer-exactly = (
-    λ e.
-        same-or-not (fileFault text .number) 0
-        (λ z. (z, by two (sym (ap number (answer-none z)) ∙ e)))
-        (λ z. absurd (z (sym (ap number (answer-refused z)) ∙ e))),
-    λ h. ap number (answer-none (h .0)) ∙ rw (h .1),
-  )
-    where
-      by : (t : Bool) → number (cond t (makeAnswer 2 0 0) counts) ≡ 0 → t ≡ false
-      by true e = absurd (omega arith)
-      by false e = refl
 
 -- lists that were filled with values of holdings are five columns and the prices
 book-filled : (hs : List (List ℕ)) {s k i d v p s′ k′ i′ d′ v′ p′ : List ℕ} → (s′ ∷ k′ ∷ i′ ∷ d′ ∷ v′ ∷ p′ ∷ []) ≡ filledFrom 0 hs (s ∷ k ∷ i ∷ d ∷ v ∷ p ∷ [])
@@ -139,52 +98,21 @@ module _ (text : List ℕ) (before : Columns) (out : List ℕ) where
     pub record-refused : {n place : ℕ} (out′ : List ℕ) (r : ℕ) → d ≡ Refused n place → Answers (makeAnswer n place 0) out out′ r → Reads text before before out out′ r
     unfolding readingAnswer
     record-refused {n} {place} out′ r e t =
-        let answer : makeAnswer n place 0 ≡ readAnswer false text = rw e at (from-file .answer) in
-        let other : readAnswer false text .number ≢ 0 = refused-number (readAnswer false text) (sym e ∙ from-file .contents) in
-        let fault : fileFault text .number ≢ 0 = λ z. other (answer-exactly text false .1 (z, refl)) in
-        refused (makeAnswer n place 0) out′ r (answer-refused text short fault ∙ sym (answer-refused text false fault) ∙ sym answer) (λ z. other (sym (ap number answer) ∙ z)) t
+        let (other, fault) = contents-refused from-file e in
+        refused (makeAnswer n place 0) out′ r (answer-refused text short (λ z. other (sym (ap number fault) ∙ z)) ∙ fault) other t
 
     -- nothing is refused
     module _ {n m : ℕ} (e : d ≡ Read n m) where
-      answer : makeAnswer 0 n m ≡ readAnswer false text
-      answer = rw e at (from-file .answer)
-
-      zero : contentsAnswer d .number ≡ 0
-      zero = rw e
-
-      no-fault : fileFault text .number ≡ 0
-      no-fault = answer-exactly text false .0 (sym (ap number answer)) .0
-
-      counted : makeAnswer 0 n m ≡ counts text false
-      counted = answer ∙ answer-none text false no-fault
-
-      holdings : length (s .rows) ≡ n
-      unfolding counts
-      holdings = sym (ap (λ (a : Answer). a .first) counted)
-
-      pairs : length (s .lines) ≡ m
-      unfolding counts
-      pairs = sym (ap (λ (a : Answer). a .second) counted)
-
-      -- the values that were read
-      held : length (valuesBy 0 (parsedIn text)) ≡ n
-      unfolding submissionOf
-      held = sym (length-map (valuesBy 0 (parsedIn text)) rowBy) ∙ holdings
-
-      lined : length (valuesBy 1 (parsedIn text)) ≡ m
-      unfolding submissionOf
-      lined = sym (length-map (valuesBy 1 (parsedIn text)) lineBy) ∙ pairs
-
       -- the lists are measured for what the text submits
       pub measured : {two : Bool} → two ≡ tooShort (map (λ size. (n, size)) (holdingSizes before) ++ map (λ size. (m, size)) (lineSizes before)) (length out) → two ≡ short
       unfolding listsOf
-      measured e = e ∙ rw (← holdings, ← pairs)
+      measured t = t ∙ rw (← holdings-counted from-file e, ← lines-counted from-file e)
 
       module _ {two : Bool} (same : two ≡ short) where
         pub list-refused : (out′ : List ℕ) (r : ℕ) → two ≡ true → Answers (makeAnswer 2 0 0) out out′ r → Reads text before before out out′ r
         unfolding readingAnswer
         list-refused out′ r t answered =
-            refused (makeAnswer 2 0 0) out′ r (answer-none text short no-fault ∙ rw (sym same ∙ t)) (λ w. omega arith) answered
+            refused (makeAnswer 2 0 0) out′ r (answer-none text short (no-fault from-file e) ∙ rw (sym same ∙ t)) (λ w. omega arith) answered
 
         -- each list then has room for its numbers
         module _ (fits : two ≡ false) (room : TableRoom rows text book lines) where
@@ -193,47 +121,48 @@ module _ (text : List ℕ) (before : Columns) (out : List ℕ) where
           each-list =
               let (book, lines) = each-parts Holds (map (λ size. (length (s .rows), size)) (holdingSizes before)) (map (λ size. (length (s .lines), size)) (lineSizes before))
               (room-exactly (listsOf s before) (length out) .0 (sym same ∙ fits) .each) in
-              (rw (← holdings) (with-room _ (before .holdings ++ (before .price ∷ [])) book), rw (← pairs) (with-room _ (before .lines) lines))
+              (rw (← holdings-counted from-file e) (with-room _ (before .holdings ++ (before .price ∷ [])) book), rw (← lines-counted from-file e) (with-room _ (before .lines) lines))
 
           many : (old : List ℕ) (xs : List (List ℕ)) → length xs ≡ 5 → length (xs ++ (old ∷ [])) ≡ 6
           many old xs f = length-append xs (old ∷ []) ∙ omega (arith, f)
 
           pub book-room : length (before .holdings) ≡ 5 → CopyRoom rows n book′ (before .holdings ++ (before .price ∷ []))
           book-room five = record {
-            few = rw held at (from-file .few-holdings zero);
-            whole = from-file .each-holding zero .long ∙ room .whole-book ∙ rw (many (before .price) (before .holdings) five);
+            few = few-holdings from-file e;
+            whole = from-file .each-holding (was-read from-file e) .long ∙ room .whole-book ∙ rw (many (before .price) (before .holdings) five);
             each = each-list .0;
           }
 
           pub lines-room : length (before .lines) ≡ 3 → CopyRoom rows m lines′ (before .lines)
           lines-room three = record {
-            few = rw lined at (from-file .few-lines zero);
-            whole = from-file .each-line zero .long ∙ room .whole-lines ∙ rw three;
+            few = few-lines from-file e;
+            whole = from-file .each-line (was-read from-file e) .long ∙ room .whole-lines ∙ rw three;
             each = each-list .1;
           }
 
       -- copied, the tables are what is submitted
-      pub book-copied : {s k i d v p s′ k′ i′ d′ v′ p′ : List ℕ} → n ≤ rows → (s′ ∷ k′ ∷ i′ ∷ d′ ∷ v′ ∷ p′ ∷ []) ≡ copied rows n book′ 0 (s ∷ k ∷ i ∷ d ∷ v ∷ p ∷ [])
+      pub book-copied : {s k i d v p s′ k′ i′ d′ v′ p′ : List ℕ} → (s′ ∷ k′ ∷ i′ ∷ d′ ∷ v′ ∷ p′ ∷ []) ≡ copied rows n book′ 0 (s ∷ k ∷ i ∷ d ∷ v ∷ p ∷ [])
           → ((s′ ∷ k′ ∷ i′ ∷ d′ ∷ v′ ∷ []) ≡ filledFrom 0 (map numbersOf (submissionIn text .rows)) (s ∷ k ∷ i ∷ d ∷ v ∷ [])) × (p′ ≡ column (submissionIn text .prices) p)
       unfolding submissionOf
-      book-copied few c = book-filled (valuesBy 0 (parsedIn text)) (c ∙ entered-copied (from-file .each-holding zero) held few 0 _ (omega arith))
+      book-copied c =
+          book-filled (valuesBy 0 (parsedIn text)) (c ∙ entered-copied (from-file .each-holding (was-read from-file e)) (holdings-held from-file e) (few-holdings from-file e) 0 _ (omega arith))
 
-      pub lines-copied : {l s a l′ s′ a′ : List ℕ} → m ≤ rows → (l′ ∷ s′ ∷ a′ ∷ []) ≡ copied rows m lines′ 0 (l ∷ s ∷ a ∷ [])
+      pub lines-copied : {l s a l′ s′ a′ : List ℕ} → (l′ ∷ s′ ∷ a′ ∷ []) ≡ copied rows m lines′ 0 (l ∷ s ∷ a ∷ [])
           → (l′ ∷ s′ ∷ a′ ∷ []) ≡ filledFrom 0 (map lineNumbers (submissionIn text .lines)) (l ∷ s ∷ a ∷ [])
       unfolding submissionOf
-      lines-copied {l} {s} {a} few c =
-          c ∙ entered-copied (from-file .each-line zero) lined few 0 _ (omega arith) ∙ line-values-filled (valuesBy 1 (parsedIn text)) (l ∷ s ∷ a ∷ []) refl
+      lines-copied {l} {s} {a} c =
+          c ∙ entered-copied (from-file .each-line (was-read from-file e)) (lines-held from-file e) (few-lines from-file e) 0 _ (omega arith) ∙ line-values-filled (valuesBy 1 (parsedIn text)) (l ∷ s ∷ a ∷ []) refl
 
       pub all-read : {two : Bool} {holdings′ lines′ : List (List ℕ)} {price′ : List ℕ} (out′ : List ℕ) (r : ℕ) → two ≡ short → two ≡ false
           → length (before .holdings) ≡ 5 → length (before .lines) ≡ 3
           → (holdings′ ≡ filledFrom 0 (map numbersOf (s .rows)) (before .holdings)) × (price′ ≡ column (s .prices) (before .price))
           → lines′ ≡ filledFrom 0 (map lineNumbers (s .lines)) (before .lines)
           → Answers (makeAnswer 0 n m) out out′ r → Reads text before (makeColumns holdings′ price′ lines′) out out′ r
-      unfolding readingAnswer counts filled
+      unfolding readingAnswer filled
       all-read out′ r same fits five three (held-in, prices-in) lined-in answered =
-          let whole : readingAnswer text before out ≡ makeAnswer 0 n m = answer-none text short no-fault ∙ rw (sym same ∙ fits, holdings, pairs) in
+          let whole : readingAnswer text before out ≡ makeAnswer 0 n m = answer-none text short (no-fault from-file e) ∙ rw (sym same ∙ fits, holdings-counted from-file e, lines-counted from-file e) in
           let zero : filling text before out ≡ s = filling-by {t = true} (rw whole) in
-          let fit = file-fits text no-fault in
+          let fit = file-fits text (no-fault from-file e) in
           let as-many : length (s .prices) ≡ length (s .rows) = unfold submissionOf in rw (length-map, length-map) in
           record {
             returned = rw whole answered;
