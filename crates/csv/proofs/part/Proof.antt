@@ -1,11 +1,11 @@
--- `field` is the part of the text between two places. Assumes nothing.
+-- `part` is the part of the text between two places. Assumes nothing.
 use borrow.Author.Needs.{needs}
 use Rattle.csv.proofs.Scan.{part-whole, part-rest, part-empty, part-past}
-use Rattle.csv.proofs.field.Statement.{statement}
-use Rattle.csv.proofs.field.Tie as tie
+use Rattle.csv.proofs.part.Statement.{statement}
+use Rattle.csv.proofs.part.Tie as tie
 
-pub field-spec : {M : Type 1} → statement M
-field-spec =
+pub part-spec : {M : Type 1} → statement M
+part-spec =
     tie.close
     (tie.spec
     (λ c. search needs)
