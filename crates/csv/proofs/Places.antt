@@ -2,15 +2,15 @@
 use mathlib.Core.Path.{_≡_, refl, sym, ap, _∙_}
 use mathlib.Core.Bool.{Bool, true, false, cond, false≢true}
 use mathlib.Core.List.{List, [], _∷_, map, append-nil}
-use Prim.Native.Nat.{ℕ, _≤_, _<_}
+use Prim.Native.Nat.{ℕ, _≤_, _<_, min}
 use native.Mathlib.Omega.{arith}
 use borrow.Author.Tests.{lt-ltb, le-ltb, ltb-true}
 use lib.Dec.{ltb}
-use lib.ListN.{length, getD, take, length-take, length-map}
+use lib.ListN.{length, getD, take, length-take, length-map, List·getD-eq-default}
 use lib.Seq.{take-all, getD-take, ext-getD}
 use Rattle.lists.specs.Tables.{listTo, front}
 use Rattle.lists.proofs.Tables.{length-to, getD-to, getD-map-in, front-at}
-use Rattle.csv.specs.Reading.{span, part, fieldAt, Split, fields, malformed, push, onPiece, fieldsFrom, recordAt, fieldCount, Scans, textsOf, textsIn, Read, formed, broken, onSplit, recordsFrom, recordsAt}
+use Rattle.csv.specs.Reading.{span, part, fieldAt, Split, fields, malformed, push, onPiece, fieldsFrom, recordAt, fieldCount, Scans, textsOf, textsIn, HandsBack, Read, formed, broken, onSplit, recordsFrom, recordsAt}
 use Rattle.csv.specs.declared.Span.{Span}
 use Rattle.csv.specs.declared.Piece.{Piece}
 use Rattle.csv.specs.declared.Piece.the-variants.{Field, Broken}
@@ -174,3 +174,19 @@ module _ (text : List ℕ) where
 
     pub all-texts : length ss ≡ fieldCount → textsIn text fieldCount starts ends ≡ map (part text) ss
     all-texts long = counted-texts long refl
+
+-- the text of a field by its number
+module _ (text : List ℕ) (count : ℕ) (starts ends : List ℕ) (k : ℕ) where
+  hands-back : {r : List ℕ} → r ≡ getD (textsIn text count starts ends) k [] → HandsBack text count starts ends k r
+  hands-back e = record {
+    by-places = e;
+    of-record = λ at next old old′ s. e ∙ ap (λ l. getD l k []) (scanned-texts text (recordAt text at) old old′ starts ends s refl);
+  }
+
+  pub hands-part : {r : List ℕ} → k < count → k < fieldCount → r ≡ part text (span (getD starts k 0) (getD ends k 0)) → HandsBack text count starts ends k r
+  unfolding textsIn
+  hands-part h m e = hands-back (e ∙ sym (getD-take count (listTo fieldCount _) k [] h ∙ getD-to fieldCount _ k [] m))
+
+  pub hands-none : min count fieldCount ≤ k → HandsBack text count starts ends k []
+  unfolding textsIn
+  hands-none h = hands-back (sym (List·getD-eq-default (textsIn text count starts ends) [] (simp (length-take, length-to) (omega arith))))
