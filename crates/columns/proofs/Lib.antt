@@ -1,3 +1,3 @@
 pub mod Columns
-pub mod Encoded
 pub mod ReadBack
+pub mod Tables
