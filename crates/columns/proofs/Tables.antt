@@ -4,7 +4,7 @@ use mathlib.Core.List.{List, [], _∷_, _++_, map, map-append}
 use Prim.Native.Nat.{ℕ, suc, _+_, _*_, _≤_, _<_}
 use native.Mathlib.Nat.{add-zero}
 use native.Mathlib.Omega.{arith}
-use lib.ListN.{length, getD, take, drop, length-drop, length-map}
+use lib.ListN.{length, getD, take, drop, length-take, length-drop, length-map}
 use lib.Seq.{length-take-le, take-take}
 use Rattle.lists.specs.Tables.{listTo, front}
 use Rattle.lists.proofs.Tables.{getD-to}
@@ -49,6 +49,21 @@ module _ {count rows n : ℕ} {numbers : List (List ℕ)} {old now : List ℕ} (
   unfolding copied filledFrom column
   entered-copied j [] h = refl
   entered-copied j (list ∷ lists) h = λ i. front (entered-column j (omega arith) i) list ∷ entered-copied (suc j) lists (omega arith) i
+
+-- a column of a table fits a list that has room for its entries
+pub column-fits : (rows n j : ℕ) (table from list : List ℕ) → from ≡ columnIn rows n table j → 8 * n ≤ length list → length from ≤ length list
+unfolding columnIn
+column-fits rows n j table from list e h = rw e (omega (arith, length-take (8 * n) (drop (8 * (rows * j)) table)))
+
+-- one column copied, and then those after it
+pub copied-none : (rows n j : ℕ) (table : List ℕ) → [] ≡ copied rows n table j []
+unfolding copied
+copied-none rows n j table = refl
+
+pub copied-more : (rows n j : ℕ) (table from old new : List ℕ) (olds news : List (List ℕ)) → from ≡ columnIn rows n table j → new ≡ front from old
+    → news ≡ copied rows n table (suc j) olds → new ∷ news ≡ copied rows n table j (old ∷ olds)
+unfolding copied
+copied-more rows n j table from old new olds news e p q = rw (p, e, q)
 
 -- lists that are filled one after another
 filled-append : (values : List (List ℕ)) (j : ℕ) (olds more : List (List ℕ))
