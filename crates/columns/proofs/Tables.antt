@@ -4,7 +4,7 @@ use mathlib.Core.List.{List, [], _∷_, _++_, map, map-append}
 use Prim.Native.Nat.{ℕ, suc, _+_, _*_, _≤_, _<_}
 use native.Mathlib.Nat.{add-zero}
 use native.Mathlib.Omega.{arith}
-use lib.ListN.{length, getD, take, drop, length-take, length-drop, length-map}
+use lib.ListN.{length, take, drop, length-take, length-drop, length-map}
 use lib.Seq.{length-take-le, take-take}
 use Rattle.lists.specs.Tables.{listTo, front}
 use Rattle.lists.proofs.Tables.{getD-to}
@@ -60,10 +60,10 @@ pub copied-none : (rows n j : ℕ) (table : List ℕ) → [] ≡ copied rows n t
 unfolding copied
 copied-none rows n j table = refl
 
-pub copied-more : (rows n j : ℕ) (table from old new : List ℕ) (olds news : List (List ℕ)) → from ≡ columnIn rows n table j → new ≡ front from old
+pub copied-more : (rows n j : ℕ) (table old : List ℕ) (olds : List (List ℕ)) {from new : List ℕ} {news : List (List ℕ)} → from ≡ columnIn rows n table j → new ≡ front from old
     → news ≡ copied rows n table (suc j) olds → new ∷ news ≡ copied rows n table j (old ∷ olds)
 unfolding copied
-copied-more rows n j table from old new olds news e p q = rw (p, e, q)
+copied-more rows n j table old olds e p q = rw (p, e, q)
 
 -- lists that are filled one after another
 filled-append : (values : List (List ℕ)) (j : ℕ) (olds more : List (List ℕ))
