@@ -1,3 +1,1 @@
 pub mod Letters
-pub mod Found
-pub mod Parsing
