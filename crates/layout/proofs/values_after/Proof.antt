@@ -52,7 +52,7 @@ values-after-spec =
     loop-holds
     (λ c κs. search needs)
     (λ c. search needs)
-    ?
+    (λ c κs. search needs)
     (λ c κs. search needs)
     (λ c. search needs)
     (λ c. search needs)
