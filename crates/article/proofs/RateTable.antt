@@ -5,7 +5,7 @@ use native.Mathlib.Omega.{arith}
 use Rattle.article.proofs.Periods.{period-1, period-2, period-3, period-4, period-5}
 use Rattle.article.proofs.Terms.{within-year, over-year, below-twenty, from-twenty}
 use Rattle.article.specs.Rate.{periodOf, percents, flatRate, bondRate, stripRate, kindRate, classOf, rateAt, rateOf}
-use Rattle.article.specs.RateTable.{Rates, RateTable}
+use Rattle.article.specs.Article.{Rates, RateTable}
 use Rattle.holding.specs.declared.Kind.{Kind}
 use Rattle.holding.specs.declared.Kind.the-variants.{Bond, Coupon, Residual}
 use Rattle.holding.specs.declared.Issuer.{Issuer}

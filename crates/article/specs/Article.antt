@@ -3,19 +3,33 @@
 use mathlib.Core.Path.{_≡_}
 use mathlib.Core.Bool.{true, false}
 use mathlib.Core.Logic.{_↔_}
-use Prim.Native.Nat.{ℕ, _+_, _*_, _≤_, _<_, min, max}
-use Rattle.lists.specs.Choice.{within}
-use Rattle.holding.specs.Holding.{Ranges, InRange, faultOf, rowOf, holdingOf}
-use Rattle.holding.specs.Numbers.{Numbers}
-use Rattle.article.specs.Rate.{periodOf, rateOf}
-use Rattle.article.specs.RateTable.{RateTable}
-use Rattle.article.specs.Pair.{legOf, allowed, pairRateOf, savingRateOf}
-use Rattle.holding.specs.declared.Side.the-variants.{Long, Short}
+use Prim.Native.Nat.{ℕ, _*_, _≤_, _<_, _+_, min, max}
+use Rattle.article.specs.Rate.{rateOf, periodOf}
 use Rattle.holding.specs.declared.Kind.the-variants.{Bond}
-use Rattle.holding.specs.declared.Issuer.{Issuer}
 use Rattle.holding.specs.declared.Issuer.the-variants.{Canada, Province}
 use Rattle.holding.specs.declared.Holding.{Holding}
+use Rattle.lists.specs.Choice.{within}
+use Rattle.holding.specs.Holding.{Ranges, InRange, faultOf, rowOf, holdingOf, Numbers}
+use Rattle.article.specs.Pair.{legOf, allowed, pairRateOf, savingRateOf}
+use Rattle.holding.specs.declared.Side.the-variants.{Long, Short}
+use Rattle.holding.specs.declared.Issuer.{Issuer}
 use Rattle.holding.specs.declared.Row.{Row}
+
+-- the four rates of a row: Canada bond, Canada strip, province bond, province strip. Strip means coupon or residual, what is no bond
+pub record Rates (h : Holding) (a b c d : ℕ) : Type 0 where
+  pub canada-bond : h .issuer ≡ Canada → h .kind ≡ Bond → rateOf h ≡ a
+  pub canada-strip : h .issuer ≡ Canada → (h .kind ≡ Bond → ⊥) → rateOf h ≡ b
+  pub province-bond : (p : ℕ) → h .issuer ≡ Province p → h .kind ≡ Bond → rateOf h ≡ c
+  pub province-strip : (p : ℕ) → h .issuer ≡ Province p → (h .kind ≡ Bond → ⊥) → rateOf h ≡ d
+
+-- the table, row by row
+pub record RateTable (h : Holding) : Type 0 where
+  pub row-1 : h .days ≤ 365 → Rates h (4 * h .days) (6 * h .days) (8 * h .days) (12 * h .days)
+  pub row-2 : 365 < h .days → h .days ≤ 1095 → Rates h 1460 2190 4380 6570
+  pub row-3 : 1095 < h .days → h .days ≤ 2555 → Rates h 2920 4380 5840 8760
+  pub row-4 : 2555 < h .days → h .days ≤ 4015 → Rates h 5840 8760 7300 10950
+  pub row-5-below : 4015 < h .days → h .days < 7300 → Rates h 5840 8760 7300 10950
+  pub row-5-from : 7300 ≤ h .days → Rates h 5840 17520 7300 21900
 
 -- a row is refused exactly when a number is outside its range; any other makes a record that keeps its numbers
 pub record RowKept (r : Row) : Type 0 where

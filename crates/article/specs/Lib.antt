@@ -1,5 +1,4 @@
 pub mod Answer
 pub mod Rate
 pub mod Pair
-pub mod RateTable
 pub mod Article

@@ -3,7 +3,7 @@ use mathlib.Core.Path.{_≡_, refl, sym, ap, _∙_}
 use mathlib.Core.List.{List, [], _∷_, map, append-nil}
 use Prim.Native.Nat.{ℕ, suc, _+_, _*_, _<_, _^_}
 use native.Mathlib.Omega.{arith}
-use lib.ListN.{length, getD, take, drop, length-map, drop-of-length-le}
+use lib.ListN.{length, getD, take, drop, replicate, length-map, drop-of-length-le}
 use lib.Seq.{drop-nil, drop-cons, take-at}
 use Rattle.lists.specs.Each.{Each}
 use Rattle.lists.specs.Tables.{listTo, front}
@@ -18,7 +18,7 @@ use Rattle.proposal.proofs.PricedBooks.{line-back}
 use Rattle.words.specs.Words.{wordAt, entries, decode, encode}
 use Rattle.words.proofs.Encoded.{length-encode}
 use Rattle.words.proofs.ReadBack.{read-back, decode-encode}
-use Rattle.columns.specs.Columns.{Columns, countIn, numbersAt, rowsIn, linesIn, submission, RowAt, LineAt, column, filledFrom, filled}
+use Rattle.columns.specs.Columns.{Columns, makeColumns, countIn, numbersAt, rowsIn, linesIn, submission, RowAt, LineAt, column, filledFrom, filled}
 use Rattle.columns.proofs.Columns.{row-at, line-at}
 
 -- numbers that eight bytes hold
@@ -34,12 +34,12 @@ pub cut-column : (xs old : List ℕ) → take (8 * length xs) (column xs old) �
 unfolding column front
 cut-column xs old = take-at (encode xs) _ (8 * length xs) (length-encode xs)
 
-bare-column : (xs : List ℕ) → column xs [] ≡ encode xs
+pub bare-column : (xs : List ℕ) → column xs [] ≡ encode xs
 unfolding column front
 bare-column xs = rw drop-nil (append-nil (encode xs))
 
 -- number j of an entry
-abbrev nth : ℕ → List ℕ → ℕ
+abbrev pub nth : ℕ → List ℕ → ℕ
 nth j xs = getD xs j 0
 
 -- the numbers of each entry, from number j on
@@ -53,14 +53,7 @@ module _ (ns : List (List ℕ)) where
       let first = price-read (map (nth j) ns) old each k (omega (arith, length-map ns (nth j))) ∙ getD-map-in (nth j) ns k [] 0 h in
       rw (drop-cons (getD ns k []) j 0 (omega (arith, e))) (λ i. first i ∷ numbers-read fit k h (suc j) olds (omega (arith, e)) i)
 
-  -- cut behind them, the columns are those that held nothing
-  cut-filled : (j : ℕ) (olds : List (List ℕ)) → map (λ c. take (8 * length ns) c) (filledFrom j ns olds) ≡ filledFrom j ns (map (λ c. []) olds)
-  unfolding filledFrom
-  cut-filled j [] = refl
-  cut-filled j (old ∷ olds) =
-      let first : take (8 * length ns) (column (map (nth j) ns) old) ≡ column (map (nth j) ns) [] = rw (length-map ns (nth j)) at (cut-column (map (nth j) ns) old) ∙ sym (bare-column (map (nth j) ns)) in
-      λ i. first i ∷ cut-filled (suc j) olds i
-
+  -- in columns that held nothing there are no others
   count-filled : (olds : List (List ℕ)) → countIn (filledFrom 0 ns ([] ∷ olds)) ≡ length ns
   unfolding countIn entries filledFrom
   count-filled olds = rw (bare-column (map (nth 0) ns)) (omega (arith, length-encode (map (nth 0) ns), length-map ns (nth 0)))
@@ -75,15 +68,12 @@ module _ {A : Type 0} (numbers : A → List ℕ) (by : List ℕ → A) (back : (
       let read = numbers-read (map numbers xs) (each-map Fits numbers xs fit) k (omega (arith, length-map xs numbers)) 0 olds (rw at (omega (arith, many (getD xs k none), e))) in
       sym (back (getD xs k none)) ∙ ap by (sym (read ∙ at))
 
-  -- and so are all
-  entries-read : (olds columns : List (List ℕ)) → length olds ≡ suc m → columns ≡ map (λ c. take (8 * length xs) c) (filledFrom 0 (map numbers xs) olds)
-      → listTo (countIn columns) (λ k. by (numbersAt columns k)) ≡ xs
-  entries-read [] columns e p = absurd (omega (arith, e))
-  entries-read (old ∷ olds) columns e p =
-      let bare : List (List ℕ) = map (λ c. []) (old ∷ olds) in
-      let cut : columns ≡ filledFrom 0 (map numbers xs) bare = p ∙ rw (length-map xs numbers) at (cut-filled (map numbers xs) 0 (old ∷ olds)) in
-      rw (cut, count-filled (map numbers xs) _, length-map xs numbers)
-      (to-eq (length xs) _ _ (λ k h. sym (entry-read k h bare (length-map (old ∷ olds) (λ c. []) ∙ e))) ∙ to-back (length xs) xs none refl)
+  -- and so are all, of columns that held nothing
+  entries-read : (olds : List (List ℕ)) → length ([] ∷ olds) ≡ suc m
+      → listTo (countIn (filledFrom 0 (map numbers xs) ([] ∷ olds))) (λ k. by (numbersAt (filledFrom 0 (map numbers xs) ([] ∷ olds)) k)) ≡ xs
+  entries-read olds e =
+      rw (count-filled (map numbers xs) olds, length-map xs numbers)
+      (to-eq (length xs) _ _ (λ k h. sym (entry-read k h ([] ∷ olds) e)) ∙ to-back (length xs) xs none refl)
 
 five : (r : Row) → length (numbersOf r) ≡ 5
 unfolding numbersOf
@@ -102,23 +92,20 @@ pub lines-read : (lines : List Line) → Each (λ l. Fits (lineNumbers l)) lines
     → LineAt (filledFrom 0 (map lineNumbers lines) columns) k (getD lines k noLine)
 lines-read lines fit k h columns e = line-at _ k _ (entry-read lineNumbers lineBy line-back 2 three noLine lines fit k h columns e)
 
--- what is submitted in numbers that eight bytes hold, and its columns cut behind what was written
+-- what is submitted in numbers that eight bytes hold
 pub record SubmissionFits (s : Submission) : Type 0 where
   pub rows : Each (λ r. Fits (numbersOf r)) (s .rows)
   pub prices : Fits (s .prices)
   pub lines : Each (λ l. Fits (lineNumbers l)) (s .lines)
 
-abbrev pub cut : Submission → Columns → Columns
-cut s c = record {
-  holdings = map (λ bytes. take (8 * length (s .rows)) bytes) (c .holdings);
-  price = take (8 * length (s .prices)) (c .price);
-  lines = map (λ bytes. take (8 * length (s .lines)) bytes) (c .lines);
-}
+-- columns that hold nothing
+abbrev pub bare : Columns
+bare = makeColumns (replicate 5 []) [] (replicate 3 [])
 
-pub submission-filled : (s : Submission) → SubmissionFits s → (old : Columns) → length (old .holdings) ≡ 5 → length (old .lines) ≡ 3 → submission (cut s (filled s old)) ≡ s
+pub submission-filled : (s : Submission) → SubmissionFits s → submission (filled s bare) ≡ s
 unfolding submission rowsIn linesIn filled
-submission-filled s fit old f t =
-    let rows = entries-read numbersOf rowBy row-back 4 five noRow (s .rows) (fit .rows) (old .holdings) _ f refl in
-    let prices : decode (take (8 * length (s .prices)) (column (s .prices) (old .price))) ≡ s .prices = rw (cut-column (s .prices) (old .price)) (decode-encode (s .prices) (fit .prices)) in
-    let lines = entries-read lineNumbers lineBy line-back 2 three noLine (s .lines) (fit .lines) (old .lines) _ t refl in
+submission-filled s fit =
+    let rows = entries-read numbersOf rowBy row-back 4 five noRow (s .rows) (fit .rows) (replicate 4 []) refl in
+    let prices : decode (column (s .prices) []) ≡ s .prices = rw (bare-column (s .prices)) (decode-encode (s .prices) (fit .prices)) in
+    let lines = entries-read lineNumbers lineBy line-back 2 three noLine (s .lines) (fit .lines) (replicate 2 []) refl in
     λ i. record { rows = rows i; prices = prices i; lines = lines i }

@@ -49,6 +49,10 @@ holdingSizes c = map length (c .holdings ++ (c .price ∷ []))
 unfoldable pub lineSizes : Columns → List ℕ
 lineSizes c = map length (c .lines)
 
+-- what the columns are to hold of a submission: an entry for each of its holdings, or of its lines, beside the bytes that are lent
+unfoldable pub listsOf : Submission → Columns → List (ℕ × ℕ)
+listsOf s c = map (λ size. (length (s .rows), size)) (holdingSizes c) ++ map (λ size. (length (s .lines), size)) (lineSizes c)
+
 -- the numbers of a holding, and of a line, are those at an entry of the columns
 pub record RowAt (columns : List (List ℕ)) (k : ℕ) (row : Row) : Type 0 where
   pub side : row .side ≡ wordAt (columnAt columns 0) k

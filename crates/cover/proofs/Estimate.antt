@@ -12,7 +12,7 @@ use Rattle.article.proofs.Legs.{allowed-meets, bonds-no-rule, no-rule}
 use Rattle.article.specs.declared.pair.Rule.{Rule}
 use Rattle.article.specs.declared.pair.Leg.{Leg}
 use Rattle.savings.specs.Savings.{savingOf}
-use Rattle.cover.specs.Shorts.{markOf, OtherClass, Marked, Asks}
+use Rattle.cover.specs.Cover.{markOf, OtherClass, Marked, Asks}
 
 -- what a mark says of its leg
 module _ {l : Leg} {mark rate : ℕ} (m : Marked l mark rate) where

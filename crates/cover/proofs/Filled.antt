@@ -13,11 +13,9 @@ use Rattle.lists.proofs.Tests.{same-or-not}
 use Rattle.words.specs.Words.{wordAt}
 use Rattle.article.specs.Pair.{isShort, isLong, allowed, rateLimit, RateInRange}
 use Rattle.article.specs.declared.pair.Leg.{Leg}
-use Rattle.packed.specs.Packed.{legIn}
-use Rattle.packed.specs.Held.{legAt, AtMost, entry}
+use Rattle.packed.specs.Packed.{legIn, legAt, AtMost, entry}
 use Rattle.savings.specs.Savings.{savingOf}
-use Rattle.cover.specs.Cover.{PairCovered, Priced}
-use Rattle.cover.specs.Shorts.{markOf, Marked, Covered, RowCovered, Places, Shorts}
+use Rattle.cover.specs.Cover.{PairCovered, Priced, markOf, Marked, Covered, RowCovered, Places, Shorts}
 use Rattle.cover.proofs.Estimate.{two-bonds}
 
 -- a holding that is not short saves nothing as the short

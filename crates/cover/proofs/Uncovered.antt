@@ -17,7 +17,7 @@ use Rattle.savings.specs.Savings.{savingOf}
 use Rattle.proposal.proofs.PricedBooks.{saving-rate}
 use Rattle.proposal.specs.Submission.{PricedBook}
 use Rattle.proposal.specs.Outcome.{makeFault, faultAnswer, uncovered, atPair, atLong, uncoveredPairs}
-use Rattle.packed.specs.Held.{legAt, LegsOf, Same}
+use Rattle.packed.specs.Packed.{legAt, LegsOf, Same}
 use Rattle.cover.specs.Cover.{PairCovered, FirstOpen, Finds}
 
 -- a pair is uncovered where its two prices add up to less than its legs save

@@ -5,9 +5,8 @@ ghost use mathlib.Core.Path.{_≡_};
 ghost use mathlib.Core.Bool.{false};
 ghost use Prim.Native.Nat.{_-_, _*_, _≤_, _<_, min};
 ghost use Rattle.article.specs.Pair.{rateLimit};
-ghost use Rattle.packed.specs.Held.{AtMost, entry};
-ghost use Rattle.cover.specs.Cover.{Priced, FirstOpen, Finds, Valued, Totals};
-ghost use Rattle.cover.specs.Shorts.{markOf, markLimit, OtherClass, Asks, Covered, RowCovered, Places, Shorts};
+ghost use Rattle.packed.specs.Packed.{AtMost, entry};
+ghost use Rattle.cover.specs.Cover.{Priced, FirstOpen, Finds, Valued, Totals, markOf, markLimit, OtherClass, Asks, Covered, RowCovered, Places, Shorts};
 
 // What a pair asks of a leg beside its side, kind and rate, as one small number: its period and its class, 0 for Canada and 1 for any other.
 fn mark_of(leg: Leg) -> u16

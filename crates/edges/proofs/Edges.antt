@@ -1,4 +1,4 @@
--- Every case of the table agrees: one test, computed from the definitions over each group. Assumes nothing.
+-- Document 01's worked cases in one table, and that each agrees: one test, computed from the definitions over each group. Assumes nothing.
 use mathlib.Core.Path.{_≡_, refl, ap}
 use mathlib.Core.Bool.{Bool, true, false, cond}
 use mathlib.Core.List.{List, [], _∷_, map, flatMap}
@@ -9,7 +9,7 @@ use Rattle.lists.specs.Choice.{within, firstOf, some, count, same}
 use Rattle.lists.specs.Each.{Each}
 use Rattle.lists.specs.Order.{insert, ordered}
 use Rattle.lists.specs.Sums.{sumTo, sumOf, only}
-use Rattle.lists.specs.Tables.{listTo, turns, inTurn, front}
+use Rattle.lists.specs.Tables.{listTo, turns, inTurn, front, zeros}
 use Rattle.lists.proofs.Entries.{each-so, same-true}
 use Rattle.words.specs.Words.{number, littleEndian, wordAt, entries, decode, encode}
 use Rattle.holding.specs.Holding as row
@@ -28,20 +28,24 @@ use Rattle.csv.specs.Bytes.{isText, isQuotable}
 use Rattle.csv.specs.Reading.{part, textFrom, textEnd, closeFrom, closeAt, followedBy, followed, begins, opens, enclosed, fieldAt, fieldsFrom, recordAt, recordsFrom, recordsAt, recordsOf}
 use Rattle.layout.specs.Sorts.{valueOf}
 use Rattle.layout.specs.Layout.{valuesOf, parsedOf, parse}
-use Rattle.reader.specs.File.{parsedIn, parsedRows, parsedPrices, parsedLines, submissionOf, atRecord, fileFaults, fileFault, readAnswer}
-use Rattle.columns.specs.Columns.{countIn, numbersAt, rowsIn, linesIn, submission, column, filledFrom, filled}
+use Rattle.reader.specs.File.{parsedIn, valuesBy, submissionOf, atRecord, fileFaults, fileFault, readAnswer}
+use Rattle.columns.specs.Columns.{countIn, numbersAt, rowsIn, linesIn, submission, holdingSizes, lineSizes, listsOf, column, filledFrom, filled}
 use Rattle.sizes.specs.Sizes.{entriesOf, unequal, differ, tooShort, lengthFault}
-use Rattle.lent.specs.Lists.{answered}
+use Rattle.lent.specs.Boundary.{answered}
+use Rattle.lent.specs.Boundary.{writtenLists, two}
 use Rattle.report.specs.Report.{afterComma, lineOf, answerNumbers, refusalLine, marginLine, remainderLine, printedLines, bookLine, printedOf}
 use Rattle.printing.specs.Printed.{fileAnswer, printed}
-use Rattle.edges.specs.Cases.{Case, Agrees, failing, alone, together, judged, worked}
-use Rattle.edges.specs.Starred.{starred, starredFile}
-use Rattle.edges.specs.Others.{single, thirdPrice, firstPrice, firstAmount, tooLong, files, recordFaults, tooMany, texts, lending, proposals, refusals}
-use Rattle.edges.specs.Edges.{table}
+use Rattle.edges.proofs.Cases.{Case, Agrees, failing, alone, together, judged, worked}
+use Rattle.edges.proofs.Starred.{starred, starredFile}
+use Rattle.edges.proofs.Others.{single, thirdPrice, firstPrice, firstAmount, tooLong, files, recordFaults, tooMany, texts, lending, proposals, refusals}
+
+-- the table, the starred cases first. A group is as large as the prover computes when it names a case that fails
+abbrev pub table : List (List Case)
+table = starred ∷ starredFile ∷ single ∷ thirdPrice ∷ firstPrice ∷ firstAmount ∷ tooLong ∷ files ∷ recordFaults ∷ tooMany ∷ texts ∷ lending ∷ proposals ∷ refusals ∷ []
 
 -- no case of any group fails; where this is refused, the message names those that do
 none-fails : Each (λ cs. failing cs ≡ []) table
-unfolding starred starredFile single thirdPrice firstPrice firstAmount tooLong files recordFaults tooMany texts lending proposals refusals failing alone together judged worked within firstOf some count same insert ordered sumTo sumOf only listTo turns inTurn front entriesOf unequal differ tooShort lengthFault countIn numbersAt rowsIn linesIn submission column filledFrom filled row.numbersOf lineNumbers answered readAnswer identityFaults termFaults worthFaults rowFaults faultOf holdingOf sideOf kindOf issuerOf rowOf longerThan atLeast periodOf percents flatRate bondRate stripRate kindRate rateAt rateOf legOf isLong isShort isBond isStrip isCanada isProvince kindsPair sameClass mixedClass classRule ruleOf ruleRate allowed pairRateOf savingRateOf pairOf used theory.savingRate saving pairUnits pricedTotal ranksBefore rankingOf bookOf termsOf priced remainder margin unitsOf remaindersOf ranked centsOf atPlace holdingFaults pairFaults lineFaults atHolding bookFaults atLine linesFaults uncovered atPair atLong uncoveredPairs totalsDiffer totalsFaults sizeFaults faults accepted outcome lead digits valueFrom numeralOf placeFrom placeOf isText isQuotable part textFrom textEnd closeFrom closeAt followedBy followed begins opens enclosed fieldAt fieldsFrom recordAt recordsFrom recordsAt recordsOf valueOf valuesOf parsedOf parse parsedIn parsedRows parsedPrices parsedLines submissionOf atRecord fileFaults fileFault afterComma lineOf answerNumbers refusalLine marginLine remainderLine printedLines bookLine printedOf fileAnswer printed flatMap number littleEndian wordAt entries decode encode
+unfolding starred starredFile single thirdPrice firstPrice firstAmount tooLong files recordFaults tooMany texts lending proposals refusals failing alone together judged worked within firstOf some count same insert ordered sumTo sumOf only listTo turns inTurn front zeros holdingSizes lineSizes listsOf writtenLists two entriesOf unequal differ tooShort lengthFault countIn numbersAt rowsIn linesIn submission column filledFrom filled row.numbersOf lineNumbers answered readAnswer identityFaults termFaults worthFaults rowFaults faultOf holdingOf sideOf kindOf issuerOf rowOf longerThan atLeast periodOf percents flatRate bondRate stripRate kindRate rateAt rateOf legOf isLong isShort isBond isStrip isCanada isProvince kindsPair sameClass mixedClass classRule ruleOf ruleRate allowed pairRateOf savingRateOf pairOf used theory.savingRate saving pairUnits pricedTotal ranksBefore rankingOf bookOf termsOf priced remainder margin unitsOf remaindersOf ranked centsOf atPlace holdingFaults pairFaults lineFaults atHolding bookFaults atLine linesFaults uncovered atPair atLong uncoveredPairs totalsDiffer totalsFaults sizeFaults faults accepted outcome lead digits valueFrom numeralOf placeFrom placeOf isText isQuotable part textFrom textEnd closeFrom closeAt followedBy followed begins opens enclosed fieldAt fieldsFrom recordAt recordsFrom recordsAt recordsOf valueOf valuesOf parsedOf parse parsedIn valuesBy submissionOf atRecord fileFaults fileFault afterComma lineOf answerNumbers refusalLine marginLine remainderLine printedLines bookLine printedOf fileAnswer printed flatMap number littleEndian wordAt entries decode encode
 none-fails = (refl, (refl, (refl, (refl, (refl, (refl, (refl, (refl, (refl, (refl, (refl, (refl, (refl, (refl, tt))))))))))))))
 
 -- cases of which none fails agree

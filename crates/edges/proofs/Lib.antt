@@ -1,1 +1,4 @@
+pub mod Cases
+pub mod Starred
+pub mod Others
 pub mod Edges

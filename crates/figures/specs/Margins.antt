@@ -7,7 +7,7 @@ use Rattle.lists.specs.Sums.{sumTo}
 use Rattle.lists.specs.Tables.{listTo, front}
 use Rattle.holding.specs.Holding.{valueLimit}
 use Rattle.proposal.specs.Figures.{marginLimit}
-use Rattle.packed.specs.Held.{legAt, Legs, AtMost, entry}
+use Rattle.packed.specs.Packed.{legAt, Legs, AtMost, entry}
 
 -- legs and what is left of n holdings, within the limits, and room for their margins
 pub record MarginsLent (n : ℕ) (legs left margins : List ℕ) : Type 0 where

@@ -1,7 +1,6 @@
 -- A record has the numbers of its cases. Assumes nothing.
 use mathlib.Core.Path.{refl, ap, _∙_}
-use Rattle.holding.specs.Holding.{sideNumber, kindNumber, issuerNumber, rowOf}
-use Rattle.holding.specs.Numbers.{Numbers}
+use Rattle.holding.specs.Holding.{sideNumber, kindNumber, issuerNumber, rowOf, Numbers}
 use Rattle.holding.specs.declared.Holding.{Holding}
 
 pub numbers : (h : Holding) → Numbers h

@@ -1,4 +1,4 @@
--- From the parts to what the exported reader promises: refused by a record, by a list that is too short, and read. Assumes nothing.
+-- From what was read of a text to what is promised of what is lent. Assumes nothing.
 use mathlib.Core.Path.{_≡_, refl, sym, ap, _∙_}
 use mathlib.Core.Logic.{_↔_, _≢_}
 use mathlib.Core.Bool.{Bool, true, false, cond}
@@ -6,32 +6,30 @@ use mathlib.Core.List.{List, [], _∷_, _++_, map}
 use Prim.Native.Nat.{ℕ, suc, _*_, _/_, _≤_}
 use native.Mathlib.Omega.{arith}
 use lib.Dec.{eqb}
-use lib.ListN.{length}
+use lib.ListN.{length, getD, take, length-map, length-append}
 use borrow.Author.Tests.{ne-eqb}
-use Rattle.lists.specs.Choice.{firstOf}
 use Rattle.lists.specs.Each.{Each}
 use Rattle.lists.specs.Tables.{front}
-use Rattle.lists.proofs.Tables.{length-to}
-use Rattle.lists.proofs.Tests.{same-or-not}
-use Rattle.lists.proofs.Firsts.{first-append, first-refused, first-of-none}
+use Rattle.lists.proofs.Entries.{each-so, each-parts, each-back}
 use Rattle.article.specs.Answer.{Answer, makeAnswer}
-use Rattle.proposal.specs.Submission.{Submission, lineNumbers, rowsOf, linesOf, submitted}
+use Rattle.proposal.specs.Submission.{Submission, lineNumbers, lineBy}
 use Rattle.proposal.proofs.Clear.{number}
-use Rattle.holding.specs.Holding.{numbersOf}
+use Rattle.holding.specs.Holding.{numbersOf, rowBy}
 use Rattle.words.specs.Words.{encode}
-use Rattle.columns.specs.Columns.{Columns, makeColumns, holdingSizes, lineSizes, column, filledFrom, filled, BookRoom, LinesRoom, BookWritten}
+use Rattle.columns.specs.Columns.{Columns, makeColumns, holdingSizes, lineSizes, listsOf, column, filledFrom, filled, copied, CopyRoom}
+use Rattle.columns.proofs.Tables.{pricesOf, entered-copied, values-filled, line-values-filled}
 use Rattle.columns.proofs.ReadBack.{price-read, rows-read, lines-read}
 use Rattle.sizes.specs.Sizes.{Room, tooShort}
 use Rattle.sizes.proofs.Sizes.{room-exactly}
-use Rattle.lent.specs.Lists.{Answers}
-use Rattle.reader.specs.File.{submissionOf, submissionIn, fileFaults, fileFault, readAnswer}
-use Rattle.reader.specs.ReadsFile.{ReadsFile, nothing}
+use Rattle.lent.specs.Boundary.{Answers}
+use Rattle.reader.specs.File.{parsedIn, valuesBy, submissionOf, submissionIn, TableRoom, ReadsFile}
 use Rattle.reader.specs.declared.Contents.{Contents}
+use Rattle.reader.specs.declared.Contents.the-variants.{Read, Refused}
 use Rattle.readable.specs.Readable.{Submits}
-use Rattle.readable.proofs.Numbers.{none-exactly}
+use Rattle.readable.proofs.Answered.{answer-refused, answer-none, answer-exactly, contents-refused, was-read, no-fault, holdings-counted, lines-counted, holdings-held, lines-held, few-holdings, few-lines}
 use Rattle.readable.proofs.Exactly.{read-exactly}
-use Rattle.readable.proofs.Fitting.{holdings-fit, lines-fit}
-use Rattle.host.specs.Reading.{listsOf, readingAnswer, filling, Reads}
+use Rattle.readable.proofs.Fitting.{file-fits}
+use Rattle.host.specs.Reading.{nothing, readingAnswer, filling, Reads}
 
 -- nothing goes into the columns
 none-from : (j : ℕ) (columns : List (List ℕ)) → columns ≡ filledFrom j [] columns
@@ -43,45 +41,22 @@ none-filled : (c : Columns) → c ≡ filled nothing c
 unfolding filled column front encode
 none-filled c = λ i. makeColumns (none-from 0 (c .holdings) i) (c .price) (none-from 0 (c .lines) i)
 
--- what holds of every entry of two lists, and lists that hold so many numbers
-both-parts : {A : Type 0} (P : A → Type 0) (xs ys : List A) → Each P (xs ++ ys) → Each P xs × Each P ys
-both-parts P [] ys h = (tt, h)
-both-parts P (x ∷ xs) ys h =
-    let (first, second) = both-parts P xs ys (h .1) in
-    ((h .0, first), second)
+-- a list that is to hold n numbers, with its length, and one that does
+abbrev Holds : ℕ × ℕ → Type 0
+Holds list = list .0 ≤ list .1 / 8
 
-with-room : (n : ℕ) (columns : List (List ℕ)) → Each (λ (list : ℕ × ℕ). list .0 ≤ list .1 / 8) (map (λ (size : ℕ). (n, size)) (map length columns)) → Each (λ c. 8 * n ≤ length c) columns
-with-room n [] h = tt
-with-room n (c ∷ cs) h = (omega (arith, h .0), with-room n cs (h .1))
+with-room : (n : ℕ) (lists : List (List ℕ)) → Each Holds (map (λ (size : ℕ). (n, size)) (map length lists)) → Each (λ c. 8 * n ≤ length c) lists
+with-room n lists h =
+    each-so (λ (c : List ℕ). Holds (n, length c)) (λ c. 8 * n ≤ length c) (λ c l. omega arith) lists
+    (each-back (λ (size : ℕ). Holds (n, size)) length lists (each-back Holds (λ (size : ℕ). (n, size)) (map length lists) h))
 
--- what the reader answers by the refusals of the file and by the lengths of the lists
-module _ (text : List ℕ) (two : Bool) where
-  counts : Answer
-  counts = makeAnswer 0 (length (submissionIn text .rows)) (length (submissionIn text .lines))
-
-  answer-refused : fileFault text .number ≢ 0 → readAnswer two text ≡ fileFault text
-  unfolding readAnswer fileFault
-  answer-refused h =
-      first-append (fileFaults text) ((two, makeAnswer 2 0 0) ∷ []) _
-      ∙ first-refused number (fileFaults text) (makeAnswer 0 0 0) _ refl h
-
-  answer-none : fileFault text .number ≡ 0 → readAnswer two text ≡ cond two (makeAnswer 2 0 0) counts
-  unfolding readAnswer firstOf submissionOf counts
-  answer-none e = first-append (fileFaults text) ((two, makeAnswer 2 0 0) ∷ []) _ ∙ first-of-none (fileFaults text) _ (none-exactly text .0 e)
-
-  answer-exactly : (readAnswer two text .number ≡ 0) ↔ ((fileFault text .number ≡ 0) × (two ≡ false))
-  unfolding counts
-  answer-exactly = (
-    λ e.
-        same-or-not (fileFault text .number) 0
-        (λ z. (z, by two (sym (ap number (answer-none z)) ∙ e)))
-        (λ z. absurd (z (sym (ap number (answer-refused z)) ∙ e))),
-    λ h. ap number (answer-none (h .0)) ∙ rw (h .1),
-  )
-    where
-      by : (t : Bool) → number (cond t (makeAnswer 2 0 0) counts) ≡ 0 → t ≡ false
-      by true e = absurd (omega arith)
-      by false e = refl
+-- lists that were filled with values of holdings are five columns and the prices
+book-filled : (hs : List (List ℕ)) {s k i d v p s′ k′ i′ d′ v′ p′ : List ℕ} → (s′ ∷ k′ ∷ i′ ∷ d′ ∷ v′ ∷ p′ ∷ []) ≡ filledFrom 0 hs (s ∷ k ∷ i ∷ d ∷ v ∷ p ∷ [])
+    → ((s′ ∷ k′ ∷ i′ ∷ d′ ∷ v′ ∷ []) ≡ filledFrom 0 (map numbersOf (map rowBy hs)) (s ∷ k ∷ i ∷ d ∷ v ∷ [])) × (p′ ≡ column (pricesOf hs) p)
+unfolding filledFrom
+book-filled hs {s} {k} {i} {d} {v} {p} e =
+    let both = e ∙ values-filled hs (s ∷ k ∷ i ∷ d ∷ v ∷ []) p refl in
+    (ap (take 5) both, ap (λ (l : List (List ℕ)). getD l 5 []) both)
 
 -- a text, and what is lent
 module _ (text : List ℕ) (before : Columns) (out : List ℕ) where
@@ -119,76 +94,83 @@ module _ (text : List ℕ) (before : Columns) (out : List ℕ) where
         only = read-exactly text .only;
       }
 
-  module _ {d : Contents} (from-file : ReadsFile text d) where
-    pub record-refused : (out′ : List ℕ) (r : ℕ) → d .number ≢ 0 → Answers (makeAnswer (d .number) (d .place) 0) out out′ r → Reads text before before out out′ r
+  module _ {rows : ℕ} {book lines book′ lines′ : List ℕ} {d : Contents} (from-file : ReadsFile text rows book lines book′ lines′ d) where
+    pub record-refused : {n place : ℕ} (out′ : List ℕ) (r : ℕ) → d ≡ Refused n place → Answers (makeAnswer n place 0) out out′ r → Reads text before before out out′ r
     unfolding readingAnswer
-    record-refused out′ r h t =
-        let fault : fileFault text .number ≢ 0 = λ z. h (ap number (from-file .fault) ∙ z) in
-        refused (makeAnswer (d .number) (d .place) 0) out′ r (answer-refused text short fault ∙ sym (from-file .fault)) h t
+    record-refused {n} {place} out′ r e t =
+        let (other, fault) = contents-refused from-file e in
+        refused (makeAnswer n place 0) out′ r (answer-refused text short (λ z. other (sym (ap number fault) ∙ z)) ∙ fault) other t
 
-    -- nothing is refused: what was read is what is submitted
-    module _ (z : d .number ≡ 0) where
-      no-fault : fileFault text .number ≡ 0
-      no-fault = sym (ap number (from-file .fault)) ∙ z
-
-      read : submitted (d .book) (d .proposal) ≡ s
-      read = from-file .submits ∙ rw z
-
-      pub holdings : length (s .rows) ≡ d .book .count
-      unfolding submitted rowsOf
-      holdings = sym (ap (λ (x : Submission). length (x .rows)) read) ∙ length-to (d .book .count) _
-
-      pub pairs : length (s .lines) ≡ d .proposal .count
-      unfolding submitted linesOf
-      pairs = sym (ap (λ (x : Submission). length (x .lines)) read) ∙ length-to (d .proposal .count) _
-
+    -- nothing is refused
+    module _ {n m : ℕ} (e : d ≡ Read n m) where
       -- the lists are measured for what the text submits
-      pub measured : {two : Bool} → two ≡ tooShort (map (λ size. (d .book .count, size)) (holdingSizes before) ++ map (λ size. (d .proposal .count, size)) (lineSizes before)) (length out)
-          → two ≡ short
+      pub measured : {two : Bool} → two ≡ tooShort (map (λ size. (n, size)) (holdingSizes before) ++ map (λ size. (m, size)) (lineSizes before)) (length out) → two ≡ short
       unfolding listsOf
-      measured e = e ∙ rw (← holdings, ← pairs)
+      measured t = t ∙ rw (← holdings-counted from-file e, ← lines-counted from-file e)
 
       module _ {two : Bool} (same : two ≡ short) where
         pub list-refused : (out′ : List ℕ) (r : ℕ) → two ≡ true → Answers (makeAnswer 2 0 0) out out′ r → Reads text before before out out′ r
         unfolding readingAnswer
-        list-refused out′ r e answered =
-            refused (makeAnswer 2 0 0) out′ r (answer-none text short no-fault ∙ rw (sym same ∙ e)) (λ w. omega arith) answered
+        list-refused out′ r t answered =
+            refused (makeAnswer 2 0 0) out′ r (answer-none text short (no-fault from-file e) ∙ rw (sym same ∙ t)) (λ w. omega arith) answered
 
         -- each list then has room for its numbers
-        module _ (e : two ≡ false) where
-          each-list : Each (λ (c : List ℕ). 8 * d .book .count ≤ length c) (before .holdings ++ (before .price ∷ [])) × Each (λ (c : List ℕ). 8 * d .proposal .count ≤ length c) (before .lines)
+        module _ (fits : two ≡ false) (room : TableRoom rows text book lines) where
+          each-list : Each (λ (c : List ℕ). 8 * n ≤ length c) (before .holdings ++ (before .price ∷ [])) × Each (λ (c : List ℕ). 8 * m ≤ length c) (before .lines)
           unfolding listsOf holdingSizes lineSizes
           each-list =
-              let (book, lines) = both-parts (λ (list : ℕ × ℕ). list .0 ≤ list .1 / 8) (map (λ size. (length (s .rows), size)) (holdingSizes before)) (map (λ size. (length (s .lines), size)) (lineSizes before)) (room-exactly (listsOf s before) (length out) .0 (sym same ∙ e) .each) in
-              (rw (← holdings) (with-room _ (before .holdings ++ (before .price ∷ [])) book), rw (← pairs) (with-room _ (before .lines) lines))
+              let (book, lines) = each-parts Holds (map (λ size. (length (s .rows), size)) (holdingSizes before)) (map (λ size. (length (s .lines), size)) (lineSizes before))
+              (room-exactly (listsOf s before) (length out) .0 (sym same ∙ fits) .each) in
+              (rw (← holdings-counted from-file e) (with-room _ (before .holdings ++ (before .price ∷ [])) book), rw (← lines-counted from-file e) (with-room _ (before .lines) lines))
 
-          pub book-room : BookRoom (d .book .count) (before .holdings) (before .price)
-          book-room =
-              let (columns, last) = both-parts (λ (c : List ℕ). 8 * d .book .count ≤ length c) (before .holdings) (before .price ∷ []) (each-list .0) in
-              record { few = from-file .few-holdings; each = columns; prices = last .0 }
+          many : (old : List ℕ) (xs : List (List ℕ)) → length xs ≡ 5 → length (xs ++ (old ∷ [])) ≡ 6
+          many old xs f = length-append xs (old ∷ []) ∙ omega (arith, f)
 
-          pub lines-room : LinesRoom (d .proposal .count) (before .lines)
-          lines-room = record { few = from-file .few-lines; each = each-list .1 }
+          pub book-room : length (before .holdings) ≡ 5 → CopyRoom rows n book′ (before .holdings ++ (before .price ∷ []))
+          book-room five = record {
+            few = few-holdings from-file e;
+            whole = from-file .each-holding (was-read from-file e) .long ∙ room .whole-book ∙ rw (many (before .price) (before .holdings) five);
+            each = each-list .0;
+          }
 
-        pub all-read : (holdings′ : List (List ℕ)) (price′ : List ℕ) (lines′ : List (List ℕ)) (out′ : List ℕ) (r : ℕ) → length (before .holdings) ≡ 5 → length (before .lines) ≡ 3 → two ≡ false
-            → BookWritten (d .book) (d .proposal) (before .holdings) (before .price) holdings′ price′ → lines′ ≡ filledFrom 0 (map lineNumbers (linesOf (d .proposal))) (before .lines)
-            → Answers (makeAnswer 0 (d .book .count) (d .proposal .count)) out out′ r → Reads text before (makeColumns holdings′ price′ lines′) out out′ r
-        unfolding readingAnswer submitted counts filled
-        all-read holdings′ price′ lines′ out′ r five three e b l answered =
-            let whole : readingAnswer text before out ≡ makeAnswer 0 (d .book .count) (d .proposal .count) = answer-none text short no-fault ∙ rw (sym same ∙ e, ← holdings, ← pairs) in
-            let zero : filling text before out ≡ s = filling-by {t = true} (rw whole) in
-            let rows : holdings′ ≡ filledFrom 0 (map numbersOf (s .rows)) (before .holdings) = b .rows ∙ ap (λ (x : Submission). filledFrom 0 (map numbersOf (x .rows)) (before .holdings)) read in
-            let prices : price′ ≡ column (s .prices) (before .price) = b .prices ∙ ap (λ (x : Submission). column (x .prices) (before .price)) read in
-            let lines : lines′ ≡ filledFrom 0 (map lineNumbers (s .lines)) (before .lines) = l ∙ ap (λ (x : Submission). filledFrom 0 (map lineNumbers (x .lines)) (before .lines)) read in
-            let file = read-exactly text .read .0 no-fault in
-            let fit = holdings-fit (file .each-holding) in
-            record {
-              returned = rw whole answered;
-              columns = rw zero (λ i. makeColumns (rows i) (prices i) (lines i));
-              untouched = λ h. absurd (h (answered .number));
-              holding = λ _ k h. rw rows (rows-read (s .rows) (fit .each-row) k h (before .holdings) five);
-              price = λ _ k h. rw prices (price-read (s .prices) (before .price) (fit .each-price) k (omega (arith, fit .as-many)));
-              line = λ _ k h. rw lines (lines-read (s .lines) (lines-fit (file .each-line)) k h (before .lines) three);
-              exactly = rw (answered .number ∙ sym (ap number whole)) read-when;
-              only = read-exactly text .only;
-            }
+          pub lines-room : length (before .lines) ≡ 3 → CopyRoom rows m lines′ (before .lines)
+          lines-room three = record {
+            few = few-lines from-file e;
+            whole = from-file .each-line (was-read from-file e) .long ∙ room .whole-lines ∙ rw three;
+            each = each-list .1;
+          }
+
+      -- copied, the tables are what is submitted
+      pub book-copied : {s k i d v p s′ k′ i′ d′ v′ p′ : List ℕ} → (s′ ∷ k′ ∷ i′ ∷ d′ ∷ v′ ∷ p′ ∷ []) ≡ copied rows n book′ 0 (s ∷ k ∷ i ∷ d ∷ v ∷ p ∷ [])
+          → ((s′ ∷ k′ ∷ i′ ∷ d′ ∷ v′ ∷ []) ≡ filledFrom 0 (map numbersOf (submissionIn text .rows)) (s ∷ k ∷ i ∷ d ∷ v ∷ [])) × (p′ ≡ column (submissionIn text .prices) p)
+      unfolding submissionOf
+      book-copied c =
+          book-filled (valuesBy 0 (parsedIn text)) (c ∙ entered-copied (from-file .each-holding (was-read from-file e)) (holdings-held from-file e) (few-holdings from-file e) 0 _ (omega arith))
+
+      pub lines-copied : {l s a l′ s′ a′ : List ℕ} → (l′ ∷ s′ ∷ a′ ∷ []) ≡ copied rows m lines′ 0 (l ∷ s ∷ a ∷ [])
+          → (l′ ∷ s′ ∷ a′ ∷ []) ≡ filledFrom 0 (map lineNumbers (submissionIn text .lines)) (l ∷ s ∷ a ∷ [])
+      unfolding submissionOf
+      lines-copied {l} {s} {a} c =
+          c ∙ entered-copied (from-file .each-line (was-read from-file e)) (lines-held from-file e) (few-lines from-file e) 0 _ (omega arith) ∙ line-values-filled (valuesBy 1 (parsedIn text)) (l ∷ s ∷ a ∷ []) refl
+
+      pub all-read : {two : Bool} {holdings′ lines′ : List (List ℕ)} {price′ : List ℕ} (out′ : List ℕ) (r : ℕ) → two ≡ short → two ≡ false
+          → length (before .holdings) ≡ 5 → length (before .lines) ≡ 3
+          → (holdings′ ≡ filledFrom 0 (map numbersOf (s .rows)) (before .holdings)) × (price′ ≡ column (s .prices) (before .price))
+          → lines′ ≡ filledFrom 0 (map lineNumbers (s .lines)) (before .lines)
+          → Answers (makeAnswer 0 n m) out out′ r → Reads text before (makeColumns holdings′ price′ lines′) out out′ r
+      unfolding readingAnswer filled
+      all-read out′ r same fits five three (held-in, prices-in) lined-in answered =
+          let whole : readingAnswer text before out ≡ makeAnswer 0 n m = answer-none text short (no-fault from-file e) ∙ rw (sym same ∙ fits, holdings-counted from-file e, lines-counted from-file e) in
+          let zero : filling text before out ≡ s = filling-by {t = true} (rw whole) in
+          let fit = file-fits text (no-fault from-file e) in
+          let as-many : length (s .prices) ≡ length (s .rows) = unfold submissionOf in rw (length-map, length-map) in
+          record {
+            returned = rw whole answered;
+            columns = rw zero (λ i. makeColumns (held-in i) (prices-in i) (lined-in i));
+            untouched = λ h. absurd (h (answered .number));
+            holding = λ _ k h. rw held-in (rows-read (s .rows) (fit .rows) k h (before .holdings) five);
+            price = λ _ k h. rw prices-in (price-read (s .prices) (before .price) (fit .prices) k (omega (arith, as-many)));
+            line = λ _ k h. rw lined-in (lines-read (s .lines) (fit .lines) k h (before .lines) three);
+            exactly = rw (answered .number ∙ sym (ap number whole)) read-when;
+            only = read-exactly text .only;
+          }

@@ -3,22 +3,18 @@
 use mathlib.Core.Path.{_≡_}
 use mathlib.Core.Logic.{_↔_}
 use mathlib.Core.Bool.{cond}
-use mathlib.Core.List.{List, [], _++_, map}
+use mathlib.Core.List.{List, []}
 use Prim.Native.Nat.{ℕ, _<_}
 use lib.Dec.{eqb}
 use lib.ListN.{length, getD}
 use Rattle.article.specs.Answer.{Answer}
 use Rattle.proposal.specs.Submission.{Submission, noRow, noLine}
 use Rattle.words.specs.Words.{wordAt}
-use Rattle.columns.specs.Columns.{Columns, holdingSizes, lineSizes, filled, RowAt, LineAt}
+use Rattle.columns.specs.Columns.{Columns, listsOf, filled, RowAt, LineAt}
 use Rattle.sizes.specs.Sizes.{Room, tooShort}
-use Rattle.lent.specs.Lists.{Answers}
+use Rattle.lent.specs.Boundary.{Answers}
 use Rattle.reader.specs.File.{submissionIn, readAnswer}
 use Rattle.readable.specs.Readable.{Submits}
-
--- the lists that the reader writes to: an entry for each holding that the file has, or each line, with the bytes that are lent
-unfoldable pub listsOf : Submission → Columns → List (ℕ × ℕ)
-listsOf s c = map (λ size. (length (s .rows), size)) (holdingSizes c) ++ map (λ size. (length (s .lines), size)) (lineSizes c)
 
 -- what the reader answers: the first refusal in its order, or 0 with the number of holdings and of lines
 unfoldable pub readingAnswer : List ℕ → Columns → List ℕ → Answer

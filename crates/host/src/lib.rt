@@ -2,7 +2,7 @@
 use reader::Contents;
 ghost use mathlib.Core.List.{[], _∷_};
 ghost use Rattle.columns.specs.Columns.{makeColumns};
-ghost use Rattle.lent.specs.Lists.{makeLent};
+ghost use Rattle.lent.specs.Boundary.{makeLent};
 ghost use Rattle.lent.specs.Boundary.{Checks};
 ghost use Rattle.reader.specs.File.{TableRoom};
 ghost use Rattle.host.specs.Reading.{Reads};

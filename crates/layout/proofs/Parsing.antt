@@ -1,65 +1,75 @@
 -- What a record that was looked at is parsed as, by the tests on its fields. Assumes nothing.
-use mathlib.Core.Path.{_≡_, refl, sym, ap, _∙_}
-use mathlib.Core.Bool.{true, false, false≢true}
-use mathlib.Core.List.{List, [], _∷_, map}
+use mathlib.Core.Path.{_≡_, refl, sym, _∙_}
+use mathlib.Core.Bool.{Bool, true, false, cond}
+use mathlib.Core.List.{List, [], _∷_}
 use Prim.Native.Nat.{ℕ}
 use native.Mathlib.Omega.{arith}
-use lib.ListN.{length, getD, drop, List·getD-map, length-map}
+use lib.ListN.{length, getD, drop, length-map}
 use borrow.Author.Tests.{eq-eqb, ne-eqb}
-use Rattle.csv.specs.Reading.{part, span, Split, fields, malformed, fieldsOf}
-use Rattle.csv.specs.declared.Fields.{Fields}
-use Rattle.csv.specs.declared.Span.{Span}
+use Rattle.csv.specs.Reading.{part, recordAt, fieldCount, Scans, textsIn, HandsBack, Read, formed}
+use Rattle.csv.specs.declared.Scanned.{Scanned}
+use Rattle.csv.specs.declared.Scanned.the-variants.{Fields, Malformed}
+use Rattle.csv.proofs.Places.{scanned-fields, scanned-malformed, all-texts}
 use Rattle.codes.specs.Codes.{placeOf}
+use Rattle.codes.specs.declared.Place.{Place}
 use Rattle.codes.specs.declared.Place.the-variants.{At, Nowhere}
-use Rattle.layout.specs.Layout.{letters, sortsBy, Values, values, wrong, valuesOf, parsedBy, parsedIf, afterLetter, parsedOf, parse, cellsOf, entry, readOf}
-use Rattle.layout.specs.declared.Parsed.{Parsed}
-use Rattle.layout.specs.declared.Parsed.the-variants.{Refused}
-use Rattle.layout.specs.declared.Cells.{Cells}
-use Rattle.layout.specs.declared.Entry.{Entry}
+use Rattle.layout.specs.Layout.{letters, sortsBy, Values, values, wrong, valuesOf, good, refused, meant, afterLetter, parsedOf, parse, readOf, nextOf, Found, entry, EntryAt}
+use Rattle.layout.specs.declared.Parsed.the-variants.{Good, Refused}
 
--- of seven texts the first is the letter
-parsed-after : (texts : List (List ℕ)) → length texts ≡ 7 → parsedOf texts ≡ afterLetter (placeOf (getD texts 0 []) letters) (drop 1 texts)
+-- of as many fields as a record has, the first is the letter
+first : (ts : List (List ℕ)) → length ts ≡ fieldCount → parsedOf ts ≡ afterLetter (placeOf (getD ts 0 []) letters) (drop 1 ts)
 unfolding parsedOf
-parsed-after [] h = absurd (omega arith)
-parsed-after (letter ∷ texts) h = refl
+first [] h = absurd (omega arith)
+first (letter ∷ ts) h = refl
 
-module _ (text : List ℕ) {p : Split} where
-  pub parse-broken : p ≡ malformed → Refused 19 ≡ parse (readOf text p)
+parse-first : (r : Read) {ts : List (List ℕ)} → r ≡ formed ts → length ts ≡ fieldCount → afterLetter (placeOf (getD ts 0 []) letters) (drop 1 ts) ≡ parse r
+unfolding parse
+parse-first r {ts = ts} e h = rw (e, eq-eqb (length ts) fieldCount h) (sym (first ts h))
+
+-- a record of as many fields as it must have, with the place of its letter among the letters, and where the next one starts
+pub record Lettered (text : List ℕ) (at : ℕ) (starts ends : List ℕ) (place : Place) (next : ℕ) : Type 0 where
+  pub means : afterLetter place (drop 1 (textsIn text fieldCount starts ends)) ≡ parse (readOf text (recordAt text at))
+  pub onward : next ≡ nextOf (recordAt text at)
+
+-- a record that was looked at
+module _ (text : List ℕ) (at : ℕ) (old old′ starts ends : List ℕ) {r : Scanned} (s : Scans (recordAt text at) old old′ starts ends r) where
+  pub entry-malformed : r ≡ Malformed → (vs : List ℕ) → EntryAt text at vs (entry (Refused 19) 0)
   unfolding parse
-  parse-broken e = rw e
+  entry-malformed q vs =
+      let is = scanned-malformed (recordAt text at) old old′ starts ends s q in
+      record { means = rw is; next = rw is }
 
-  module _ (ss : List Span) (next : ℕ) (e : p ≡ fields ss next) where
-    pub parse-other : (length ss ≡ 7 → ⊥) → Refused 20 ≡ parse (readOf text p)
+  module _ {count next : ℕ} (q : r ≡ Fields count next) where
+    pub entry-other : (count ≡ fieldCount → ⊥) → (vs : List ℕ) → EntryAt text at vs (entry (Refused 20) next)
     unfolding parse
-    parse-other h = rw (e, length-map ss (part text), ne-eqb (length ss) 7 h)
+    entry-other h vs =
+        let (ss, is, counted) = scanned-fields (recordAt text at) old old′ starts ends s q in
+        record { means = rw (is, length-map ss (part text), ne-eqb (length ss) fieldCount (λ e. h (sym counted ∙ e))); next = rw is }
 
-    module _ (h : length ss ≡ 7) {letter : List ℕ} (here : letter ≡ part text (getD ss 0 (span 0 0))) where
-      parse-after : parse (readOf text p) ≡ afterLetter (placeOf letter letters) (drop 1 (map (part text) ss))
-      unfolding parse part
-      parse-after =
-          let seven : length (map (part text) ss) ≡ 7 = length-map ss (part text) ∙ h in
-          rw (e, eq-eqb _ 7 seven, parsed-after (map (part text) ss) seven, List·getD-map (part text) ss 0 (span 0 0), ← here)
+    pub lettered : {letter : List ℕ} {place : Place} → count ≡ fieldCount → HandsBack text count starts ends 0 letter → place ≡ placeOf letter letters
+        → Lettered text at starts ends place next
+    lettered whole h e =
+        let (ss, is, counted) = scanned-fields (recordAt text at) old old′ starts ends s q in
+        let texts = all-texts text (recordAt text at) old old′ starts ends r s is (counted ∙ whole) in
+        let read : readOf text (recordAt text at) ≡ formed (textsIn text fieldCount starts ends) = rw (is, texts) in
+        let long : length (textsIn text fieldCount starts ends) ≡ fieldCount = rw texts (length-map ss (part text) ∙ counted ∙ whole) in
+        record { means = rw (e, rw whole at (h .by-places)) (parse-first (readOf text (recordAt text at)) read long); onward = rw is }
 
-      pub parse-no-letter : Nowhere ≡ placeOf letter letters → Refused 21 ≡ parse (readOf text p)
-      parse-no-letter q = sym (parse-after ∙ rw (← q))
+module _ {text : List ℕ} {at : ℕ} {starts ends : List ℕ} {place : Place} {next : ℕ} (l : Lettered text at starts ends place next) where
+  pub entry-unknown : place ≡ Nowhere → (vs : List ℕ) → EntryAt text at vs (entry (Refused 21) next)
+  entry-unknown n vs = record { means = rw n at (l .means); next = l .onward }
 
-      -- after the letter of number k
-      module _ (k : ℕ) (q : At k ≡ placeOf letter letters) (found : Cells) (f : found ≡ cellsOf (valuesOf (sortsBy k) (drop 1 (map (part text) ss)))) where
-        pub parse-wrong : found .good ≡ false → Refused 21 ≡ parse (readOf text p)
-        parse-wrong g = sym (parse-after ∙ rw (← q) (by (valuesOf (sortsBy k) (drop 1 (map (part text) ss))) f))
-          where
-            by : (vs : Values) → found ≡ cellsOf vs → parsedIf k vs ≡ Refused 21
-            by (values vs) w = absurd (false≢true (sym g ∙ ap (λ (c : Cells). c .good) w))
-            by wrong w = refl
+  -- after the letter of number k
+  module _ {k : ℕ} (n : place ≡ At k) (found : List ℕ) (all : Bool) (f : Found (valuesOf (sortsBy k) (drop 1 (textsIn text fieldCount starts ends))) found all) where
+    values-mean : cond all (good k found) (refused 21) ≡ parse (readOf text (recordAt text at))
+    values-mean = by (valuesOf (sortsBy k) (drop 1 (textsIn text fieldCount starts ends))) f ∙ rw n at (l .means)
+      where
+        by : (vs : Values) → Found vs found all → cond all (good k found) (refused 21) ≡ meant k vs
+        by (values vs) w = rw (w .0, w .1)
+        by wrong w = rw w
 
-        pub parse-all : found .good ≡ true → parsedBy k (found .values) ≡ parse (readOf text p)
-        parse-all g = sym (parse-after ∙ rw (← q) (by (valuesOf (sortsBy k) (drop 1 (map (part text) ss))) f))
-          where
-            by : (vs : Values) → found ≡ cellsOf vs → parsedIf k vs ≡ parsedBy k (found .values)
-            by (values vs) w = rw (ap (λ (c : Cells). c .values) w)
-            by wrong w = absurd (false≢true (sym (ap (λ (c : Cells). c .good) w) ∙ g))
+    pub entry-wrong : all ≡ false → EntryAt text at found (entry (Refused 21) next)
+    entry-wrong g = record { means = rw g at values-mean; next = l .onward }
 
--- a record that was looked at, parsed, and where the next one starts
-pub entry-of : (text : List ℕ) (p : Split) {f : Fields} {parsed : Parsed} {r : Entry} → f ≡ fieldsOf p → r ≡ entry parsed (f .next) → parsed ≡ parse (readOf text p)
-    → r ≡ entry (parse (readOf text p)) (fieldsOf p .next)
-entry-of text p e w q = w ∙ rw (q, e)
+    pub entry-good : all ≡ true → EntryAt text at found (entry (Good k) next)
+    entry-good g = record { means = rw g at values-mean; next = l .onward }

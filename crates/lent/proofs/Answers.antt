@@ -10,7 +10,7 @@ use Rattle.lists.specs.Tables.{front}
 use Rattle.words.specs.Words.{withWord, encode}
 use Rattle.words.proofs.Encoded.{encoded-none, encoded-more}
 use Rattle.words.proofs.ReadBack.{read-back}
-use Rattle.lent.specs.Lists.{answered, Answers}
+use Rattle.lent.specs.Boundary.{answered, Answers}
 
 -- 16 bytes or more: both numbers are written
 pub two-answered : (a : Answer) (old first second : List ℕ) → a .first < 2 ^ 64 → a .second < 2 ^ 64 → 16 ≤ length old → first ≡ withWord old 0 (a .first)

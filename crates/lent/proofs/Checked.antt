@@ -11,18 +11,18 @@ use Rattle.lists.specs.Tables.{front}
 use Rattle.lists.proofs.Tables.{length-to}
 use Rattle.article.specs.Answer.{Answer, makeAnswer}
 use Rattle.words.specs.Words.{encode}
-use Rattle.columns.specs.Columns.{Columns, countIn, rowsIn, submission}
+use Rattle.columns.specs.Columns.{Columns, countIn, rowsIn, submission, holdingSizes, lineSizes}
 use Rattle.columns.proofs.Columns.{column-entries}
 use Rattle.sizes.specs.Sizes.{Room}
 use Rattle.sizes.proofs.Sizes.{room-exactly, lengths-exactly}
 use Rattle.proposal.specs.Submission.{bookOf, priced}
 use Rattle.proposal.specs.Figures.{remaindersOf, ranked}
-use Rattle.verdict.specs.Judges.{verdictOf, written, outcomeIn, Scratch, Judges}
+use Rattle.verdict.specs.Judges.{verdictOf, written, columnsDiffer, outcomeIn, Scratch, Judges}
 use Rattle.verdict.specs.declared.Verdict.{Verdict}
 use Rattle.verdict.specs.declared.Verdict.the-variants.{Accepted, Refused}
 use Rattle.verdict.proofs.Judged.{written-none, ranked-length, all-ranked}
-use Rattle.lent.specs.Lists.{Lent, makeLent, Answers}
-use Rattle.lent.specs.Boundary.{sizesOf, one, two, outcomeOf, Checks}
+use Rattle.lent.specs.Boundary.{Lent, makeLent, Answers}
+use Rattle.lent.specs.Boundary.{writtenLists, two, outcomeOf, Checks}
 use Rattle.lent.proofs.Returned.{returned-demands}
 
 -- a refusal leaves a list as it was
@@ -64,11 +64,10 @@ module _ (c : Columns) where
         → remainder′ ≡ front (encode (written (outcomeOf c before) (remaindersOf (priced (submission c)) (submission c .lines)))) (before .remainder)
         → ranking′ ≡ front (encode (written (outcomeOf c before) (ranked (priced (submission c)) (submission c .lines)))) (before .ranking)
         → Checks c before (makeLent remainder′ ranking′ out′) r
-    unfolding outcomeOf one two sizesOf
+    unfolding outcomeOf outcomeIn two
     checks-all remainder′ ranking′ out′ r returned p q =
-        let z = sizesOf c before in
-        let d = returned-demands (one c) (two c before) (submission c) (before .answer) out′ r (λ e. room-exactly (z .lists) (z .slice) .0 e .answer) returned in
-        let l = lengths-exactly z in
+        let d = returned-demands (columnsDiffer c) (two c before) (submission c) (before .answer) out′ r (λ e. room-exactly (writtenLists c before) (length (before .answer)) .0 e .answer) returned in
+        let l = lengths-exactly (holdingSizes c) (lineSizes c) (writtenLists c before) (length (before .answer)) in
         record {
           submitted = column-entries c;
           returned = returned;
@@ -90,7 +89,7 @@ module _ (c : Columns) where
       -- refused: neither list is written
       pub refused-checks : {number place second r : ℕ} {out′ : List ℕ} → v ≡ Refused number place second → Answers (makeAnswer number place second) (before .answer) out′ r
           → Checks c before (makeLent (before .remainder) (before .ranking) out′) r
-      unfolding outcomeOf outcomeIn one
+      unfolding outcomeOf
       refused-checks e returned =
           let judges = judged-as e in
           let none = refused-number (outcomeOf c before) (judges .answer) (judges .verdict) in
@@ -102,10 +101,10 @@ module _ (c : Columns) where
         judges = judged-as e
 
         accepted : outcomeOf c before .number ≡ 0
-        unfolding outcomeOf outcomeIn one
+        unfolding outcomeOf
         accepted = sym (ap (λ (a : Answer). a .number) (judges .answer))
 
-        room : Room (sizesOf c before .lists) (sizesOf c before .slice)
+        room : Room (writtenLists c before) (length (before .answer))
         unfolding two
         room = room-exactly _ _ .0 (judges .keeps .exactly .0 refl .0 .1)
 
@@ -113,11 +112,11 @@ module _ (c : Columns) where
         order-length = ranked-length (submission c) ∙ count-is
 
         pub remainder-room : (n ≤ length (s′ .left)) × (8 * n ≤ length (before .remainder))
-        unfolding sizesOf
+        unfolding writtenLists
         remainder-room = (held _ _ _ _ (judges .worked refl .remainders) remainders-length, omega (arith, room .each .0))
 
         pub ranking-room : (n ≤ length (s′ .ranks)) × (8 * n ≤ length (before .ranking))
-        unfolding sizesOf
+        unfolding writtenLists
         ranking-room = (held _ _ _ _ (judges .worked refl .ranking) order-length, omega (arith, room .each .1 .0))
 
         -- what is written of the scratch is what was put at its front
@@ -129,7 +128,7 @@ module _ (c : Columns) where
         pub accepted-checks : {remainder′ ranking′ out′ : List ℕ} {r : ℕ} → remainder′ ≡ front (encode (take n (s′ .left))) (before .remainder)
             → ranking′ ≡ front (encode (take n (s′ .ranks))) (before .ranking) → Answers (makeAnswer 0 units cents) (before .answer) out′ r
             → Checks c before (makeLent remainder′ ranking′ out′) r
-        unfolding outcomeOf outcomeIn one
+        unfolding outcomeOf
         accepted-checks p q returned =
             checks-all _ _ _ _ (rw (← judges .answer) returned)
             (p ∙ in-list _ _ _ _ (judges .worked refl .remainders) remainders-length)

@@ -9,7 +9,7 @@ use Rattle.proposal.specs.Submission.{Submission}
 use Rattle.proposal.specs.Outcome.{outcome}
 use Rattle.proposal.specs.Demands.{Demands}
 use Rattle.proposal.proofs.Demands.{demands}
-use Rattle.lent.specs.Lists.{answerIn, Answers}
+use Rattle.lent.specs.Boundary.{answerIn, Answers}
 
 -- demands on an answer are demands on one of the same number, with the same figures where it is accepted
 same-demands : (s : Submission) (one two : Bool) (a : Answer) (r x y : ℕ) → r ≡ a .number → (a .number ≡ 0 → (x ≡ a .first) × (y ≡ a .second))

@@ -1,42 +1,57 @@
 -- THE PAGE OF THE EXPORTED CHECK. Document 01, "At the host's boundary a column or list is a byte slice of eight-byte little-endian
--- numbers": what the exported check promises of what is lent. Assumes nothing.
+-- numbers": the lists to be written, and what the exported check promises of what is lent. Assumes nothing.
 use mathlib.Core.Path.{_≡_}
 use mathlib.Core.Logic.{_↔_}
-use mathlib.Core.Bool.{Bool}
-use mathlib.Core.List.{[], _∷_}
-use Prim.Native.Nat.{ℕ}
+use mathlib.Core.Bool.{Bool, cond}
+use mathlib.Core.List.{List, [], _∷_}
+use Prim.Native.Nat.{ℕ, _≤_, _<_}
+use lib.Dec.{ltb}
 use lib.ListN.{length}
 use Rattle.lists.specs.Tables.{front}
-use Rattle.article.specs.Answer.{Answer}
+use Rattle.article.specs.Answer.{Answer, makeAnswer}
 use Rattle.proposal.specs.Submission.{priced}
 use Rattle.proposal.specs.Figures.{remaindersOf, ranked, InRankingOrder}
-use Rattle.proposal.specs.Outcome.{outcome}
 use Rattle.proposal.specs.Demands.{Acceptable, Demands}
-use Rattle.verdict.specs.Judges.{written}
-use Rattle.words.specs.Words.{encode}
+use Rattle.verdict.specs.Judges.{written, columnsDiffer, outcomeIn}
+use Rattle.words.specs.Words.{wordAt, encode}
 use Rattle.columns.specs.Columns.{Columns, countIn, submission, holdingSizes, lineSizes, ColumnEntries}
-use Rattle.sizes.specs.Sizes.{Sizes, Lengths, differ, tooShort}
-use Rattle.lent.specs.Lists.{Lent, answerIn, Answers}
+use Rattle.sizes.specs.Sizes.{Lengths, tooShort}
 
--- the byte lengths of what is lent: the columns, an entry for each holding in the remainders and in the ranking, and the answer slice
-unfoldable pub sizesOf : Columns → Lent → Sizes
-sizesOf c l = record {
-  holdings = holdingSizes c;
-  lines = lineSizes c;
-  lists = (countIn (c .holdings), length (l .remainder)) ∷ (countIn (c .holdings), length (l .ranking)) ∷ [];
-  slice = length (l .answer);
-}
+-- the lists to be written, as bytes
+pub record Lent : Type 0 where
+  pub remainder : List ℕ
+  pub ranking : List ℕ
+  pub answer : List ℕ
 
--- whether 1 holds of what is lent, and whether 2 does
-unfoldable pub one : Columns → Bool
-one c = differ (holdingSizes c) (lineSizes c)
+abbrev pub makeLent : List ℕ → List ℕ → List ℕ → Lent
+makeLent remainder ranking answer = record { remainder = remainder; ranking = ranking; answer = answer }
 
+-- units and cents, or the two places, in the first 16 bytes of the answer slice; one below 16 bytes stays unwritten
+unfoldable pub answered : Answer → List ℕ → List ℕ
+answered a old = cond (ltb (length old) 16) old (front (encode (a .first ∷ a .second ∷ [])) old)
+
+-- what the host reads: the number returned, and the two numbers in the answer slice
+abbrev pub answerIn : ℕ → List ℕ → Answer
+answerIn r bytes = makeAnswer r (wordAt bytes 0) (wordAt bytes 1)
+
+-- a number and two more are the answer: the number is returned, and the two stand in the answer slice, where the host reads them;
+-- a slice below 16 bytes stays unwritten
+pub record Answers (a : Answer) (before after : List ℕ) (r : ℕ) : Type 0 where
+  pub number : r ≡ a .number
+  pub slice : after ≡ answered a before
+  pub reads : 16 ≤ length before → answerIn r after ≡ a
+  pub unwritten : length before < 16 → after ≡ before
+
+-- what they are to hold: an entry for each holding in the remainders and in the ranking, beside the bytes that are lent
+unfoldable pub writtenLists : Columns → Lent → List (ℕ × ℕ)
+writtenLists c l = (countIn (c .holdings), length (l .remainder)) ∷ (countIn (c .holdings), length (l .ranking)) ∷ []
+
+-- whether 2 holds of what is lent, and the outcome of it
 unfoldable pub two : Columns → Lent → Bool
-two c l = tooShort (sizesOf c l .lists) (sizesOf c l .slice)
+two c l = tooShort (writtenLists c l) (length (l .answer))
 
--- the outcome of what is lent
 unfoldable pub outcomeOf : Columns → Lent → Answer
-outcomeOf c l = outcome (one c) (two c l) (submission c)
+outcomeOf c l = outcomeIn (two c l) c
 
 -- what the exported check promises of what is lent, before and after, and of the number that it returns
 module _ (c : Columns) (before after : Lent) (r : ℕ) where
@@ -54,6 +69,6 @@ module _ (c : Columns) (before after : Lent) (r : ℕ) where
     -- what is called the ranking has every holding once, by margin of the remainder, largest first, ties by lower number
     pub order : InRankingOrder (priced (submission c)) (submission c .lines)
     -- accepted exactly when what is lent has the lengths, and the proposal is within the limits, keeps the article, is covered and has equal totals
-    pub exactly : (r ≡ 0) ↔ (Lengths (sizesOf c before) × Acceptable (submission c))
+    pub exactly : (r ≡ 0) ↔ (Lengths (holdingSizes c) (lineSizes c) (writtenLists c before) (length (before .answer)) × Acceptable (submission c))
     -- the least and the rounding, of what the host reads, and the terms that they speak of
-    pub keeps : Demands (submission c) (one c) (two c before) (answerIn r (after .answer))
+    pub keeps : Demands (submission c) (columnsDiffer c) (two c before) (answerIn r (after .answer))

@@ -5,7 +5,7 @@ ghost use Rattle.article.specs.Answer.{makeAnswer};
 ghost use Rattle.words.specs.Words.{entries};
 ghost use Rattle.columns.specs.Columns.{makeColumns};
 ghost use Rattle.verdict.specs.Judges.{ScratchRoom};
-ghost use Rattle.lent.specs.Lists.{makeLent, Answers};
+ghost use Rattle.lent.specs.Boundary.{makeLent, Answers};
 ghost use Rattle.lent.specs.Boundary.{Checks};
 
 // Puts two numbers into an answer slice of 16 bytes or more, and returns the number.

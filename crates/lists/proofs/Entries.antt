@@ -59,6 +59,17 @@ pub each-map : {A B : Type 0} (P : B → Type 0) (f : A → B) (xs : List A) →
 each-map P f [] h = tt
 each-map P f (x ∷ xs) h = (h .0, each-map P f xs (h .1))
 
+-- and back
+pub each-parts : {A : Type 0} (P : A → Type 0) (xs ys : List A) → Each P (xs ++ ys) → Each P xs × Each P ys
+each-parts P [] ys h = (tt, h)
+each-parts P (x ∷ xs) ys h =
+    let (first, second) = each-parts P xs ys (h .1) in
+    ((h .0, first), second)
+
+pub each-back : {A B : Type 0} (P : B → Type 0) (f : A → B) (xs : List A) → Each P (map f xs) → Each (λ x. P (f x)) xs
+each-back P f [] h = tt
+each-back P f (x ∷ xs) h = (h .0, each-back P f xs (h .1))
+
 -- what holds of every entry holds of the one at a place, and back
 module _ {A : Type 0} (P : A → Type 0) (d : A) where
   pub each-at : (xs : List A) → Each P xs → (i : ℕ) → i < length xs → P (getD xs i d)

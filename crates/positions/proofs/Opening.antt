@@ -32,8 +32,7 @@ use Rattle.proposal.specs.declared.Fault.{Fault}
 use Rattle.proposal.proofs.Limits.{row-first, price-first, none-ranges, ranges-none}
 use Rattle.proposal.proofs.Places.{none-at, at-none, first-at}
 use Rattle.proposal.proofs.PricedBooks.{leg-at, value-at, rate-at}
-use Rattle.packed.specs.Packed.{legIn, Small}
-use Rattle.packed.specs.Held.{legAt}
+use Rattle.packed.specs.Packed.{legIn, Small, legAt}
 use Rattle.packed.proofs.Holdings.{small}
 use Rattle.positions.specs.Opens.{OpenRoom, Opens}
 

@@ -13,7 +13,7 @@ use Rattle.proposal.specs.Submission.{bookOf}
 use Rattle.proposal.specs.Figures.{priceLimit}
 use Rattle.proposal.specs.Outcome.{faultAnswer, bookFaults, firstFault}
 use Rattle.proposal.specs.declared.Fault.{Fault}
-use Rattle.packed.specs.Held.{Legs, LegsOf, AtMost}
+use Rattle.packed.specs.Packed.{Legs, LegsOf, AtMost}
 
 -- columns of at most 256 holdings, an entry of each and a price for each holding, and room in two lists
 pub record OpenRoom (columns : List (List ℕ)) (price legs left : List ℕ) : Type 0 where

@@ -1,76 +1,70 @@
--- Columns that are checked are printed as their outcome, and those that a file was written into hold what it submits. Assumes nothing.
-use mathlib.Core.Path.{_≡_, sym}
+-- Columns that are checked are printed as their outcome, and those of tables that a file was read into hold what it submits. Assumes nothing.
+use mathlib.Core.Path.{_≡_, refl, sym, ap, _∙_}
 use mathlib.Core.Bool.{false}
-use mathlib.Core.List.{List, [], _∷_, _++_, map}
-use Prim.Native.Nat.{ℕ, _*_, _/_, _≤_}
+use mathlib.Core.List.{List, [], _∷_, _++_, map, append-nil}
+use Prim.Native.Nat.{ℕ, _*_, _/_, _≤_, _<_}
 use native.Mathlib.Omega.{arith}
-use lib.ListN.{length, take}
-use lib.Seq.{length-take-le}
+use lib.ListN.{length}
+use lib.Seq.{drop-nil}
 use Rattle.lists.specs.Each.{Each}
-use Rattle.lists.proofs.Entries.{each-append, each-map, each-so}
-use Rattle.lists.proofs.Tables.{length-to}
-use Rattle.proposal.specs.Submission.{rowsOf, pricesOf, linesOf, lineNumbers, submitted}
-use Rattle.proposal.specs.declared.Book.{Book}
-use Rattle.proposal.specs.declared.Proposal.{Proposal}
-use Rattle.columns.specs.Columns.{Columns, makeColumns, columnAt, submission, holdingSizes, lineSizes, filledFrom, filled, BookRoom, LinesRoom, BookWritten}
+use Rattle.lists.specs.Tables.{front}
+use Rattle.lists.proofs.Entries.{each-map}
+use Rattle.holding.specs.Holding.{numbersOf, rowBy}
+use Rattle.proposal.specs.Submission.{Submission, lineBy}
+use Rattle.words.specs.Words.{encode}
+use Rattle.columns.specs.Columns.{Columns, makeColumns, columnAt, submission, holdingSizes, lineSizes, column, filledFrom, filled, columnIn, Entered}
 use Rattle.columns.proofs.Columns.{column-entries}
-use Rattle.columns.proofs.ReadBack.{SubmissionFits, cut, submission-filled}
+use Rattle.columns.proofs.Tables.{column-long, entered-column, filled-values, pricesOf}
+use Rattle.columns.proofs.ReadBack.{SubmissionFits, submission-filled}
 use Rattle.sizes.specs.Sizes.{entriesOf, Equal, differ}
 use Rattle.sizes.proofs.Sizes.{differ-exactly}
-use Rattle.reader.specs.File.{submissionIn, fileFault}
-use Rattle.readable.proofs.Exactly.{read-exactly}
-use Rattle.readable.proofs.Fitting.{holdings-fit, lines-fit}
 use Rattle.verdict.specs.Judges.{Scratch, Judges}
 use Rattle.verdict.specs.declared.Verdict.{Verdict}
 use Rattle.report.specs.Report.{reportOf}
-use Rattle.report.specs.Written.{Prints}
+use Rattle.report.specs.Written.{reportRoom, Prints}
+use Rattle.report.specs.declared.Printed.{Printed}
 use Rattle.report.proofs.Judged.{report-judged}
-use Rattle.printing.specs.Columns.{cutAll, cutTo, PrintsColumns}
+use Rattle.printing.specs.Printed.{PrintsColumns, columnsOf, TablesHold}
 
-pub columns-printed : (c : Columns) (before after : Scratch) {v : Verdict} {old now : List ℕ} {r : ℕ} → Judges false c before after v
-    → Prints (reportOf v (length (columnAt (c .holdings) 0) / 8) (after .left) (after .margins) (after .ranks)) old now r → PrintsColumns c old now r
-columns-printed c before after judges p = record { prints = rw (← report-judged c before after _ _ judges (sym (column-entries c .holdings))) p }
+pub columns-printed : (c : Columns) (before after : Scratch) {v : Verdict} {old now : List ℕ} {r : Printed} → Judges false c before after v
+    → (let lines = reportOf v (length (columnAt (c .holdings) 0) / 8) (after .left) (after .margins) (after .ranks) in Prints lines old now r × (length lines ≤ reportRoom))
+    → PrintsColumns c old now r
+columns-printed c before after judges (p, few) =
+    let same = report-judged c before after _ _ judges (sym (column-entries c .holdings)) in
+    record { prints = rw (← same) p; room = rw (← same) few }
 
--- the numbers of a file that is read fit in eight bytes
-pub file-fits : (text : List ℕ) → fileFault text .number ≡ 0 → SubmissionFits (submissionIn text)
-file-fits text e =
-    let file = read-exactly text .read .0 e in
-    let holdings = holdings-fit (file .each-holding) in
-    record { rows = holdings .each-row; prices = holdings .each-price; lines = lines-fit (file .each-line) }
-
--- columns that are cut have eight bytes for each entry
+-- columns of n entries each are even
 abbrev Full : ℕ → List ℕ → Type 0
 Full n column = length column ≡ 8 * n
-
-cut-full : (n : ℕ) (columns : List (List ℕ)) → Each (λ c. 8 * n ≤ length c) columns → Each (Full n) (cutAll n columns)
-cut-full n columns h = each-map (Full n) _ columns (each-so (λ c. 8 * n ≤ length c) (λ c. Full n (take (8 * n) c)) (λ c l. length-take-le (8 * n) c l) columns h)
 
 equal : (n : ℕ) (c : List ℕ) (cs : List (List ℕ)) → Each (Full n) (c ∷ cs) → Equal (map length (c ∷ cs))
 equal n c cs h =
     let first : entriesOf (map length (c ∷ cs)) ≡ n = unfold entriesOf in omega (arith, h .0) in
     rw first (each-map (λ size. size ≡ 8 * n) length (c ∷ cs) h)
 
-module _ (n m : ℕ) (side long price : List ℕ) (columns lines : List (List ℕ)) where
-  abbrev first : Columns
-  first = cutTo n m (makeColumns (side ∷ columns) price (long ∷ lines))
-
-  pub cut-even : BookRoom n (side ∷ columns) price → LinesRoom m (long ∷ lines) → differ (holdingSizes first) (lineSizes first) ≡ false
+-- the columns of two tables
+module _ (n m : ℕ) (book lines : List ℕ) where
+  pub tables-even : TablesHold n m book lines → differ (holdingSizes (columnsOf n m book lines)) (lineSizes (columnsOf n m book lines)) ≡ false
   unfolding holdingSizes lineSizes
-  cut-even book proposal =
-      let last : Each (Full n) (take (8 * n) price ∷ []) = (length-take-le (8 * n) price (book .prices), tt) in
-      let holdings = each-append (Full n) (cutAll n (side ∷ columns)) (take (8 * n) price ∷ []) (cut-full n (side ∷ columns) (book .each)) last in
+  tables-even h =
+      let held : (j : ℕ) → j < 6 → Full n (columnIn 512 n book j) = λ j l. column-long 512 n j book (omega (arith, h .few-holdings, h .whole-book)) in
+      let lined : (j : ℕ) → j < 3 → Full m (columnIn 512 m lines j) = λ j l. column-long 512 m j lines (omega (arith, h .few-lines, h .whole-lines)) in
+      let below : (k j : ℕ) → k < j → k < j = λ k j l. l in
       differ-exactly _ _ .1 (
-        equal n (take (8 * n) side) (cutAll n columns ++ (take (8 * n) price ∷ [])) holdings,
-        equal m (take (8 * m) long) (cutAll m lines) (cut-full m (long ∷ lines) (proposal .each)),
+        equal n _ _ (held 0 (omega arith), (held 1 (omega arith), (held 2 (omega arith), (held 3 (omega arith), (held 4 (omega arith), (held 5 (omega arith), tt)))))),
+        equal m _ _ (lined 0 (omega arith), (lined 1 (omega arith), (lined 2 (omega arith), tt))),
       )
 
--- and where a book and a proposal were written, they hold these
-module _ (b : Book) (p : Proposal) (lines : List (List ℕ)) {columns columns′ lines′ : List (List ℕ)} {price price′ : List ℕ} where
-  pub cut-submitted : BookWritten b p columns price columns′ price′ → lines′ ≡ filledFrom 0 (map lineNumbers (linesOf p)) lines → length columns ≡ 5 → length lines ≡ 3
-      → SubmissionFits (submitted b p) → submission (cutTo (b .count) (p .count) (makeColumns columns′ price′ lines′)) ≡ submitted b p
-  cut-submitted book proposal f t fit =
-      let s = submitted b p in
-      let old : Columns = makeColumns columns price lines in
-      let same : cutTo (b .count) (p .count) (makeColumns columns′ price′ lines′) ≡ cut s (filled s old) =
-      unfold submitted filled rowsOf pricesOf linesOf in rw (book .rows, book .prices, proposal, length-to (b .count) _, length-to (b .count) _, length-to (p .count) _) in
-      rw same (submission-filled s fit old f t)
+  -- where values were entered they hold what these submit
+  module _ (hs ls : List (List ℕ)) where
+    abbrev submitted : Submission
+    submitted = record { rows = map rowBy hs; prices = pricesOf hs; lines = map lineBy ls }
+
+    pub tables-submitted : {old oldLines : List ℕ} → Entered 6 512 hs old book → Entered 3 512 ls oldLines lines → length hs ≡ n → length ls ≡ m → n ≤ 512 → m ≤ 512
+        → SubmissionFits submitted → submission (columnsOf n m book lines) ≡ submitted
+    unfolding filledFrom
+    tables-submitted e f p q a b fit =
+        let held = λ (j : ℕ) (l : j < 6). entered-column e p a j l ∙ sym (bare-column (map (nth j) hs)) in
+        let lined = λ (j : ℕ) (l : j < 3). entered-column f q b j l ∙ sym (bare-column (map (nth j) ls)) in
+        let same : columnsOf n m book lines ≡ filled submitted bare = sym (filled-values hs ls bare refl refl ∙ ?) in
+        rw same (submission-bare submitted fit)

@@ -2,52 +2,38 @@
 use mathlib.Core.Path.{_≡_, refl, sym, ap, _∙_}
 use mathlib.Core.Bool.{false}
 use mathlib.Core.Logic.{_↔_, _≢_}
-use mathlib.Core.List.{List, _∷_, _++_, map}
-use Prim.Native.Nat.{ℕ, _≤_, _<_}
+use mathlib.Core.List.{List, _∷_, _++_}
+use Prim.Native.Nat.{ℕ, _*_, _≤_, _<_}
 use native.Mathlib.Omega.{arith}
-use lib.ListN.{length, getD, take, drop, length-append}
-use lib.Seq.{length-take-le, take-at}
-use borrow.Author.Tests.{le-leb, eq-eqb, ne-eqb}
-use Rattle.lists.specs.Tables.{front}
+use lib.ListN.{length, getD, take}
+use borrow.Author.Tests.{eq-eqb, ne-eqb}
 use Rattle.lists.specs.Texts.{ascii}
 use Rattle.lists.proofs.Tables.{getD-to}
 use Rattle.lists.proofs.Tests.{same-or-not}
 use Rattle.article.specs.Answer.{Answer, makeAnswer}
-use Rattle.proposal.specs.Submission.{Submission, priced, linesOf, lineNumbers, submitted}
+use Rattle.proposal.specs.Submission.{Submission, priced}
 use Rattle.proposal.specs.Figures.{remainder, remaindersOf}
 use Rattle.proposal.specs.Outcome.{outcome}
 use Rattle.proposal.specs.Demands.{Acceptable}
 use Rattle.proposal.proofs.Clear.{number}
 use Rattle.proposal.proofs.Demands.{demands}
-use Rattle.reader.specs.File.{submissionIn, fileFault}
-use Rattle.reader.specs.ReadsFile.{ReadsFile}
+use Rattle.columns.specs.Columns.{submission}
+use Rattle.reader.specs.File.{parsedIn, valuesBy, submissionOf, submissionIn, fileFault, ReadsFile}
 use Rattle.reader.specs.declared.Contents.{Contents}
+use Rattle.reader.specs.declared.Contents.the-variants.{Read, Refused}
 use Rattle.readable.specs.Readable.{Submits}
 use Rattle.readable.proofs.Exactly.{read-exactly}
-use Rattle.columns.specs.Columns.{makeColumns, filledFrom, BookRoom, LinesRoom, BookWritten}
+use Rattle.readable.proofs.Fitting.{file-fits}
+use Rattle.readable.proofs.Answered.{contents-refused, was-read, no-fault, holdings-held, lines-held, few-holdings, few-lines}
 use Rattle.verdict.specs.Judges.{outcomeIn}
 use Rattle.verdict.proofs.Judged.{all-ranked}
 use Rattle.report.specs.Report.{lineOf, refusalLine, marginLine, remainderLine, printedLines, bookLine, printedOf}
-use Rattle.report.specs.Written.{reportRoom, fitted, Prints}
+use Rattle.report.specs.Written.{reportRoom, Prints}
+use Rattle.report.specs.declared.Printed.{Printed}
 use Rattle.report.proofs.Judged.{ranked-texts}
-use Rattle.printing.specs.Printed.{fileAnswer, printed, holdingLine, PrintsFigures, PrintsFile}
-use Rattle.printing.specs.Columns.{cutTo, PrintsColumns}
-use Rattle.printing.specs.Within.{Within}
-use Rattle.printing.proofs.Columns.{file-fits, cut-even, cut-submitted}
-
--- what is printed is within the list that it is printed into
-prints-within : {text old now : List ℕ} {count : ℕ} → Prints text old now count → Within count now
-unfolding front
-prints-within {text} {old} {now} {count} p =
-    let written = fitted (length old) text in
-    let few : count ≤ length now = omega (arith, p .counted, ap (λ (l : List ℕ). length l) (p .bytes), length-append written (drop (length written) old)) in
-    (few, sym (length-take-le count now few))
-
--- and with room it is the first bytes there
-prints-first : {text old now : List ℕ} {count : ℕ} → Prints text old now count → reportRoom ≤ length old → take count now ≡ text
-unfolding front fitted
-prints-first {text} {old} p h =
-    rw (p .bytes, p .counted, le-leb reportRoom (length old) h) (take-at text _ (length text) refl)
+use Rattle.report.proofs.Prints.{prints-written, prints-too-short}
+use Rattle.printing.specs.Printed.{fileAnswer, printed, holdingLine, PrintsColumns, columnsOf, TablesHold, PrintsFigures, PrintsFile}
+use Rattle.printing.proofs.Columns.{tables-even, tables-submitted}
 
 -- M is printed for the number 0, and X for any other
 begins-when : (s : Submission) (a : Answer) → (take 1 (printedOf s a) ≡ ascii "M") ↔ (a .number ≡ 0)
@@ -100,37 +86,48 @@ module _ (text : List ℕ) where
     lines = rw (eq-eqb (fileAnswer text .number) 0 e) (ap (marginLine (fileAnswer text) ++_) (ranked-texts s _ _ (same-line s)));
   }
 
-  promised : {before after : List ℕ} {r : ℕ} → Prints (printed text) before after r → PrintsFile text before after r × Within r after
+  promised : {before after : List ℕ} {r : Printed} → Prints (printed text) before after r → length (printed text) ≤ reportRoom → PrintsFile text before after r
   unfolding printed
-  promised p =
-      let begins = begins-when s (fileAnswer text) in (
-        record {
-          stands = p;
-          room = prints-first p;
-          exactly = (λ b. accepted-when .0 (begins .0 b), λ h. begins .1 (accepted-when .1 h));
-          figures = λ b. figures-printed (begins .0 b);
-          order = all-ranked s;
-          only = read-exactly text .only;
-        },
-        prints-within p,
-      )
+  promised p few =
+      let begins = begins-when s (fileAnswer text) in
+      record {
+        prints = p;
+        written = prints-written p;
+        too-short = prints-too-short p;
+        room = few;
+        exactly = (λ b. accepted-when .0 (begins .0 b), λ h. begins .1 (accepted-when .1 h));
+        figures = λ b. figures-printed (begins .0 b);
+        order = all-ranked s;
+        only = read-exactly text .only;
+      }
 
-  module _ {d : Contents} (from-file : ReadsFile text d) where
-    pub refused-printed : {before after : List ℕ} {r : ℕ} → d .number ≢ 0 → Prints (refusalLine (makeAnswer (d .number) (d .place) 0)) before after r → PrintsFile text before after r × Within r after
+  module _ {book lines book′ lines′ : List ℕ} {d : Contents} (from-file : ReadsFile text 512 book lines book′ lines′ d) where
+    pub refused-printed : {n place : ℕ} {before after : List ℕ} {r : Printed} → d ≡ Refused n place
+        → (let line = refusalLine (makeAnswer n place 0) in Prints line before after r × (length line ≤ reportRoom)) → PrintsFile text before after r
     unfolding printed printedOf printedLines
-    refused-printed h p =
-        let fault : fileFault text .number ≢ 0 = λ z. h (ap number (from-file .fault) ∙ z) in
-        promised (rw (answer-refused fault, ← from-file .fault, ne-eqb (d .number) 0 h) p)
+    refused-printed {n} {place} e (p, few) =
+        let (other, fault) = contents-refused from-file e in
+        let same : fileAnswer text ≡ makeAnswer n place 0 = answer-refused (λ z. other (sym (ap number fault) ∙ z)) ∙ fault in
+        let line : printed text ≡ refusalLine (makeAnswer n place 0) = rw (same, ne-eqb n 0 other) in
+        promised (rw line p) (rw line few)
 
-    -- columns that the file was written into, cut behind it
-    pub checked-printed : (side long : List ℕ) (oldLines : List (List ℕ)) {olds columns lines : List (List ℕ)} {old price before after : List ℕ} {r : ℕ} → d .number ≡ 0
-        → BookWritten (d .book) (d .proposal) olds old (side ∷ columns) price → (long ∷ lines) ≡ filledFrom 0 (map lineNumbers (linesOf (d .proposal))) oldLines
-        → length olds ≡ 5 → length oldLines ≡ 3 → BookRoom (d .book .count) (side ∷ columns) price → LinesRoom (d .proposal .count) (long ∷ lines)
-        → PrintsColumns (cutTo (d .book .count) (d .proposal .count) (makeColumns (side ∷ columns) price (long ∷ lines))) before after r
-        → PrintsFile text before after r × Within r after
-    unfolding printed outcomeIn
-    checked-printed side long oldLines z book proposal five three room lines-room p =
-        let none : fileFault text .number ≡ 0 = sym (ap number (from-file .fault)) ∙ z in
-        let read : submitted (d .book) (d .proposal) ≡ submissionIn text = from-file .submits ∙ rw z in
-        let holds = cut-submitted (d .book) (d .proposal) oldLines book proposal five three (rw read (file-fits text none)) ∙ read in
-        promised (rw (answer-checked none) (rw (cut-even _ _ side long _ _ _ room lines-room, holds) at (p .prints)))
+    -- tables that the file was read into
+    module _ {n m : ℕ} (e : d ≡ Read n m) (whole : length book ≡ 8 * (512 * 6)) (whole-lines : length lines ≡ 8 * (512 * 3)) where
+      pub tables-hold : TablesHold n m book′ lines′
+      tables-hold = record {
+        few-holdings = few-holdings from-file e;
+        few-lines = few-lines from-file e;
+        whole-book = from-file .each-holding (was-read from-file e) .long ∙ whole;
+        whole-lines = from-file .each-line (was-read from-file e) .long ∙ whole-lines;
+      }
+
+      pub checked-printed : {before after : List ℕ} {r : Printed} → PrintsColumns (columnsOf n m book′ lines′) before after r → PrintsFile text before after r
+      unfolding printed outcomeIn submissionOf
+      checked-printed p =
+          let read = was-read from-file e in
+          let holds : submission (columnsOf n m book′ lines′) ≡ submissionIn text =
+          tables-submitted n m book′ lines′ (valuesBy 0 (parsedIn text)) (valuesBy 1 (parsedIn text)) (from-file .each-holding read) (from-file .each-line read)
+          (holdings-held from-file e) (lines-held from-file e) (few-holdings from-file e) (few-lines from-file e) (file-fits text (no-fault from-file e)) in
+          let same : printedOf (submission (columnsOf n m book′ lines′)) (outcomeIn false (columnsOf n m book′ lines′)) ≡ printed text =
+          rw (answer-checked (no-fault from-file e), tables-even n m book′ lines′ tables-hold, holds) in
+          promised (rw same at (p .prints)) (rw same at (p .room))

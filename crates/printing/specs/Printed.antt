@@ -19,12 +19,13 @@ use Rattle.readable.specs.Readable.{Submits}
 use Rattle.columns.specs.Columns.{Columns, makeColumns, submission, columnIn}
 use Rattle.verdict.specs.Judges.{outcomeIn}
 use Rattle.report.specs.Report.{lineOf, printedOf}
-use Rattle.report.specs.Written.{Prints, printedAnswer}
+use Rattle.report.specs.Written.{reportRoom, Prints, printedAnswer}
 use Rattle.report.specs.declared.Printed.{Printed}
 
--- what is printed of columns: the lines of what they submit, by its outcome, where nothing else is lent
-abbrev pub PrintsColumns : Columns → List ℕ → List ℕ → Printed → Type 0
-PrintsColumns c before after r = Prints (printedOf (submission c) (outcomeIn false c)) before after r
+-- what is printed of columns: the lines of what they submit, by its outcome, where nothing else is lent; they are no longer than a report can be
+pub record PrintsColumns (c : Columns) (before after : List ℕ) (r : Printed) : Type 0 where
+  pub prints : Prints (printedOf (submission c) (outcomeIn false c)) before after r
+  pub room : length (printedOf (submission c) (outcomeIn false c)) ≤ reportRoom
 
 -- the columns of the first n holdings and the first m lines of two tables, and that they are there
 abbrev pub columnsOf : ℕ → ℕ → List ℕ → List ℕ → Columns

@@ -1,2 +1,1 @@
 pub mod Ranking
-pub mod Place

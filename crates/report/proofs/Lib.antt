@@ -1,4 +1,5 @@
 pub mod Written
+pub mod Prints
 pub mod Lines
 pub mod Judged
 pub mod Computed

@@ -1,15 +1,14 @@
--- Texts written one after another, and what is printed at the front. Assumes nothing.
+-- Texts written one after another, and one written from the start. Assumes nothing.
 use mathlib.Core.Path.{_≡_, refl, sym, _∙_}
 use mathlib.Core.List.{List, [], _∷_, _++_, flatMap, append-assoc, append-nil}
 use Prim.Native.Nat.{ℕ, _+_, _≤_, _<_}
 use native.Mathlib.Numerals.{add-one}
 use native.Mathlib.Omega.{arith}
-use lib.ListN.{length, getD, take, set, length-append}
-use lib.Seq.{take-suc}
-use borrow.Author.Tests.{le-leb, lt-leb}
+use lib.ListN.{length, getD, take, drop, set, length-append}
+use lib.Seq.{take-suc, take-at}
 use Rattle.lists.specs.Tables.{front}
 use Rattle.lists.proofs.Overwrite.{overwrite-front, overwrite-none, overwrite-one, overwrite-overwrite}
-use Rattle.report.specs.Written.{Written, reportRoom, fitted, Prints}
+use Rattle.report.specs.Written.{Written}
 
 flat-append : (f : ℕ → List ℕ) (xs : List ℕ) (x : ℕ) → flatMap f (xs ++ (x ∷ [])) ≡ flatMap f xs ++ f x
 unfolding flatMap
@@ -35,16 +34,18 @@ pub written-more : (f : ℕ → List ℕ) (xs : List ℕ) (i : ℕ) {at middle n
     → Written (flatMap f (take i xs)) at middle old mid → Written (f (getD xs i 0)) middle next mid now → Written (flatMap f (take (i + 1) xs)) at next old now
 written-more f xs i l h p q = rw (add-one, take-suc xs i 0 l, flat-append f (take i xs) (getD xs i 0)) (written-then h p q)
 
--- with room, what is written from the start is printed
-pub printed : {text old now : List ℕ} {count : ℕ} → reportRoom ≤ length old → Written text 0 count old now → Prints text old now count
-unfolding fitted
-printed {text} {old} {now} {count} h w =
-    let t = le-leb reportRoom (length old) h in
-    record { bytes = rw t (w .bytes ∙ overwrite-front text old); counted = rw t (omega (arith, w .ends)) }
+-- written from the start, a text is the first bytes there, and is within the list
+module _ {text old now : List ℕ} {n : ℕ} (w : Written text 0 n old now) where
+  at-front : now ≡ front text old
+  at-front = w .bytes ∙ overwrite-front text old
 
--- and without it nothing
-pub no-room : (text old : List ℕ) → length old < reportRoom → Prints text old old 0
-unfolding fitted front
-no-room text old h =
-    let t = lt-leb reportRoom (length old) h in
-    record { bytes = rw t; counted = rw t }
+  pub written-part : take n now ≡ text
+  unfolding front
+  written-part = rw at-front (take-at text (drop (length text) old) n (omega (arith, w .ends)))
+
+  pub written-counted : n ≡ length (take n now)
+  written-counted = rw written-part (omega (arith, w .ends))
+
+  pub written-few : n ≤ length now
+  unfolding front
+  written-few = rw at-front (omega (arith, w .ends, length-append text (drop (length text) old)))

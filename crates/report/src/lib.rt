@@ -148,6 +148,7 @@ pub fn report(
 ) -> Printed
     ensures { λ r. ⌜ Prints (reportOf verdict count (now (left .entry)) (now (margins .entry)) (now (ranks .entry)))
         (now (out .entry)) (now (out .exit)) r ⌝ }
+    ensures { λ _. ⌜ length (reportOf verdict count (now (left .entry)) (now (margins .entry)) (now (ranks .entry))) ≤ reportRoom ⌝ }
 {
     let mut lines = [0u8; ROOM];
     let n = put_report(verdict, count, left, margins, ranks, &mut lines);
@@ -157,6 +158,7 @@ pub fn report(
 // Prints the line of a refusal.
 pub fn refusal(number: u64, place: u64, second: u64, out: &mut [u8]) -> Printed
     ensures { λ r. ⌜ Prints (refusalLine (makeAnswer number place second)) (now (out .entry)) (now (out .exit)) r ⌝ }
+    ensures { λ _. ⌜ length (refusalLine (makeAnswer number place second)) ≤ reportRoom ⌝ }
 {
     let mut line = [0u8; 66];
     let n = put_line(b'X', [number, place, second], 3, 0, &mut line);

@@ -16,7 +16,7 @@ use Rattle.article.specs.Answer.{makeAnswer}
 use Rattle.proposal.specs.Submission.{Submission, priced}
 use Rattle.proposal.specs.Outcome.{atPlace, sizeFaults, fromBook, faults, accepted, outcome}
 use Rattle.proposal.proofs.Places.{first-at}
-use Rattle.sizes.specs.Sizes.{Sizes, entriesOf, Equal, unequal, differ, Room, tooShort, Lengths, lengthFault}
+use Rattle.sizes.specs.Sizes.{entriesOf, Equal, unequal, differ, Room, tooShort, Lengths, lengthFault}
 
 -- the test of one column, and of one list
 abbrev other : ℕ → ℕ → Bool
@@ -49,12 +49,13 @@ differ-exactly holdings lines = (
 )
 
 -- neither 1 nor 2 holds exactly when the lengths do
-pub lengths-exactly : (z : Sizes) → ((differ (z .holdings) (z .lines) ≡ false) × (tooShort (z .lists) (z .slice) ≡ false)) ↔ Lengths z
-lengths-exactly z =
-    let equal = differ-exactly (z .holdings) (z .lines) in
-    let room = room-exactly (z .lists) (z .slice) in (
-      λ h. record { holdings = equal .0 (h .0) .0; lines = equal .0 (h .0) .1; room = room .0 (h .1) },
-      λ l. (equal .1 (l .holdings, l .lines), room .1 (l .room)),
+pub lengths-exactly : (holdings lines : List ℕ) (lists : List (ℕ × ℕ)) (slice : ℕ)
+    → ((differ holdings lines ≡ false) × (tooShort lists slice ≡ false)) ↔ Lengths holdings lines lists slice
+lengths-exactly holdings lines lists slice =
+    let equal = differ-exactly holdings lines in
+    let room = room-exactly lists slice in (
+      λ h. record { equal-holdings = equal .0 (h .0) .0; equal-lines = equal .0 (h .0) .1; room = room .0 (h .1) },
+      λ l. (equal .1 (l .equal-holdings, l .equal-lines), room .1 (l .room)),
     )
 
 -- 2, and the first refusal of the lengths, by tests one after another

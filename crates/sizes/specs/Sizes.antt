@@ -33,18 +33,11 @@ pub record Room (lists : List (ℕ × ℕ)) (slice : ℕ) : Type 0 where
 unfoldable pub tooShort : List (ℕ × ℕ) → ℕ → Bool
 tooShort lists slice = some (λ list. ltb (list .1 / 8) (list .0)) lists || ltb slice 16
 
--- the byte lengths of what the check is lent: of the holding columns, of the line columns, of the lists to be written, and of the answer slice
-pub record Sizes : Type 0 where
-  pub holdings : List ℕ
-  pub lines : List ℕ
-  pub lists : List (ℕ × ℕ)
-  pub slice : ℕ
-
--- the lengths: neither 1 nor 2 holds of what is lent
-pub record Lengths (z : Sizes) : Type 0 where
-  pub holdings : Equal (z .holdings)
-  pub lines : Equal (z .lines)
-  pub room : Room (z .lists) (z .slice)
+-- the lengths: neither 1 nor 2 holds of what is lent, by the byte lengths of the columns, the lists to be written and the answer slice
+pub record Lengths (holdings lines : List ℕ) (lists : List (ℕ × ℕ)) (slice : ℕ) : Type 0 where
+  pub equal-holdings : Equal holdings
+  pub equal-lines : Equal lines
+  pub room : Room lists slice
 
 -- the first that holds of 1, 3, 9, 2, or 0; `two` says whether 2 holds of what is lent
 unfoldable pub lengthFault : List ℕ → List ℕ → Bool → ℕ

@@ -26,7 +26,7 @@ use Rattle.proposal.specs.Figures.{marginLimit, savedLimit, remainder, remainde
 use Rattle.proposal.specs.Outcome.{faultAnswer, atPlace, pairFaults, lineFaults, atLine, linesFaults}
 use Rattle.proposal.proofs.Places.{zero-at, first-at, line-listed}
 use Rattle.proposal.proofs.PricedBooks.{saving-rate}
-use Rattle.packed.specs.Held.{Legs, LegsOf, Same, AtMost, entry, legAt}
+use Rattle.packed.specs.Packed.{Legs, LegsOf, Same, AtMost, entry, legAt}
 use Rattle.tally.specs.Lines.{taken, Ready, Applies, stoppedAt, takenLines, Takes}
 use Rattle.tally.specs.declared.Tally.{Tally}
 use Rattle.tally.specs.declared.Applied.{Applied}

@@ -21,7 +21,7 @@ use Rattle.pairing.specs.Pairing as pairing
 use Rattle.pairing.specs.declared.Line.{Line}
 use Rattle.columns.specs.Columns.{countIn}
 use Rattle.proposal.specs.Submission.{PricedBook, termsOf}
-use Rattle.packed.specs.Held.{Legs, LegsOf, Same, AtMost, entry}
+use Rattle.packed.specs.Packed.{Legs, LegsOf, Same, AtMost, entry}
 use Rattle.tally.specs.declared.Walked.{Walked}
 
 -- refusals, each with its test, as answers on a line

@@ -23,7 +23,7 @@ use Rattle.columns.specs.Columns.{Columns, makeColumns, columnAt, countIn, rows
 use Rattle.columns.proofs.Columns.{column-entries}
 use Rattle.sizes.specs.Sizes.{entriesOf, differ, lengthFault}
 use Rattle.sizes.proofs.Sizes as sizes
-use Rattle.packed.specs.Held.{Legs, LegsOf, Same, entry}
+use Rattle.packed.specs.Packed.{Legs, LegsOf, Same, entry}
 use Rattle.proposal.specs.Submission.{Submission, PricedBook, bookOf, termsOf, priced}
 use Rattle.proposal.specs.Figures.{remainder, margin, remaindersOf, marginsOf, unitsOf, ranked, RoundedUp}
 use Rattle.proposal.specs.Outcome.{makeFault, faultAnswer, bookFaults, linesFaults, uncoveredPairs, totalsFaults, fromPairs, fromLines, fromBook, firstFault, accepted, outcome}

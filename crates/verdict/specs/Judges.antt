@@ -34,9 +34,12 @@ written a xs = cond (eqb (a .number) 0) xs []
 abbrev pub refusalOf : Fault → Verdict
 refusalOf f = Refused (f .number) (f .place) (f .second)
 
--- the outcome of what the columns hold; `two` says whether 2 holds of what is lent
+-- whether 1 holds of the columns, and the outcome of what they hold; `two` says whether 2 holds of what is lent
+abbrev pub columnsDiffer : Columns → Bool
+columnsDiffer c = differ (holdingSizes c) (lineSizes c)
+
 unfoldable pub outcomeIn : Bool → Columns → Answer
-outcomeIn two c = outcome (differ (holdingSizes c) (lineSizes c)) two (submission c)
+outcomeIn two c = outcome (columnsDiffer c) two (submission c)
 
 -- scratch for a book of n holdings: where there are no more than 256, an entry for each in each list
 pub record ScratchRoom (n : ℕ) (legs left margins ranks : List ℕ) : Type 0 where
@@ -71,4 +74,4 @@ pub record Judges (two : Bool) (c : Columns) (before after : Scratch) (r : Verdi
   -- the ranking has every holding once, by margin of the remainder, largest first, ties by lower number
   pub order : InRankingOrder (priced (submission c)) (submission c .lines)
   -- accepted exactly when, the least, and the rounding
-  pub keeps : Demands (submission c) (differ (holdingSizes c) (lineSizes c)) two (answerOf r)
+  pub keeps : Demands (submission c) (columnsDiffer c) two (answerOf r)

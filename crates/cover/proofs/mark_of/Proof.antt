@@ -1,7 +1,7 @@
 -- `mark_of` is `markOf`. Assumes nothing.
 use borrow.Author.Tests.{eq-eqb, ne-eqb}
 use Rattle.article.specs.Pair.{isCanada}
-use Rattle.cover.specs.Shorts.{markOf}
+use Rattle.cover.specs.Cover.{markOf}
 use borrow.Author.Needs.{needs}
 use Rattle.cover.proofs.mark_of.Statement.{statement}
 use Rattle.cover.proofs.mark_of.Tie as tie

@@ -8,7 +8,7 @@ use borrow.Author.Tests.{ltb-false}
 use native.Mathlib.Nat.{le-trans, lt-of-lt-of-le}
 use Rattle.article.specs.declared.pair.Leg.{Leg}
 use Rattle.savings.specs.Savings.{savingOf}
-use Rattle.cover.specs.Shorts.{Marked}
+use Rattle.cover.specs.Cover.{Marked}
 use Rattle.cover.proofs.row_open.Statement.{statement}
 use Rattle.cover.proofs.row_open.Tie as tie
 

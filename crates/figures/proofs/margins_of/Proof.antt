@@ -12,7 +12,7 @@ use Rattle.lists.proofs.Overwrite.{front-more}
 use Rattle.lists.proofs.Sums.{sumTo-more}
 use Rattle.article.specs.declared.pair.Leg.{Leg}
 use Rattle.proposal.specs.Figures.{marginLimit}
-use Rattle.packed.specs.Held.{legAt, entry}
+use Rattle.packed.specs.Packed.{legAt, entry}
 use Rattle.figures.specs.Margins.{MarginsLent, leftMargin, Margins}
 use Rattle.figures.proofs.margins_of.Statement.{statement}
 use Rattle.figures.proofs.margins_of.Tie as tie

@@ -1,96 +1,66 @@
 -- `entry_at` judges a record: its form, the count of its fields, its letter, the values after it. Assumes nothing.
-use mathlib.Core.Path.{_≡_, refl, sym, ap, _∙_}
-use mathlib.Core.Bool.{true}
-use lib.ListN.{length}
 use borrow.Author.Needs.{needs}
 use borrow.Author.Tests.{not-true, not-false}
-use Rattle.csv.specs.Reading.{Split, fields, recordAt, fieldsOf}
-use Rattle.csv.specs.declared.Fields.{Fields}
-use Rattle.csv.proofs.Places.{code-broken, code-formed, code-seven}
 use Rattle.codes.specs.Codes.{cells}
-use Rattle.layout.proofs.Parsing.{parse-broken, parse-other, parse-no-letter, parse-wrong, parse-all, entry-of}
+use Rattle.layout.proofs.Parsing.{Lettered, entry-malformed, entry-other, lettered, entry-unknown, entry-wrong, entry-good}
 use Rattle.layout.proofs.entry_at.Statement.{statement}
 use Rattle.layout.proofs.entry_at.Tie as tie
 
--- the text and the record that was looked at
-module _ (c : tie.After-record) where
-  abbrev start : tie.Start
-  start = c .before .before
+-- a record whose letter was looked up
+module _ (c : tie.After-place-in) where
+  abbrev field : tie.After-field
+  field = c .before .before
 
-  abbrev split : Split
-  split = recordAt (start .args .text .now) (start .args .at)
+  abbrev counted : tie.Else1
+  counted = field .before .before .before
 
--- seven fields
-module _ (c : tie.Else2) where
+  abbrev scanned : tie.After-scanned
+  scanned = counted .before .before
+
   abbrev looked : tie.After-record
-  looked = c .before .before .before .before
+  looked = scanned .before .before
 
-  formed : looked .«record» .result .formed ≡ true
-  formed = not-false _ (c .before .before .if1 .left)
+  abbrev start : tie.Start
+  start = looked .before .before .before .before
 
-  seven : split looked ≡ fields (looked .«record» .result .spans) (looked .«record» .result .next)
-  seven = code-seven (split looked) _ (looked .«record» .ensures) formed (c .if2 .left)
-
-  long : length (looked .«record» .result .spans) ≡ 7
-  unfolding fieldsOf
-  long = sym (ap (λ (f : Fields). f .count) (looked .«record» .ensures ∙ ap fieldsOf seven)) ∙ c .if2 .left
+  placed : Lettered (start .args .text .now) (start .args .at) (looked .«record» .last .1 .1 .0) (looked .«record» .last .1 .1 .1 .0) (c .place-in .result) (scanned .scanned .given .0 .1 .0)
+  unfolding cells
+  placed = lettered _ _ _ _ _ _ (looked .«record» .ensures) (scanned .scanned .given .1) (counted .if1 .left) (field .field .ensures) (c .place-in .ensures)
 
 returns : tie.Need-returns
-returns c =
-    let looked = c .before .before .before in
-    entry-of _ (split looked) (looked .«record» .ensures) (c .refused .ensures)
-    (parse-broken _ (code-broken (split looked) _ (looked .«record» .ensures) (not-true _ (c .before .if1 .taken))))
+returns c = rw (c .refused .ensures) (entry-malformed _ _ _ _ _ _ (c .before .before .before .«record» .ensures) (c .before .enum-told .given .1) _)
 
 returns-2 : tie.Need-returns-2
 returns-2 c =
-    let looked = c .before .before .before .before .before in
-    let (ss, is, count) = code-formed (split looked) _ (looked .«record» .ensures) (not-false _ (c .before .before .before .if1 .left)) in
-    entry-of _ (split looked) (looked .«record» .ensures) (c .refused2 .ensures) (parse-other _ ss _ is (λ e. c .before .if2 .taken (sym count ∙ e)))
+    let read = c .before .before .before in
+    rw (c .refused2 .ensures) (entry-other _ _ _ _ _ _ (read .before .before .«record» .ensures) (read .scanned .given .1) (c .before .if1 .taken) _)
 
 returns-3 : tie.Need-returns-3
-unfolding cells
-returns-3 c =
-    let placed = c .before .before .before in
-    let field = placed .before .before in
-    let at = field .before .before .before in
-    entry-of _ (split (looked at)) (looked at .«record» .ensures) (c .refused3 .ensures)
-    (parse-no-letter _ _ _ (seven at) (long at) (field .field .ensures) (sym (c .before .enum-told .given .1) ∙ placed .place-in .ensures))
+returns-3 c = rw (c .refused3 .ensures) (entry-unknown (placed (c .before .before .before)) (c .before .enum-told2 .given .1) _)
 
 returns-4 : tie.Need-returns-4
-unfolding cells
 returns-4 c =
-    let found = c .before .before .before in
-    let lettered = found .before in
-    let placed = lettered .before .before .before in
-    let field = placed .before .before in
-    let at = field .before .before .before in
-    entry-of _ (split (looked at)) (looked at .«record» .ensures) (c .refused4 .ensures)
-    (parse-wrong _ _ _ (seven at) (long at) (field .field .ensures) _ (sym (lettered .before .place .given .1) ∙ placed .place-in .ensures) _ (found .values-after .ensures)
-    (not-true _ (c .before .if3 .taken)))
+    let found = c .before .before in
+    let named = found .before .before .before .before .before in
+    rw (c .refused4 .ensures) (entry-wrong (placed (named .before .before)) (named .place .given .1) _ _ (found .values-after .ensures) (not-true _ (c .before .if2 .taken)))
 
 returns-5 : tie.Need-returns-5
-unfolding cells
 returns-5 c =
-    let good = c .before .before in
-    let found = good .before .before in
-    let lettered = found .before in
-    let placed = lettered .before .before .before in
-    let field = placed .before .before in
-    let at = field .before .before .before in
-    entry-of _ (split (looked at)) (looked at .«record» .ensures) refl
-    (c .parsed-by .ensures ∙ parse-all _ _ _ (seven at) (long at) (field .field .ensures) _ (sym (lettered .before .place .given .1) ∙ placed .place-in .ensures) _ (found .values-after .ensures)
-    (not-false _ (good .if3 .left)))
+    let found = c .before in
+    let named = found .before .before .before .before .before in
+    entry-good (placed (named .before .before)) (named .place .given .1) _ _ (found .values-after .ensures) (not-false _ (c .if2 .left))
 
 pub entry-at-spec : {M : Type 1} → statement M
 entry-at-spec =
     tie.close
     (tie.spec
     (λ c κs. search needs)
+    (λ c. search needs)
+    (λ c. search needs)
     (λ c κs. search needs)
     returns
     (λ c κs. search needs)
     returns-2
-    (λ c. search needs)
     (λ c κs. search needs)
     (λ c. search needs)
     (λ c κs. search needs)
@@ -101,5 +71,4 @@ entry-at-spec =
     (λ c κs. search needs)
     (λ c κs. search needs)
     returns-4
-    (λ c κs. search needs)
     returns-5)

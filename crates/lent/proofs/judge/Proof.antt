@@ -2,8 +2,8 @@
 use borrow.Author.Needs.{needs}
 use Rattle.words.specs.Words.{entries}
 use Rattle.columns.specs.Columns.{countIn}
-use Rattle.lent.specs.Lists.{Lent, makeLent}
-use Rattle.lent.specs.Boundary.{two, sizesOf}
+use Rattle.lent.specs.Boundary.{Lent, makeLent}
+use Rattle.lent.specs.Boundary.{writtenLists, two}
 use Rattle.lent.proofs.Checked.{refused-checks, remainder-room, ranking-room, accepted-checks}
 use Rattle.lent.proofs.judge.Statement.{statement}
 use Rattle.lent.proofs.judge.Tie as tie
@@ -22,7 +22,7 @@ lists c =
     makeLent (start .args .remainder .now) (start .args .ranking .now) (start .args .answer .now)
 
 returns : tie.Need-returns
-unfolding countIn entries two sizesOf
+unfolding countIn entries two writtenLists
 returns c =
     let a = c .before .before in
     let q = a .before .before .before .before in
@@ -41,12 +41,12 @@ judge-spec =
     (λ c κs.
     let v = c .before .before .before in
     let k = checked (v .before .before) in
-    unfold countIn entries two sizesOf in
+    unfold countIn entries two writtenLists in
     remainder-room _ (lists (tested k)) (tested k .lists-too-short .ensures) (k .check .ensures) (v .verdict .given .1))
     (λ c κs.
     let v = c .before .before .before .before .before .before .before .before in
     let k = checked (v .before .before) in
-    unfold countIn entries two sizesOf in
+    unfold countIn entries two writtenLists in
     ranking-room _ (lists (tested k)) (tested k .lists-too-short .ensures) (k .check .ensures) (v .verdict .given .1))
     (λ c κs. search needs)
     (λ c. search needs)
@@ -68,5 +68,5 @@ judge-spec =
     let a = c .before .before in
     let v = a .before .before .before in
     let k = checked (v .before .before) in
-    unfold countIn entries two sizesOf in
+    unfold countIn entries two writtenLists in
     refused-checks _ _ (tested k .lists-too-short .ensures) (k .check .ensures) (v .verdict2 .given .1) (a .put-answer2 .ensures)))

@@ -1,6 +1,6 @@
 -- Document 01, "Edges": the sentences marked * for proof. Assumes nothing.
-use mathlib.Core.List.{List, [], _∷_}
-use Rattle.edges.specs.Cases.{Case, rate, pair, no-pair, proposal, figures, prints, row, L, S, B, C, R, CA, ON, QC, file, file-lines}
+use mathlib.Core.List.{List, [], _∷_, _++_}
+use Rattle.edges.proofs.Cases.{Case, rate, pair, no-pair, proposal, figures, prints, H, P, row, L, S, B, C, R, CA, ON, QC, file, file-lines}
 
 -- from raw numbers on
 unfoldable pub starred : List Case
@@ -44,6 +44,6 @@ unfoldable pub starredFile : List Case
 starredFile =
     prints
     "* the file, from its bytes to the bytes that are printed"
-    "H,L,C,CA,2000,1000000,0\r\nH,S,B,CA,2000,600000,5840\r\nH,S,R,ON,2000,300000,6570\r\nP,0,1,600000,,,\r\nP,0,2,300000,,,\r\n"
+    (H "L,C,CA,2000,1000000,0" ++ H "S,B,CA,2000,600000,5840" ++ H "S,R,ON,2000,300000,6570" ++ P "0,1,600000" ++ P "0,2,300000")
     "M,3285000000,22500\r\nR,0,100000,438000000\r\nR,1,0,0\r\nR,2,0,0\r\n"
     ∷ []

@@ -4,11 +4,11 @@ use mathlib.Core.Bool.{true, false}
 use mathlib.Core.List.{List, [], _∷_, _++_, map}
 use Prim.Native.Nat.{ℕ}
 use lib.ListN.{take, drop, set, replicate}
+use Rattle.lists.specs.Texts.{ascii}
 use Rattle.holding.specs.declared.Row.{Row}
 use Rattle.layout.specs.declared.Sort.the-variants.{Side, Kind, Issuer}
-use Rattle.layout.specs.declared.Parsed.{Parsed}
-use Rattle.layout.specs.declared.Parsed.the-variants.{Holding, Line as Lined}
-use Rattle.edges.specs.Cases.{Case, rate, fault, pair, no-pair, proposal, lent, figures, prints, prints-bytes, record-at, code, letter, byte, decodes, encodes, lengths, columns, slice, answers, line, row, L, S, B, C, R, CA, ON, QC, file, file-lines}
+use Rattle.layout.specs.Layout.{Meaning, good}
+use Rattle.edges.proofs.Cases.{Case, rate, fault, pair, no-pair, proposal, lent, figures, prints, record-at, code, letter, byte, decodes, encodes, lengths, columns, slice, answers, emptyFields, H, P, unended, line, row, L, S, B, C, R, CA, ON, QC, file, file-lines}
 
 -- the book of "Largest saving first", and prices that cover it
 abbrev four : List Row
@@ -26,11 +26,11 @@ abbrev bonds : List Row
 bonds = row L B CA 1 2 ∷ row S B CA 1 2 ∷ []
 
 -- an H and a P as parsed
-abbrev holding : Parsed
-holding = Holding (row L B CA 1 1) 0
+abbrev holding : Meaning
+holding = good 0 (L ∷ B ∷ CA ∷ 1 ∷ 1 ∷ 0 ∷ [])
 
-abbrev pairing : Parsed
-pairing = Lined (line 0 0 1)
+abbrev pairing : Meaning
+pairing = good 1 (0 ∷ 0 ∷ 1 ∷ [])
 
 -- the byte lengths for two holdings and one line: each column of the holdings, each of the lines, the two lists and the answer
 abbrev right : List ℕ
@@ -77,7 +77,7 @@ thirdPrice =
     proposal "third price 6,569, from the numbers" file (0 ∷ 5840 ∷ 6569 ∷ []) (file-lines 600000) (16 ∷ 0 ∷ 2 ∷ [])
     ∷ prints
     "third price 6,569"
-    "H,L,C,CA,2000,1000000,0\r\nH,S,B,CA,2000,600000,5840\r\nH,S,R,ON,2000,300000,6569\r\nP,0,1,600000,,,\r\nP,0,2,300000,,,\r\n"
+    (H "L,C,CA,2000,1000000,0" ++ H "S,B,CA,2000,600000,5840" ++ H "S,R,ON,2000,300000,6569" ++ P "0,1,600000" ++ P "0,2,300000")
     "X,16,0,2\r\n"
     ∷ []
 
@@ -87,7 +87,7 @@ firstPrice =
     proposal "first price 1, from the numbers" file (1 ∷ 5840 ∷ 6570 ∷ []) (file-lines 600000) (17 ∷ 0 ∷ 0 ∷ [])
     ∷ prints
     "first price 1"
-    "H,L,C,CA,2000,1000000,1\r\nH,S,B,CA,2000,600000,5840\r\nH,S,R,ON,2000,300000,6570\r\nP,0,1,600000,,,\r\nP,0,2,300000,,,\r\n"
+    (H "L,C,CA,2000,1000000,1" ++ H "S,B,CA,2000,600000,5840" ++ H "S,R,ON,2000,300000,6570" ++ P "0,1,600000" ++ P "0,2,300000")
     "X,17,0,0\r\n"
     ∷ []
 
@@ -97,53 +97,53 @@ firstAmount =
     proposal "first amount 600,001, from the numbers" file (0 ∷ 5840 ∷ 6570 ∷ []) (file-lines 600001) (15 ∷ 0 ∷ 0 ∷ [])
     ∷ prints
     "first amount 600,001"
-    "H,L,C,CA,2000,1000000,0\r\nH,S,B,CA,2000,600000,5840\r\nH,S,R,ON,2000,300000,6570\r\nP,0,1,600001,,,\r\nP,0,2,300000,,,\r\n"
+    (H "L,C,CA,2000,1000000,0" ++ H "S,B,CA,2000,600000,5840" ++ H "S,R,ON,2000,300000,6570" ++ P "0,1,600001" ++ P "0,2,300000")
     "X,15,0,0\r\n"
     ∷ []
 
 -- 18 longer than 65,536 bytes, whatever it holds
 unfoldable pub tooLong : List Case
 tooLong =
-    prints-bytes "65,537 commas" (replicate 65537 0x2C) "X,18,0,0\r\n"
+    prints "65,537 commas" (replicate 65537 0x2C) "X,18,0,0\r\n"
     ∷ []
 
 -- from the bytes of a file to the bytes that are printed
 unfoldable pub files : List Case
 files =
     -- the last CRLF is optional, and a quoted field is its text
-    prints "quotes, and no CRLF at the end" "H,\"L\",C,CA,1,1,0\r\nH,S,\"B\",CA,1,1,8\r\nP,0,1,1,\"\",," "M,2,1\r\nR,0,0,0\r\nR,1,0,0\r\n"
+    prints "quotes, and no CRLF at the end" (H "\"L\",C,CA,1,1,0" ++ H "S,\"B\",CA,1,1,8" ++ ascii "P,0,1,1,\"\"" ++ drop 1 emptyFields) "M,2,1\r\nR,0,0,0\r\nR,1,0,0\r\n"
     -- 0 or 36,501 days: 7. Value 100,000,000,001: 8
-    ∷ prints "a file with 0 days" "H,L,R,ON,0,100,0\r\n" "X,7,0,0\r\n"
-    ∷ prints "a file with 36,501 days" "H,L,R,ON,36501,100,0\r\n" "X,7,0,0\r\n"
-    ∷ prints "a file with value 100,000,000,001" "H,L,B,CA,1,100000000001,0\r\n" "X,8,0,0\r\n"
+    ∷ prints "a file with 0 days" (H "L,R,ON,0,100,0") "X,7,0,0\r\n"
+    ∷ prints "a file with 36,501 days" (H "L,R,ON,36501,100,0") "X,7,0,0\r\n"
+    ∷ prints "a file with value 100,000,000,001" (H "L,B,CA,1,100000000001,0") "X,8,0,0\r\n"
     -- an empty file is the empty book, for which M,0,0 is printed alone; a lone CRLF is a record of one field
-    ∷ prints "the empty file" "" "M,0,0\r\n"
-    ∷ prints "a lone CRLF" "\r\n" "X,20,0,0\r\n"
+    ∷ prints "the empty file" [] "M,0,0\r\n"
+    ∷ prints "a lone CRLF" (ascii "\r\n") "X,20,0,0\r\n"
     -- 19 a bare line feed; 21 a leading zero; 22 H after P, each at its record
-    ∷ prints "a bare line feed" "H,L,B,CA,1,1,0\r\nH,L,B,CA,1,1,0\n" "X,19,1,0\r\n"
-    ∷ prints "a leading zero" "H,L,B,CA,1,1,0\r\nH,L,B,CA,01,1,0\r\n" "X,21,1,0\r\n"
-    ∷ prints "H after P" "H,L,B,CA,1,1,0\r\nP,0,0,1,,,\r\nH,L,B,CA,1,1,0\r\n" "X,22,2,0\r\n"
+    ∷ prints "a bare line feed" (H "L,B,CA,1,1,0" ++ unended (H "L,B,CA,1,1,0") ++ ascii "\n") "X,19,1,0\r\n"
+    ∷ prints "a leading zero" (H "L,B,CA,1,1,0" ++ H "L,B,CA,01,1,0") "X,21,1,0\r\n"
+    ∷ prints "H after P" (H "L,B,CA,1,1,0" ++ P "0,0,1" ++ H "L,B,CA,1,1,0") "X,22,2,0\r\n"
     -- R goes by the ranking
-    ∷ prints "R in ranking order" "H,L,B,CA,1,1,0\r\nH,L,B,CA,1,3,0\r\n" "M,16,1\r\nR,1,3,12\r\nR,0,1,4\r\n"
+    ∷ prints "R in ranking order" (H "L,B,CA,1,1,0" ++ H "L,B,CA,1,3,0") "M,16,1\r\nR,1,3,12\r\nR,0,1,4\r\n"
     ∷ []
 
 -- one record at fault: how long a numeral may be, and 19, 20, 21 each at its record and before the next
 unfoldable pub recordFaults : List Case
 recordFaults =
-    prints "an unknown letter" "Q,L,B,CA,1,1,0\r\n" "X,21,0,0\r\n"
-    ∷ prints "eight fields, at record 1" "H,L,B,CA,1,1,0\r\nH,L,B,CA,1,1,0,\r\n" "X,20,1,0\r\n"
-    ∷ prints "days of seven digits" "H,L,B,CA,1000000,1,0\r\n" "X,21,0,0\r\n"
-    ∷ prints "days of six digits" "H,L,B,CA,999999,1,0\r\n" "X,7,0,0\r\n"
-    ∷ prints "a value of 13 digits" "H,L,B,CA,1,1000000000000,0\r\n" "X,21,0,0\r\n"
-    ∷ prints "a value of 12 digits" "H,L,B,CA,1,999999999999,0\r\n" "X,8,0,0\r\n"
-    ∷ prints "a price of seven digits" "H,L,B,CA,1,1,1000000\r\n" "X,21,0,0\r\n"
-    ∷ prints "a price of six digits, at holding 1" "H,L,B,CA,1,1,43800\r\nH,L,B,CA,1,1,999999\r\n" "X,10,1,0\r\n"
-    ∷ prints "an amount of 13 digits" "P,0,0,1000000000000,,,\r\n" "X,21,0,0\r\n"
-    ∷ prints "a number of seven digits" "P,0,1000000,1,,,\r\n" "X,21,0,0\r\n"
-    ∷ prints "a fifth field that is filled" "P,0,0,1,0,,\r\n" "X,21,0,0\r\n"
-    ∷ prints "a record is finished before the next" "H,L,B,CA,01,1,0\r\nH,L,B,CA,1,1,0\n" "X,21,0,0\r\n"
-    ∷ prints "19 before 20" "H,L,B,CA,1,1,0,,\n" "X,19,0,0\r\n"
-    ∷ prints "20 before 21" "Q,L,B,CA,1,1\r\n" "X,20,0,0\r\n"
+    prints "an unknown letter" (ascii "Q" ++ drop 1 (H "L,B,CA,1,1,0")) "X,21,0,0\r\n"
+    ∷ prints "eight fields, at record 1" (H "L,B,CA,1,1,0" ++ H "L,B,CA,1,1,0,") "X,20,1,0\r\n"
+    ∷ prints "days of seven digits" (H "L,B,CA,1000000,1,0") "X,21,0,0\r\n"
+    ∷ prints "days of six digits" (H "L,B,CA,999999,1,0") "X,7,0,0\r\n"
+    ∷ prints "a value of 13 digits" (H "L,B,CA,1,1000000000000,0") "X,21,0,0\r\n"
+    ∷ prints "a value of 12 digits" (H "L,B,CA,1,999999999999,0") "X,8,0,0\r\n"
+    ∷ prints "a price of seven digits" (H "L,B,CA,1,1,1000000") "X,21,0,0\r\n"
+    ∷ prints "a price of six digits, at holding 1" (H "L,B,CA,1,1,43800" ++ H "L,B,CA,1,1,999999") "X,10,1,0\r\n"
+    ∷ prints "an amount of 13 digits" (P "0,0,1000000000000") "X,21,0,0\r\n"
+    ∷ prints "a number of seven digits" (P "0,1000000,1") "X,21,0,0\r\n"
+    ∷ prints "a fifth field that is filled" (ascii "P,0,0,1,0" ++ drop 1 emptyFields ++ ascii "\r\n") "X,21,0,0\r\n"
+    ∷ prints "a record is finished before the next" (H "L,B,CA,01,1,0" ++ unended (H "L,B,CA,1,1,0") ++ ascii "\n") "X,21,0,0\r\n"
+    ∷ prints "19 before 20" (unended (H "L,B,CA,1,1,0,,") ++ ascii "\n") "X,19,0,0\r\n"
+    ∷ prints "20 before 21" (ascii "Q" ++ drop 1 (H "L,B,CA,1,1")) "X,20,0,0\r\n"
     ∷ []
 
 -- what a host lends: 1 for columns that differ or hold no whole numbers, 2 for lists that are too short; what columns hold; the answer slice; what the reader answers
@@ -157,9 +157,11 @@ lending =
     ∷ columns "the columns, each number by its name" (row 1 2 3 4 5 ∷ []) (6 ∷ []) (line 7 8 9 ∷ []) (1 ∷ 2 ∷ 3 ∷ 4 ∷ 5 ∷ 6 ∷ 7 ∷ 8 ∷ 9 ∷ 1 ∷ 2 ∷ 3 ∷ 4 ∷ 5 ∷ 6 ∷ 7 ∷ 8 ∷ 9 ∷ [])
     ∷ slice "15 bytes stay as they were" (replicate 15 9) (replicate 15 9)
     ∷ slice "20 bytes keep the last four" (replicate 20 9) (1 ∷ 0 ∷ 0 ∷ 0 ∷ 0 ∷ 0 ∷ 0 ∷ 0 ∷ 2 ∷ 0 ∷ 0 ∷ 0 ∷ 0 ∷ 0 ∷ 0 ∷ 0 ∷ 9 ∷ 9 ∷ 9 ∷ 9 ∷ [])
-    ∷ answers "read: two holdings, one line" false "H,L,B,CA,1,1,0\r\nH,L,B,CA,1,1,0\r\nP,0,0,1,,,\r\n" (0 ∷ 2 ∷ 1 ∷ [])
-    ∷ answers "read, and a list too short" true "H,L,B,CA,1,1,0\r\n" (2 ∷ 0 ∷ 0 ∷ [])
-    ∷ answers "a bad record before a list too short" true "H,L,B,CA,1,1,0\r\nH,L,B,CA,01,1,0\r\n" (21 ∷ 1 ∷ 0 ∷ [])
+    ∷ answers "read: two holdings, one line" right (H "L,B,CA,1,1,0" ++ H "L,B,CA,1,1,0" ++ P "0,0,1") 16 (0 ∷ 2 ∷ 1 ∷ [])
+    ∷ answers "read, and a price column too short" (set right 5 15) (H "L,B,CA,1,1,0" ++ H "L,B,CA,1,1,0") 16 (2 ∷ 0 ∷ 0 ∷ [])
+    ∷ answers "read, and a column of amounts too short" (set right 8 15) (H "L,B,CA,1,1,0" ++ P "0,0,1" ++ P "0,0,1") 16 (2 ∷ 0 ∷ 0 ∷ [])
+    ∷ answers "read, and an answer of 15 bytes" right (H "L,B,CA,1,1,0") 15 (2 ∷ 0 ∷ 0 ∷ [])
+    ∷ answers "a bad record before a list too short" [] (H "L,B,CA,1,1,0" ++ H "L,B,CA,01,1,0") 16 (21 ∷ 1 ∷ 0 ∷ [])
     ∷ []
 
 -- one record too many: the reader's 3 and 9 name no place, and 22 comes before 3

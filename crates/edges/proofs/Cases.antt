@@ -2,10 +2,11 @@
 use mathlib.Core.Path.{_≡_}
 use mathlib.Core.Bool.{Bool, true, false, cond, not}
 use mathlib.Core.List.{List, [], _∷_, _++_, map, flatMap}
-use Prim.Native.Nat.{ℕ}
+use Prim.Native.Nat.{ℕ, _-_}
 use Prim.Native.String.{String}
 use lib.Dec.{eqb}
-use lib.ListN.{getD, take, drop, replicate}
+use lib.ListN.{length, getD, take, drop, replicate}
+use Rattle.lists.specs.Tables.{zeros}
 use Rattle.lists.specs.Choice.{same, firstOf}
 use Rattle.lists.specs.Texts.{ascii}
 use Rattle.words.specs.Words.{decode, encode}
@@ -21,15 +22,15 @@ use Rattle.proposal.specs.Outcome.{outcome}
 use Rattle.codes.specs.Codes.{placeOf}
 use Rattle.csv.specs.Bytes.{isText, isQuotable}
 use Rattle.layout.specs.Sorts.{byPlace, valueOf}
-use Rattle.layout.specs.Layout.{letters}
+use Rattle.layout.specs.Layout.{letters, Meaning}
 use Rattle.layout.specs.declared.Sort.{Sort}
 use Rattle.layout.specs.declared.Value.{Value}
 use Rattle.layout.specs.declared.Value.the-variants.{Of, Wrong}
-use Rattle.layout.specs.declared.Parsed.{Parsed}
-use Rattle.columns.specs.Columns.{makeColumns, submission, filled}
-use Rattle.sizes.specs.Sizes.{entriesOf, tooShort, lengthFault}
-use Rattle.lent.specs.Lists.{answered}
-use Rattle.reader.specs.File.{atRecord, readAnswer}
+use Rattle.columns.specs.Columns.{Columns, makeColumns, submission, holdingSizes, lineSizes, listsOf, filled}
+use Rattle.sizes.specs.Sizes.{tooShort, lengthFault}
+use Rattle.lent.specs.Boundary.{makeLent, answered}
+use Rattle.lent.specs.Boundary.{two}
+use Rattle.reader.specs.File.{submissionIn, atRecord, readAnswer}
 use Rattle.report.specs.Report.{answerNumbers}
 use Rattle.printing.specs.Printed.{printed}
 
@@ -106,15 +107,11 @@ lent name one two rows lines expected = record { name = name; computed = judged 
 abbrev pub figures : String → List Row → List Line → List ℕ → Case
 figures name rows lines expected = record { name = name; computed = worked rows lines; stated = expected }
 
-abbrev pub prints : String → String → String → Case
-prints name text expected = record { name = name; computed = printed (ascii text); stated = ascii expected }
-
--- the same of a text that is given as its bytes
-abbrev pub prints-bytes : String → List ℕ → String → Case
-prints-bytes name text expected = record { name = name; computed = printed text; stated = ascii expected }
+abbrev pub prints : String → List ℕ → String → Case
+prints name text expected = record { name = name; computed = printed text; stated = ascii expected }
 
 -- the refusal of a record among those that are parsed, with its place
-abbrev pub record-at : String → List Parsed → ℕ → List ℕ → Case
+abbrev pub record-at : String → List Meaning → ℕ → List ℕ → Case
 record-at name parsed n expected = record { name = name; computed = answerNumbers (firstOf (atRecord parsed n) (makeAnswer 0 0 0)); stated = expected }
 
 -- the numbers of texts of a sort, of records' letters, and whether bytes are TEXTDATA and may stand in quotes as they are
@@ -138,10 +135,15 @@ decodes name bytes numbers = record { name = name; computed = decode bytes; stat
 abbrev pub encodes : String → List ℕ → List ℕ → Case
 encodes name numbers bytes = record { name = name; computed = encode numbers; stated = bytes }
 
--- the one refusal by each of several lengths of what a host lends: six columns of holdings, three of lines, the two lists and the answer
+-- columns of so many zero bytes each: five of holdings, the prices, three of lines
+abbrev blank : List ℕ → Columns
+blank z = makeColumns (map zeros (take 5 z)) (zeros (getD z 5 0)) (map zeros (take 3 (drop 6 z)))
+
+-- the one refusal by each of several lengths of what a host lends: of nine columns, the two lists and the answer
 abbrev pub lengths : String → List (List ℕ) → ℕ → Case
 lengths name zs n =
-    let found : List ℕ → ℕ = λ z. lengthFault (take 6 z) (take 3 (drop 6 z)) (tooShort (map (λ size. (entriesOf z, size)) (take 2 (drop 9 z))) (getD z 11 0)) in
+    let short : List ℕ → Bool = λ z. two (blank z) (makeLent (zeros (getD z 9 0)) (zeros (getD z 10 0)) (zeros (getD z 11 0))) in
+    let found : List ℕ → ℕ = λ z. lengthFault (holdingSizes (blank z)) (lineSizes (blank z)) (short z) in
     record { name = name; computed = map found zs; stated = map (λ _. n) zs }
 
 -- what is submitted, written into columns: the numbers of each column in turn, and what the columns then hold, each number by its name
@@ -155,9 +157,24 @@ columns name rows prices lines expected =
 abbrev pub slice : String → List ℕ → List ℕ → Case
 slice name old expected = record { name = name; computed = answered (makeAnswer 16 1 2) old; stated = expected }
 
--- what the reader answers to a text, by whether a lent list is too short
-abbrev pub answers : String → Bool → String → List ℕ → Case
-answers name two text expected = record { name = name; computed = answerNumbers (readAnswer two (ascii text)); stated = expected }
+-- what the reader answers to a text and to columns of so many bytes, with an answer slice
+abbrev pub answers : String → List ℕ → List ℕ → ℕ → List ℕ → Case
+answers name sizes text slice expected =
+    record { name = name; computed = answerNumbers (readAnswer (tooShort (listsOf (submissionIn text) (blank sizes)) slice) text); stated = expected }
+
+-- an H and a P of the file by the fields that are filled: the empty ones follow, and CRLF
+abbrev pub emptyFields : List ℕ
+emptyFields = ascii ",,,"
+
+abbrev pub H : String → List ℕ
+H filled = ascii "H," ++ ascii filled ++ ascii "\r\n"
+
+abbrev pub P : String → List ℕ
+P filled = ascii "P," ++ ascii filled ++ emptyFields ++ ascii "\r\n"
+
+-- a record without its CRLF
+abbrev pub unended : List ℕ → List ℕ
+unended text = take (length text - 2) text
 
 -- long, short, amount
 abbrev pub line : ℕ → ℕ → ℕ → Line

@@ -1,4 +1,0 @@
-pub mod Cases
-pub mod Starred
-pub mod Others
-pub mod Edges

@@ -1,0 +1,100 @@
+-- What the reader answers, by the refusals of the file and by the lengths of the lists, and what its contents are then. Assumes nothing.
+use mathlib.Core.Path.{_≡_, refl, sym, ap, subst, _∙_}
+use mathlib.Core.Logic.{_↔_, _≢_}
+use mathlib.Core.Bool.{Bool, true, false, cond}
+use mathlib.Core.List.{List, [], _∷_}
+use Prim.Native.Nat.{ℕ, _≤_}
+use native.Mathlib.Omega.{arith}
+use lib.ListN.{length, length-map}
+use borrow.Author.Tests.{eq-eqb}
+use Rattle.lists.specs.Choice.{firstOf}
+use Rattle.lists.proofs.Tests.{same-or-not}
+use Rattle.lists.proofs.Firsts.{first-append, first-refused, first-of-none}
+use Rattle.article.specs.Answer.{Answer, makeAnswer}
+use Rattle.holding.specs.Holding.{rowBy}
+use Rattle.proposal.specs.Submission.{lineBy}
+use Rattle.proposal.proofs.Clear.{number}
+use Rattle.reader.specs.File.{parsedIn, valuesBy, submissionOf, submissionIn, fileFaults, fileFault, readAnswer, contentsAnswer, contentsOf, ReadsFile}
+use Rattle.reader.specs.declared.Contents.{Contents}
+use Rattle.reader.specs.declared.Contents.the-variants.{Read, Refused}
+use Rattle.readable.proofs.Numbers.{none-exactly}
+
+module _ (text : List ℕ) (two : Bool) where
+  abbrev counts : Answer
+  counts = makeAnswer 0 (length (submissionIn text .rows)) (length (submissionIn text .lines))
+
+  pub answer-refused : fileFault text .number ≢ 0 → readAnswer two text ≡ fileFault text
+  unfolding readAnswer fileFault
+  answer-refused h =
+      first-append (fileFaults text) ((two, makeAnswer 2 0 0) ∷ []) _
+      ∙ first-refused number (fileFaults text) (makeAnswer 0 0 0) _ refl h
+
+  pub answer-none : fileFault text .number ≡ 0 → readAnswer two text ≡ cond two (makeAnswer 2 0 0) counts
+  unfolding readAnswer firstOf
+  answer-none e = first-append (fileFaults text) ((two, makeAnswer 2 0 0) ∷ []) _ ∙ first-of-none (fileFaults text) _ (none-exactly text .0 e)
+
+  pub answer-exactly : (readAnswer two text .number ≡ 0) ↔ ((fileFault text .number ≡ 0) × (two ≡ false))
+  answer-exactly = (
+    λ e.
+        same-or-not (fileFault text .number) 0
+        (λ z. (z, by two (sym (ap number (answer-none z)) ∙ e)))
+        (λ z. absurd (z (sym (ap number (answer-refused z)) ∙ e))),
+    λ h. ap number (answer-none (h .0)) ∙ rw (h .1),
+  )
+    where
+      by : (t : Bool) → number (cond t (makeAnswer 2 0 0) counts) ≡ 0 → t ≡ false
+      by true e = absurd (omega arith)
+      by false e = refl
+
+-- contents are not of both cases
+is-refused : Contents → Type 0
+is-refused (Read holdings lines) = ⊥
+is-refused (Refused number place) = Unit {0}
+
+refused-number : {n place : ℕ} (a : Answer) → Refused n place ≡ contentsOf a → a .number ≢ 0
+unfolding contentsOf is-refused
+refused-number a e z = subst is-refused (e ∙ rw (eq-eqb (a .number) 0 z)) tt
+
+module _ {text : List ℕ} {rows : ℕ} {book lines book′ lines′ : List ℕ} {d : Contents} (from-file : ReadsFile text rows book lines book′ lines′ d) where
+  -- a refusal is the file's first
+  pub contents-refused : {n place : ℕ} → d ≡ Refused n place → (n ≢ 0) × (fileFault text ≡ makeAnswer n place 0)
+  contents-refused {n} {place} e =
+      let answer : makeAnswer n place 0 ≡ readAnswer false text = rw e at (from-file .answer) in
+      let other : readAnswer false text .number ≢ 0 = refused-number (readAnswer false text) (sym e ∙ from-file .contents) in
+      let fault : fileFault text .number ≢ 0 = λ z. other (answer-exactly text false .1 (z, refl)) in
+      (λ z. other (sym (ap number answer) ∙ z), sym (answer-refused text false fault) ∙ sym answer)
+
+  -- a file that was read has none, and its counts are those of what is submitted
+  module _ {n m : ℕ} (e : d ≡ Read n m) where
+    answer : makeAnswer 0 n m ≡ readAnswer false text
+    answer = rw e at (from-file .answer)
+
+    pub was-read : contentsAnswer d .number ≡ 0
+    was-read = rw e
+
+    pub no-fault : fileFault text .number ≡ 0
+    no-fault = answer-exactly text false .0 (sym (ap number answer)) .0
+
+    counted : makeAnswer 0 n m ≡ counts text false
+    counted = answer ∙ answer-none text false no-fault
+
+    pub holdings-counted : length (submissionIn text .rows) ≡ n
+    holdings-counted = sym (ap (λ (a : Answer). a .first) counted)
+
+    pub lines-counted : length (submissionIn text .lines) ≡ m
+    lines-counted = sym (ap (λ (a : Answer). a .second) counted)
+
+    -- so are those of the values, which the tables hold
+    pub holdings-held : length (valuesBy 0 (parsedIn text)) ≡ n
+    unfolding submissionOf
+    holdings-held = sym (length-map (valuesBy 0 (parsedIn text)) rowBy) ∙ holdings-counted
+
+    pub lines-held : length (valuesBy 1 (parsedIn text)) ≡ m
+    unfolding submissionOf
+    lines-held = sym (length-map (valuesBy 1 (parsedIn text)) lineBy) ∙ lines-counted
+
+    pub few-holdings : n ≤ rows
+    few-holdings = rw holdings-held at (from-file .few-holdings was-read)
+
+    pub few-lines : m ≤ rows
+    few-lines = rw lines-held at (from-file .few-lines was-read)
