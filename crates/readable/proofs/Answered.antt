@@ -1,5 +1,5 @@
 -- What the reader answers, by the refusals of the file and by the lengths of the lists, and what its contents are then. Assumes nothing.
-use mathlib.Core.Path.{_≡_, refl, sym, ap, subst, _∙_}
+use mathlib.Core.Path.{_≡_, refl, sym, ap, _∙_}
 use mathlib.Core.Logic.{_↔_, _≢_}
 use mathlib.Core.Bool.{Bool, true, false, cond}
 use mathlib.Core.List.{List, [], _∷_}
@@ -14,6 +14,7 @@ use Rattle.article.specs.Answer.{Answer, makeAnswer}
 use Rattle.holding.specs.Holding.{rowBy}
 use Rattle.proposal.specs.Submission.{lineBy}
 use Rattle.proposal.proofs.Clear.{number}
+use Rattle.csv.proofs.Places.{clash}
 use Rattle.reader.specs.File.{parsedIn, valuesBy, submissionOf, submissionIn, fileFaults, fileFault, readAnswer, contentsAnswer, contentsOf, ReadsFile}
 use Rattle.reader.specs.declared.Contents.{Contents}
 use Rattle.reader.specs.declared.Contents.the-variants.{Read, Refused}
@@ -47,13 +48,11 @@ module _ (text : List ℕ) (two : Bool) where
       by false e = refl
 
 -- contents are not of both cases
-is-refused : Contents → Type 0
-is-refused (Read holdings lines) = ⊥
-is-refused (Refused number place) = Unit {0}
-
 refused-number : {n place : ℕ} (a : Answer) → Refused n place ≡ contentsOf a → a .number ≢ 0
-unfolding contentsOf is-refused
-refused-number a e z = subst is-refused (e ∙ rw (eq-eqb (a .number) 0 z)) tt
+unfolding contentsOf
+refused-number a e z =
+    let read : contentsOf a ≡ Read (a .first) (a .second) = rw (eq-eqb (a .number) 0 z) in
+    clash cc
 
 module _ {text : List ℕ} {rows : ℕ} {book lines book′ lines′ : List ℕ} {d : Contents} (from-file : ReadsFile text rows book lines book′ lines′ d) where
   -- a refusal is the file's first

@@ -1,5 +1,5 @@
 -- Every value of a field has at most twelve digits. Assumes nothing.
-use mathlib.Core.List.{List, [], _∷_}
+use mathlib.Core.List.{List}
 use Prim.Native.Nat.{ℕ, _^_, _<_}
 use native.Mathlib.Omega.{arith}
 use Rattle.lists.specs.Each.{Each}
