@@ -99,13 +99,13 @@ module _ (two : Bool) (side : List ℕ) (rest : List (List ℕ)) (price long : L
     unfolding outcomeIn holdingSizes lineSizes entriesOf
     lengths-fit e =
         let fit = sizes.fits {holdings = holdingSizes c} {lines = lineSizes c} {two = two} (sym found ∙ e) in
-        let (columns, last) = each-parts (λ c. length c ≡ 8 * n) (side ∷ rest) (price ∷ []) (each-back (λ size. size ≡ 8 * n) length _ (fit .equal-holdings)) in
+        let (columns, last) = each-parts (λ c. length c ≡ 8 * n) (side ∷ rest) (price ∷ []) (each-back (λ size. size ≡ 8 * n) length ((side ∷ rest) ++ (price ∷ [])) (fit .equal-holdings)) in
         record {
           few = fit .few-holdings;
           few-lines = fit .few-lines;
           each = long-enough n (side ∷ rest) columns;
           prices = last .0;
-          each-line = long-enough (length long / 8) (long ∷ more) (each-back (λ size. size ≡ 8 * (length long / 8)) length _ (fit .equal-lines));
+          each-line = long-enough (length long / 8) (long ∷ more) (each-back (λ size. size ≡ 8 * (length long / 8)) length (long ∷ more) (fit .equal-lines));
           next = from-holdings (differ (holdingSizes c) (lineSizes c)) two s (fit .alike) (fit .room) (omega (arith, rows-are, fit .few-holdings)) (omega (arith, lines-are, fit .few-lines));
         }
 
