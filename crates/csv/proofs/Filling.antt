@@ -1,80 +1,100 @@
--- The array of spans, filled a field at a time: what the loop over a record's fields keeps. Assumes nothing.
+-- The places of a record's fields, written into two lists a field at a time: what the loop over the fields keeps. Assumes nothing.
 use mathlib.Core.Path.{_≡_, refl, sym, ap, _∙_}
-use mathlib.Core.Logic.{_⊎_, ⊎-elim}
 use mathlib.Core.Bool.{Bool, true, false}
-use mathlib.Core.List.{List, [], _∷_, _++_}
-use Prim.Native.Nat.{ℕ, zero, suc, _+_, _-_, _≤_, _<_}
+use mathlib.Core.List.{List, [], _∷_, _++_, map}
+use Prim.Native.Nat.{ℕ, _+_, _-_, _≤_, _<_}
 use native.Mathlib.Omega.{arith}
-use lib.ListN.{length, take, drop, set, length-set, take-append-drop}
-use lib.Seq.{take-nil, drop-nil, set-out}
+use lib.ListN.{length, take, set, length-append, length-take, length-map}
+use lib.Seq.{take-nil, append-snoc}
 use Rattle.lists.specs.Tables.{front}
-use Rattle.csv.specs.Reading.{fieldAt, Split, fields, malformed, push, onPiece, recordAt, noSpans, fieldsOf}
+use Rattle.lists.proofs.Tables.{front-long}
+use Rattle.csv.specs.Reading.{fieldAt, Split, fields, malformed, push, onPiece, recordAt, fieldCount, Scans}
 use Rattle.csv.specs.declared.Span.{Span}
 use Rattle.csv.specs.declared.Piece.{Piece}
 use Rattle.csv.specs.declared.Piece.the-variants.{Field, Broken}
-use Rattle.csv.specs.declared.Fields.{Fields}
+use Rattle.csv.specs.declared.Scanned.the-variants.{Fields}
 use Rattle.csv.proofs.Pieces.{FieldRead, field-read, reach, ahead}
 use Rattle.csv.proofs.Places.{record-turn, not-last}
 
--- the entries of a row from place n on, as far as it reaches, overwritten
-abbrev overwriteWithin : {A : Type 0} → List A → ℕ → List A → List A
-overwriteWithin row n xs = take n row ++ front (take (length row - n) xs) (drop n row)
+-- fields before those of a record
+abbrev prefixed : List Span → Split → Split
+prefixed done (fields ss next) = fields (done ++ ss) next
+prefixed done malformed = malformed
 
-overwrite-within-more : {A : Type 0} (row : List A) (n : ℕ) (x : A) (xs : List A) → overwriteWithin row n (x ∷ xs) ≡ overwriteWithin (set row n x) (n + 1) xs
+prefixed-push : (done : List Span) (s : Span) (p : Split) → prefixed done (push s p) ≡ prefixed (done ++ (s ∷ [])) p
+prefixed-push done s (fields ss next) = rw append-snoc
+prefixed-push done s malformed = refl
+
+prefixed-none : (p : Split) → p ≡ prefixed [] p
+prefixed-none (fields ss next) = refl
+prefixed-none malformed = refl
+
+-- the starts of fields, or their ends, at the front of a list, as far as it reaches
+pub record Placed (f : Span → ℕ) (done : List Span) (old now : List ℕ) : Type 0 where
+  pub in-front : now ≡ front (map f (take (length old) done)) old
+
+placed-none : (f : Span → ℕ) (old : List ℕ) → Placed f [] old old
 unfolding front
-overwrite-within-more [] n x xs =
-    let a : 0 - n ≡ 0 = omega arith in
-    let b : 0 - (n + 1) ≡ 0 = omega arith in
-    rw (a, b, take-nil n, take-nil (n + 1), drop-nil n, drop-nil (n + 1))
-overwrite-within-more (y ∷ row) zero x xs =
-    let a : suc (length row) - 0 ≡ suc (length row) = omega arith in
-    let b : suc (length row) - 1 ≡ length row = omega arith in
-    rw (a, b)
-overwrite-within-more (y ∷ row) (suc n) x xs =
-    let a : suc (length row) - suc n ≡ length row - n = omega arith in
-    let b : suc (length (set row n x)) - suc (n + 1) ≡ length (set row n x) - (n + 1) = omega arith in
-    let c : suc n + 1 ≡ suc (n + 1) = omega arith in
-    rw (a, c, b) (ap (λ l. y ∷ l) (overwrite-within-more row n x xs))
+placed-none f old = record { in-front = rw take-nil }
 
--- a record as it is handed back, its first n fields being in the row
-abbrev filled : List Span → ℕ → Split → Fields
-filled row n (fields ss next) = record { formed = true; count = n + length ss; spans = overwriteWithin row n ss; next = next }
-filled row n malformed = fieldsOf malformed
+placed-set : (f : Span → ℕ) (done : List Span) (s : Span) (old : List ℕ)
+    → set (front (map f (take (length old) done)) old) (length done) (f s) ≡ front (map f (take (length old) (done ++ (s ∷ [])))) old
+unfolding front
+placed-set f done s [] = refl
+placed-set f [] s (y ∷ old) = rw (take-nil (length old))
+placed-set f (x ∷ done) s (y ∷ old) = ap (λ l. f x ∷ l) (placed-set f done s old)
 
--- what the loop keeps when it comes to place i with n fields in the row: the record from there on completes the one that is asked for
-pub record Filling (text : List ℕ) (at : ℕ) (row : List Span) (n i : ℕ) : Type 0 where
+module _ {f : Span → ℕ} {done : List Span} {old now : List ℕ} (p : Placed f done old now) where
+  -- one field more
+  placed-more : {n : ℕ} (s : Span) {kept : List ℕ} → n ≡ length done → kept ≡ set now n (f s) → Placed f (done ++ (s ∷ [])) old kept
+  placed-more s counted e = record { in-front = e ∙ rw (counted, p .in-front) (placed-set f done s old) }
+
+  -- in a list with room for fieldCount
+  placed-first : length now ≡ fieldCount → now ≡ front (map f (take fieldCount done)) old
+  placed-first room =
+      let firsts = map f (take (length old) done) in
+      let fit : length firsts ≤ length old = simp (length-map, length-take) (omega arith) in
+      let long : length old ≡ fieldCount = omega (arith, ap length (p .in-front), front-long firsts old fit) in
+      rw long at (p .in-front)
+
+-- n fields that are done, with their places in two lists
+pub record Listed (done : List Span) (starts₀ ends₀ starts ends : List ℕ) (n : ℕ) : Type 0 where
+  pub counted : n ≡ length done
+  pub started : Placed (λ s. s .start) done starts₀ starts
+  pub ended : Placed (λ s. s .end) done ends₀ ends
+
+listed-more : {done : List Span} {starts₀ ends₀ starts ends starts′ ends′ : List ℕ} {n : ℕ} (s : Span) → Listed done starts₀ ends₀ starts ends n
+    → starts′ ≡ set starts n (s .start) → ends′ ≡ set ends n (s .end) → Listed (done ++ (s ∷ [])) starts₀ ends₀ starts′ ends′ (n + 1)
+listed-more {done} s l a b = record {
+  counted = omega (arith, length-append done (s ∷ []), l .counted);
+  started = placed-more (l .started) s (l .counted) a;
+  ended = placed-more (l .ended) s (l .counted) b;
+}
+
+-- what the loop keeps when it comes to place i with n fields done: these and the record from there on are the one that is asked for
+pub record Filling (text : List ℕ) (at : ℕ) (starts₀ ends₀ starts ends : List ℕ) (n i : ℕ) : Type 0 where
+  pub done : List Span
+  pub listed : Listed done starts₀ ends₀ starts ends n
   pub not-past : n ≤ i
   pub few : n ≤ length text
-  pub seven : length row ≡ 7
-  pub completes : filled row n (recordAt text i) ≡ fieldsOf (recordAt text at)
+  pub completes : recordAt text at ≡ prefixed done (recordAt text i)
 
-pub filling-none : (text : List ℕ) (at : ℕ) → Filling text at noSpans 0 at
-unfolding fieldsOf
-filling-none text at = record { not-past = omega arith; few = omega arith; seven = refl; completes = go (recordAt text at) }
-  where
-    go : (p : Split) → filled noSpans 0 p ≡ fieldsOf p
-    go (fields ss next) =
-        let c : 0 + length ss ≡ length ss = omega arith in
-        rw c
-    go malformed = refl
-
-filled-push : (row : List Span) (n : ℕ) (s : Span) (p : Split) → filled row n (push s p) ≡ filled (set row n s) (n + 1) p
-filled-push row n s (fields ss next) =
-    let c : n + suc (length ss) ≡ n + 1 + length ss = omega arith in
-    rw (c, overwrite-within-more row n s ss)
-filled-push row n s malformed = refl
-
-filled-last : (row : List Span) (n : ℕ) (s : Span) (next : ℕ) → filled row n (fields (s ∷ []) next) ≡ record { formed = true; count = n + 1; spans = set row n s; next = next }
-unfolding front
-filled-last row n s next = rw (overwrite-within-more row n s [], take-nil (length (set row n s) - (n + 1)), take-append-drop (n + 1) (set row n s))
+pub filling-none : (text : List ℕ) (at : ℕ) (starts ends : List ℕ) → Filling text at starts ends starts ends 0 at
+filling-none text at starts ends = record {
+  done = [];
+  listed = record { counted = refl; started = placed-none _ starts; ended = placed-none _ ends };
+  not-past = omega arith;
+  few = omega arith;
+  completes = prefixed-none (recordAt text at);
+}
 
 -- a turn that finds piece p at i
-module _ {text : List ℕ} {at : ℕ} {row : List Span} {n i : ℕ} (t : Filling text at row n i) where
-  turned : {p : Piece} → p ≡ fieldAt text i → filled row n (onPiece p (recordAt text)) ≡ fieldsOf (recordAt text at)
-  turned e = rw e (rw (← record-turn text i) (t .completes))
+module _ {text : List ℕ} {at : ℕ} {starts₀ ends₀ starts ends : List ℕ} {n i : ℕ} (t : Filling text at starts₀ ends₀ starts ends n i) where
+  turned : {p : Piece} → p ≡ fieldAt text i → recordAt text at ≡ prefixed (t .done) (onPiece p (recordAt text))
+  turned e = t .completes ∙ rw (record-turn text i, e)
 
-  pub filling-broken : {p : Piece} {r : Fields} → p ≡ fieldAt text i → p ≡ Broken → r ≡ fieldsOf malformed → r ≡ fieldsOf (recordAt text at)
-  filling-broken e b m = m ∙ turned (sym b ∙ e)
+  pub filling-broken : {p : Piece} → p ≡ fieldAt text i → p ≡ Broken → recordAt text at ≡ malformed
+  filling-broken e b = turned (sym b ∙ e)
 
   module _ {p : Piece} {s : Span} {last : Bool} {next : ℕ} (e : p ≡ fieldAt text i) (b : p ≡ Field s last next) where
     filling-on : last ≡ false → (i < next) × (next ≤ length text)
@@ -87,20 +107,20 @@ module _ {text : List ℕ} {at : ℕ} {row : List Span} {n i : ℕ} (t : Filling
         let (far, near) = filling-on l in
         omega arith
 
-    -- the row that is kept has the field, where there is a place for it
-    module _ {kept : List Span} {A B : Type 0} (past : B → 7 ≤ n) (came : (A × (kept ≡ set row n s)) ⊎ (B × (kept ≡ row))) where
-      in-place : kept ≡ set row n s
-      in-place = ⊎-elim (λ w. w .1) (λ w. w .1 ∙ sym (set-out row n s (let k = past (w .0) in omega (arith, t .seven)))) came
+    -- the field goes into both lists
+    module _ {starts′ ends′ : List ℕ} (to-starts : starts′ ≡ set starts n (s .start)) (to-ends : ends′ ≡ set ends n (s .end)) where
+      pub filling-last : length starts′ ≡ fieldCount → length ends′ ≡ fieldCount → last ≡ true → Scans (recordAt text at) starts₀ ends₀ starts′ ends′ (Fields (n + 1) next)
+      filling-last room room′ l =
+          let m = listed-more s (t .listed) to-starts to-ends in
+          rw (turned {p = Field s true next} (rw (← l) (sym b ∙ e))) (rw (m .counted), placed-first (m .started) room, placed-first (m .ended) room′)
 
-      pub filling-last : last ≡ true → record { formed = true; count = n + 1; spans = kept; next = next } ≡ fieldsOf (recordAt text at)
-      filling-last l = rw in-place (sym (filled-last row n s next) ∙ turned {p = Field s true next} (rw (← l) (sym b ∙ e)))
-
-      pub filling-more : last ≡ false → Filling text at kept (n + 1) next
+      pub filling-more : last ≡ false → Filling text at starts₀ ends₀ starts′ ends′ (n + 1) next
       filling-more l =
           let (far, near) = filling-on l in
           record {
+            done = t .done ++ (s ∷ []);
+            listed = listed-more s (t .listed) to-starts to-ends;
             not-past = omega (arith, t .not-past);
             few = omega (arith, t .not-past);
-            seven = ap length in-place ∙ length-set row n s ∙ t .seven;
-            completes = rw in-place (sym (filled-push row n s (recordAt text next)) ∙ turned {p = Field s false next} (rw (← l) (sym b ∙ e)));
+            completes = turned {p = Field s false next} (rw (← l) (sym b ∙ e)) ∙ prefixed-push (t .done) s (recordAt text next);
           }

@@ -1,19 +1,22 @@
 -- Records at places of a text: one turn after another, and what the code hands back of one. Assumes nothing.
 use mathlib.Core.Path.{_≡_, refl, sym, ap, _∙_}
 use mathlib.Core.Bool.{Bool, true, false, cond, false≢true}
-use mathlib.Core.List.{List, [], _∷_, map, append-nil}
-use Prim.Native.Nat.{ℕ, _≤_, _<_}
+use mathlib.Core.List.{List, [], _∷_, map}
+use Prim.Native.Nat.{ℕ, _≤_, _<_, min}
 use native.Mathlib.Omega.{arith}
 use borrow.Author.Tests.{lt-ltb, le-ltb, ltb-true}
 use lib.Dec.{ltb}
-use lib.ListN.{length, take}
-use lib.Seq.{take-all}
-use Rattle.lists.specs.Tables.{front}
-use Rattle.csv.specs.Reading.{part, fieldAt, Split, fields, malformed, push, onPiece, fieldsFrom, recordAt, fieldsOf, Read, formed, broken, onSplit, recordsFrom, recordsAt}
+use lib.ListN.{length, getD, take, length-take, length-map, List·getD-eq-default}
+use lib.Seq.{take-all, getD-take, ext-getD}
+use Rattle.lists.specs.Tables.{listTo, front}
+use Rattle.lists.proofs.Tables.{length-to, getD-to, getD-map-in, front-at}
+use Rattle.csv.specs.Reading.{span, part, fieldAt, Split, fields, malformed, push, onPiece, fieldsFrom, recordAt, Read, formed, broken, onSplit, recordsFrom, recordsAt}
+use Rattle.csv.specs.Reading.{fieldCount, Scans, textsOf, textsIn, HandsBack}
 use Rattle.csv.specs.declared.Span.{Span}
 use Rattle.csv.specs.declared.Piece.{Piece}
 use Rattle.csv.specs.declared.Piece.the-variants.{Field, Broken}
-use Rattle.csv.specs.declared.Fields.{Fields}
+use Rattle.csv.specs.declared.Scanned.{Scanned}
+use Rattle.csv.specs.declared.Scanned.the-variants.{Fields, Malformed}
 use Rattle.csv.proofs.Turns.{unbounded}
 use Rattle.csv.proofs.Pieces.{FieldRead, PieceRead, field-read, reach, ahead}
 
@@ -118,23 +121,73 @@ module _ (text : List ℕ) where
     pub records-next : {ss : List Span} {next : ℕ} → i < length text → recordAt text i ≡ fields ss next → recordsAt text i ≡ formed (map (part text) ss) ∷ recordsAt text next
     records-next h e = records-turn i ∙ rw (lt-ltb i (length text) h, e)
 
--- a record that the code hands back as not formed is outside the grammar
-pub code-broken : (p : Split) (r : Fields) → r ≡ fieldsOf p → r .formed ≡ false → p ≡ malformed
-unfolding fieldsOf
-code-broken (fields ss next) r e f = clash cc
-code-broken malformed r e f = refl
+-- the first n entries of a list, as a table of n that has the list's as far as it goes
+take-listed : {A : Type 0} (d : A) (n : ℕ) (f : ℕ → A) (xs : List A) → ((k : ℕ) → k < n → k < length xs → f k ≡ getD xs k d)
+    → take (length xs) (listTo n f) ≡ take n xs
+take-listed d n f xs h =
+    ext-getD d (take (length xs) (listTo n f)) (take n xs) (simp (length-take, length-to) (omega arith))
+    (λ k q.
+    let r = simp (length-take, length-to) at q in
+    let a : k < n = omega arith in
+    let b : k < length xs = omega arith in
+    getD-take (length xs) (listTo n f) k d b ∙ getD-to n f k d a ∙ h k a b ∙ sym (getD-take n xs k d a))
 
--- one that it hands back as formed is in it, with as many fields as are counted
-pub code-formed : (p : Split) (r : Fields) → r ≡ fieldsOf p → r .formed ≡ true → (ss : List Span) × (p ≡ fields ss (r .next)) × (length ss ≡ r .count)
-unfolding fieldsOf
-code-formed (fields ss next) r e f = (ss, rw e, rw e)
-code-formed malformed r e f = clash cc
+-- where a field starts, or ends, by a list that has these places at its front
+place-in : (f : Span → ℕ) (n : ℕ) (ss : List Span) (old : List ℕ) (k : ℕ) (s : Span) → k < n → k < length ss
+    → getD (front (map f (take n ss)) old) k 0 ≡ f (getD ss k s)
+place-in f n ss old k s a b =
+    let c : k < length (take n ss) = simp length-take (omega arith) in
+    front-at (map f (take n ss)) old k (simp length-map c) ∙ getD-map-in f (take n ss) k s 0 c ∙ ap f (getD-take n ss k s a)
 
--- seven fields are all in the array
-pub code-seven : (p : Split) (r : Fields) → r ≡ fieldsOf p → r .formed ≡ true → r .count ≡ 7 → p ≡ fields (r .spans) (r .next)
-unfolding fieldsOf front
-code-seven (fields ss next) r e f n =
-    let long : length ss ≡ 7 = sym (ap (λ x. x .count) e) ∙ n in
-    let all : take 7 ss ≡ ss = take-all 7 ss (omega arith) in
-    rw e (rw (all, long) (ap (λ l. fields l next) (sym (append-nil ss))))
-code-seven malformed r e f n = clash cc
+-- a record that was counted is in the grammar, with as many fields
+pub scanned-fields : (p : Split) (old old′ starts ends : List ℕ) {r : Scanned} {count next : ℕ} → Scans p old old′ starts ends r → r ≡ Fields count next
+    → (ss : List Span) × (p ≡ fields ss next) × (length ss ≡ count)
+scanned-fields (fields ss next) old old′ starts ends s e = (ss, ap (fields ss) (cc (s .0)), cc (s .0))
+scanned-fields malformed old old′ starts ends s e = clash cc
+
+-- one that was found malformed is outside it
+pub scanned-malformed : (p : Split) (old old′ starts ends : List ℕ) {r : Scanned} → Scans p old old′ starts ends r → r ≡ Malformed → p ≡ malformed
+scanned-malformed (fields ss next) old old′ starts ends s e = clash (cc (s .0))
+scanned-malformed malformed old old′ starts ends s e = refl
+
+module _ (text : List ℕ) where
+  -- the texts by the places of a record that was counted are those of its first fields
+  pub scanned-texts : (p : Split) (old old′ starts ends : List ℕ) {r : Scanned} {count next : ℕ} → Scans p old old′ starts ends r → r ≡ Fields count next
+      → textsIn text count starts ends ≡ take fieldCount (textsOf text p)
+  unfolding textsIn
+  scanned-texts (fields ss n) old old′ starts ends {count = count} (r, a, b) e =
+      let long : count ≡ length (map (part text) ss) = simp length-map (cc) in
+      rw long
+      (take-listed [] fieldCount (λ k. part text (span (getD starts k 0) (getD ends k 0))) (map (part text) ss)
+      (λ k h q.
+      let m : k < length ss = simp length-map at q in
+      rw (a, b, place-in (λ s. s .start) fieldCount ss old k (span 0 0) h m, place-in (λ s. s .end) fieldCount ss old′ k (span 0 0) h m)
+      (sym (getD-map-in (part text) ss k (span 0 0) [] m))))
+  scanned-texts malformed old old′ starts ends s e = clash cc
+
+  -- fieldCount fields are all in the lists
+  module _ (p : Split) (old old′ starts ends : List ℕ) (r : Scanned) {ss : List Span} {next : ℕ} (s : Scans p old old′ starts ends r) (is : p ≡ fields ss next) where
+    pub counted-texts : {count : ℕ} → length ss ≡ count → count ≡ fieldCount → textsIn text count starts ends ≡ map (part text) ss
+    counted-texts counted whole =
+        let t = rw is at s in
+        rw counted at (scanned-texts (fields ss next) old old′ starts ends t (t .0))
+        ∙ take-all fieldCount (map (part text) ss) (simp length-map (omega arith))
+
+    pub all-texts : length ss ≡ fieldCount → textsIn text fieldCount starts ends ≡ map (part text) ss
+    all-texts long = counted-texts long refl
+
+-- the text of a field by its number
+module _ (text : List ℕ) (count : ℕ) (starts ends : List ℕ) (k : ℕ) where
+  hands-back : {r : List ℕ} → r ≡ getD (textsIn text count starts ends) k [] → HandsBack text count starts ends k r
+  hands-back e = record {
+    by-places = e;
+    of-record = λ at next old old′ s. e ∙ ap (λ l. getD l k []) (scanned-texts text (recordAt text at) old old′ starts ends s refl);
+  }
+
+  pub hands-part : {r : List ℕ} → k < count → k < fieldCount → r ≡ part text (span (getD starts k 0) (getD ends k 0)) → HandsBack text count starts ends k r
+  unfolding textsIn
+  hands-part h m e = hands-back (e ∙ sym (getD-take count (listTo fieldCount _) k [] h ∙ getD-to fieldCount _ k [] m))
+
+  pub hands-none : min count fieldCount ≤ k → HandsBack text count starts ends k []
+  unfolding textsIn
+  hands-none h = hands-back (sym (List·getD-eq-default (textsIn text count starts ends) [] (simp (length-take, length-to) (omega arith))))

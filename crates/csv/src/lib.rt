@@ -1,5 +1,6 @@
 // RFC 4180 in one pass: a field, what follows it, a record. A byte is written as its number: 10 LF, 13 CR, 34 the quote, 44 the comma.
 ghost use mathlib.Core.Path.{_≡_};
+ghost use lib.ListN.{set};
 ghost use Rattle.csv.specs.Bytes.{isText, isQuotable};
 ghost use Rattle.csv.specs.Reading.{span, part, textEnd, closeAt, followed, opens, fieldAt, recordAt, Scans, HandsBack};
 
@@ -150,6 +151,15 @@ fn field_at(text: &[u8], at: usize) -> Piece
     ended(text, start, end, end + 1)
 }
 
+// Puts a number at place k of a list. A list that has no such place is left as it is.
+fn put(list: &mut [usize], k: usize, number: usize)
+    ensures { λ _. ⌜ now (list .exit) ≡ set (now (list .entry)) k number ⌝ }
+{
+    if k < list.len() {
+        list[k] = number;
+    }
+}
+
 // The record at a place. Where its first FIELDS fields start and end goes into the lent lists; the count goes on past FIELDS.
 pub fn record(
     text: &[u8],
@@ -167,10 +177,8 @@ pub fn record(
         let Piece::Field(span, last, next) = piece else {
             return Scanned::Malformed;
         };
-        if count < FIELDS {
-            starts[count] = span.start;
-            ends[count] = span.end;
-        }
+        put(starts, count, span.start);
+        put(ends, count, span.end);
         count += 1;
         if last {
             return Scanned::Fields { count, next };

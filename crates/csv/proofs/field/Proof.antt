@@ -1,6 +1,7 @@
--- `field` is the part of the text between two places. Assumes nothing.
+-- `field` is the part of the text between the places of field k, in the lists and so in the record. Assumes nothing.
+use native.Mathlib.Omega.{arith}
 use borrow.Author.Needs.{needs}
-use Rattle.csv.proofs.Scan.{part-whole, part-rest, part-empty, part-past}
+use Rattle.csv.proofs.Places.{hands-part, hands-none}
 use Rattle.csv.proofs.field.Statement.{statement}
 use Rattle.csv.proofs.field.Tie as tie
 
@@ -9,14 +10,12 @@ field-spec =
     tie.close
     (tie.spec
     (λ c. search needs)
-    (λ c. search (needs, part-past))
+    (λ c. hands-none _ _ _ _ _ (omega arith))
     (λ c. search needs)
-    (λ c. search (needs, part-empty))
-    (λ c. search needs)
-    (λ c. search needs)
-    (λ c. search needs)
-    (λ c. search (needs, part-whole))
+    (λ c. hands-none _ _ _ _ _ (omega arith))
     (λ c. search needs)
     (λ c. search needs)
     (λ c. search needs)
-    (λ c. search (needs, part-rest)))
+    (λ c. search needs)
+    (λ c κs. search needs)
+    (λ c. search (needs, hands-part)))
