@@ -1,26 +1,28 @@
--- The values of a record's fields, found one after another. Assumes nothing.
-use mathlib.Core.Path.{_≡_, refl, _∙_}
-use mathlib.Core.List.{List, [], _∷_, _++_, map, append-assoc, append-nil}
-use Prim.Native.Nat.{ℕ, _+_, _≤_, _<_}
+-- The values of texts, found one after another. Assumes nothing.
+use mathlib.Core.Path.{_≡_, refl, sym, _∙_}
+use mathlib.Core.Bool.{true, false}
+use mathlib.Core.List.{List, [], _∷_, _++_, append-assoc, append-nil}
+use Prim.Native.Nat.{ℕ, suc, _+_, _-_, _≤_, _<_}
 use native.Mathlib.Numerals.{add-one}
 use native.Mathlib.Omega.{arith}
-use lib.ListN.{length, getD, take, drop, set, drop-of-length-le, List·getD-map}
-use lib.Seq.{drop-cons, getD-drop, take-suc-set}
-use Rattle.csv.specs.Reading.{part, span}
-use Rattle.csv.specs.declared.Span.{Span}
+use lib.ListN.{length, getD, take, drop, set, length-set, length-take, length-drop, drop-of-length-le}
+use lib.Seq.{drop-cons, getD-drop, take-suc-set, take-all}
+use Rattle.lists.proofs.Tables.{length-to}
+use Rattle.csv.specs.Reading.{fieldCount, textsIn, HandsBack}
 use Rattle.layout.specs.Sorts.{valueOf}
-use Rattle.layout.specs.Layout.{sortsBy, Values, values, wrong, andValue, valuesOf}
+use Rattle.layout.specs.Layout.{sortsBy, Values, values, wrong, andValue, valuesOf, Found}
 use Rattle.layout.specs.declared.Sort.{Sort}
 use Rattle.layout.specs.declared.Sort.the-variants.{Empty}
 use Rattle.layout.specs.declared.Value.{Value}
 use Rattle.layout.specs.declared.Value.the-variants.{Of, Wrong}
+use Rattle.layout.proofs.Letters.{length-sorts}
 
--- values that were found, before those of the fields to come
-abbrev pub ahead : List ℕ → Values → Values
+-- values that were found, before those of the texts to come
+abbrev ahead : List ℕ → Values → Values
 ahead found (values vs) = values (found ++ vs)
 ahead found wrong = wrong
 
-pub ahead-none : (vs : Values) → ahead [] vs ≡ vs
+ahead-none : (vs : Values) → vs ≡ ahead [] vs
 ahead-none (values vs) = refl
 ahead-none wrong = refl
 
@@ -28,30 +30,55 @@ ahead-more : (found : List ℕ) (v : ℕ) (vs : Values) → ahead found (andValu
 ahead-more found v (values vs) = rw (append-assoc found (v ∷ []) vs)
 ahead-more found v wrong = refl
 
--- field j of those after the letter
-module _ (ss : List Sort) (ts : List (List ℕ)) (found : List ℕ) (j : ℕ) where
-  module _ (hs : j < length ss) (ht : j < length ts) where
-    turn : valuesOf (drop j ss) (drop j ts) ≡ andValue (valueOf (getD ss j Empty) (getD ts j [])) (valuesOf (drop (j + 1) ss) (drop (j + 1) ts))
+-- the values of the texts after a letter: the first j are found
+pub record Finding (letter : ℕ) (ts : List (List ℕ)) (found : List ℕ) (j : ℕ) : Type 0 where
+  pub few : j < fieldCount
+  pub texts : length ts ≡ fieldCount - 1
+  pub room : length found ≡ fieldCount - 1
+  pub rest : valuesOf (sortsBy letter) ts ≡ ahead (take j found) (valuesOf (drop j (sortsBy letter)) (drop j ts))
+
+pub finding-none : (letter : ℕ) (ts : List (List ℕ)) (found : List ℕ) → length ts ≡ fieldCount - 1 → length found ≡ fieldCount - 1 → Finding letter ts found 0
+finding-none letter ts found h l = record { few = omega arith; texts = h; room = l; rest = ahead-none (valuesOf (sortsBy letter) ts) }
+
+module _ {letter : ℕ} {ts : List (List ℕ)} {found : List ℕ} {j : ℕ} (f : Finding letter ts found j) where
+  module _ (h : j < fieldCount - 1) where
+    turn : valuesOf (sortsBy letter) ts
+        ≡ ahead (take j found) (andValue (valueOf (getD (sortsBy letter) j Empty) (getD ts j [])) (valuesOf (drop (suc j) (sortsBy letter)) (drop (suc j) ts)))
     unfolding valuesOf
-    turn = rw (drop-cons ss j Empty hs, drop-cons ts j [] ht, add-one)
+    turn = rw (drop-cons (sortsBy letter) j Empty (omega (arith, length-sorts letter)), drop-cons ts j [] (omega (arith, f .texts))) at (f .rest)
 
-    pub found-more : (v : ℕ) → Of v ≡ valueOf (getD ss j Empty) (getD ts j []) → j < length found
-        → ahead (take j found) (valuesOf (drop j ss) (drop j ts)) ≡ ahead (take (j + 1) (set found j v)) (valuesOf (drop (j + 1) ss) (drop (j + 1) ts))
-    found-more v e h = rw (turn, ← e, add-one, take-suc-set found j v h) (rw (← add-one j) (ahead-more (take j found) v (valuesOf (drop (j + 1) ss) (drop (j + 1) ts))))
+    pub finding-more : (v : ℕ) → valueOf (getD (sortsBy letter) j Empty) (getD ts j []) ≡ Of v → Finding letter ts (set found j v) (j + 1)
+    finding-more v e = record {
+      few = omega arith;
+      texts = f .texts;
+      room = length-set found j v ∙ f .room;
+      rest =
+          rw (add-one, take-suc-set found j v (omega (arith, f .room)))
+          (rw e at turn ∙ ahead-more (take j found) v (valuesOf (drop (suc j) (sortsBy letter)) (drop (suc j) ts)));
+    }
 
-    pub found-wrong : Wrong ≡ valueOf (getD ss j Empty) (getD ts j []) → ahead (take j found) (valuesOf (drop j ss) (drop j ts)) ≡ wrong
-    found-wrong e = rw (turn, ← e)
+    pub finding-wrong : valueOf (getD (sortsBy letter) j Empty) (getD ts j []) ≡ Wrong → Found (valuesOf (sortsBy letter) ts) found false
+    finding-wrong e = rw (rw e at turn)
 
-  pub found-all : length ss ≤ j → length ts ≤ j → ahead found (valuesOf (drop j ss) (drop j ts)) ≡ values found
+  all-found : fieldCount - 1 ≤ j → valuesOf (sortsBy letter) ts ≡ values found
   unfolding valuesOf
-  found-all hs ht = rw (drop-of-length-le ss hs, drop-of-length-le ts ht, append-nil)
+  all-found h =
+      let sorts : length (sortsBy letter) ≤ j = omega (arith, length-sorts letter) in
+      let texts : length ts ≤ j = omega (arith, f .texts) in
+      f .rest ∙ rw (drop-of-length-le (sortsBy letter) sorts, drop-of-length-le ts texts, append-nil, take-all j found (omega (arith, f .room)))
 
--- the value of the field that stands at j after the letter
-pub value-after : (text : List ℕ) (spans : List Span) (letter j : ℕ) {x : Value} {sort : Sort} {field : List ℕ} → x ≡ valueOf sort field → sort ≡ getD (sortsBy letter) j Empty
-    → field ≡ part text (getD spans (j + 1) (span 0 0)) → x ≡ valueOf (getD (sortsBy letter) j Empty) (getD (drop 1 (map (part text) spans)) j [])
-unfolding part
-value-after text spans letter j e p q =
-    let next : 1 + j ≡ j + 1 = omega arith in
-    let there : getD (drop 1 (map (part text) spans)) j [] ≡ part text (getD spans (j + 1) (span 0 0)) =
-    getD-drop 1 (map (part text) spans) j [] ∙ rw next (List·getD-map (part text) spans (j + 1) (span 0 0)) in
-    rw (there, ← p, ← q) e
+  pub finding-all : fieldCount - 1 ≤ j → Found (valuesOf (sortsBy letter) ts) found true
+  finding-all h = rw (all-found h) (refl, refl)
+
+-- the texts by the places of a record's fields
+module _ (text starts ends : List ℕ) where
+  pub texts-after : length (drop 1 (textsIn text fieldCount starts ends)) ≡ fieldCount - 1
+  unfolding textsIn
+  texts-after = simp (length-drop, length-take, length-to)
+
+  -- the value of the one at j after the letter
+  pub value-after : (letter j : ℕ) {x : Value} {sort : Sort} {field : List ℕ} → x ≡ valueOf sort field → sort ≡ getD (sortsBy letter) j Empty
+      → HandsBack text fieldCount starts ends (j + 1) field → valueOf (getD (sortsBy letter) j Empty) (getD (drop 1 (textsIn text fieldCount starts ends)) j []) ≡ x
+  value-after letter j e p q =
+      let next : 1 + j ≡ j + 1 = omega arith in
+      rw (getD-drop 1 (textsIn text fieldCount starts ends) j [], next, ← q .by-places, ← p) (sym e)

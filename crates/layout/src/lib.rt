@@ -4,7 +4,7 @@ use csv::Scanned;
 use numerals::Numeral;
 ghost use mathlib.Core.Path.{_≡_};
 ghost use lib.ListN.{drop, getD};
-ghost use Rattle.csv.specs.Reading.{textsIn};
+ghost use Rattle.csv.specs.Reading.{fieldCount, textsIn};
 ghost use Rattle.layout.specs.Sorts.{byPlace, byNumeral, valueOf};
 ghost use Rattle.layout.specs.Layout.{sortsBy, valuesOf, Found, mayFollow, entry, EntryAt};
 
@@ -104,27 +104,27 @@ fn value_in(sort: Sort, text: &[u8]) -> Value
 }
 
 // The values of the fields after a letter go into the lent list; false where one is wrong.
-fn values_after(
+fn values_after<'a>(
     text: &[u8],
-    count: usize,
-    starts: &[usize; csv::FIELDS],
-    ends: &[usize; csv::FIELDS],
+    starts: &'a [usize; csv::FIELDS],
+    ends: &'a [usize; csv::FIELDS],
     letter: usize,
     values: &mut [u64; VALUES],
 ) -> bool
     ensures { λ r. ⌜ Found (valuesOf (sortsBy letter)
-        (drop 1 (textsIn (now (text .entry)) count (now (starts .entry)) (now (ends .entry)))))
+        (drop 1 (textsIn (now (text .entry)) fieldCount (now (starts .entry)) (now (ends .entry)))))
         (now (values .exit)) r ⌝ }
 {
+    let found = &mut values[..];
     let mut j: usize = 0;
     while j < VALUES {
         let value = value_in(
             sort_at(letter, j),
-            csv::field(text, count, starts, ends, j + 1),
+            csv::field(text, csv::FIELDS, starts, ends, j + 1),
         );
         match value {
             Value::Of(v) => {
-                values[j] = v;
+                found[j] = v;
             }
             Value::Wrong => {
                 return false;
@@ -172,7 +172,7 @@ pub fn entry_at(text: &[u8], at: usize, values: &mut [u64; VALUES]) -> Entry
     let Place::At(letter) = place else {
         return refused(21, next);
     };
-    if !values_after(text, count, &starts, &ends, letter, values) {
+    if !values_after(text, &starts, &ends, letter, values) {
         return refused(21, next);
     }
     Entry {
