@@ -1,3 +1,4 @@
 pub mod Columns
-pub mod Encoded
+pub mod Entry
 pub mod ReadBack
+pub mod Tables

@@ -39,7 +39,7 @@ unfolding column front
 bare-column xs = rw drop-nil (append-nil (encode xs))
 
 -- number j of an entry
-abbrev nth : ℕ → List ℕ → ℕ
+abbrev pub nth : ℕ → List ℕ → ℕ
 nth j xs = getD xs j 0
 
 -- the numbers of each entry, from number j on
