@@ -1,10 +1,10 @@
 -- A file that was read is what the definitions say: refused, or read to its end. Assumes nothing.
-use mathlib.Core.Path.{_≡_, refl, sym, ap, _∙_}
+use mathlib.Core.Path.{_≡_, sym, ap, _∙_}
 use mathlib.Core.Bool.{false}
-use mathlib.Core.List.{List, [], _∷_}
-use Prim.Native.Nat.{ℕ, zero, suc, _≤_, _<_}
+use mathlib.Core.List.{List, []}
+use Prim.Native.Nat.{ℕ, _≤_, _<_}
 use native.Mathlib.Omega.{arith}
-use lib.ListN.{length, take, drop, length-map}
+use lib.ListN.{length, take, drop, length-drop, length-map}
 use lib.Seq.{take-all}
 use borrow.Author.Tests.{ne-eqb, lt-ltb, le-ltb}
 use Rattle.lists.specs.Choice.{firstOf}
@@ -23,8 +23,8 @@ pub too-long : (text : List ℕ) → fileLimit < length text → Refuses text (m
 unfolding fileFaults firstOf
 too-long text h w = rw (lt-ltb fileLimit (length text) h)
 
-pub contents-refused : (text : List ℕ) {rows : ℕ} {book lines book′ lines′ : List ℕ} (number place : ℕ) → Refuses text (makeAnswer number place 0) → (number ≡ 0 → ⊥)
-    → ReadsFile text rows book lines book′ lines′ (Refused number place)
+pub contents-refused : (text : List ℕ) {rows : ℕ} {book lines book′ lines′ : List ℕ} (number place : ℕ) → Refuses text (makeAnswer number place 0)
+    → (number ≡ 0 → ⊥) → ReadsFile text rows book lines book′ lines′ (Refused number place)
 unfolding readAnswer contentsOf
 contents-refused text number place f other =
     let found : readAnswer false text ≡ makeAnswer number place 0 = first-append (fileFaults text) _ _ ∙ f _ in
@@ -36,20 +36,16 @@ contents-refused text number place f other =
     }
 
 -- all records are read
-none-left : (parsed : List Meaning) (n : ℕ) → drop n parsed ≡ [] → length parsed ≤ n
-none-left [] n e = omega arith
-none-left (x ∷ parsed) zero e = absurd (omega (arith, ap (λ (l : List Meaning). length l) e))
-none-left (x ∷ parsed) (suc n) e = omega (arith, none-left parsed n e)
-
 pub contents-read : {text : List ℕ} {rows : ℕ} {book lines book′ lines′ : List ℕ} {before : Place} {holdings pairs n i : ℕ}
-    → Reading text rows book lines book′ lines′ before holdings pairs n i → length text ≤ i → length text ≤ fileLimit → ReadsFile text rows book lines book′ lines′ (Read holdings pairs)
+    → Reading text rows book lines book′ lines′ before holdings pairs n i → length text ≤ i → length text ≤ fileLimit
+    → ReadsFile text rows book lines book′ lines′ (Read holdings pairs)
 unfolding readAnswer fileFaults firstOf submissionOf contentsOf
 contents-read {text} {holdings = holdings} {pairs = pairs} {n = n} {i = i} r end short =
-    let few : length (parsedIn text) ≤ n = none-left (parsedIn text) n (sym (r .passing .rest) ∙ rw (records-end text i end)) in
+    let none : drop n (parsedIn text) ≡ [] = sym (r .passing .rest) ∙ rw (records-end text i end) in
+    let few : length (parsedIn text) ≤ n = omega (arith, length-drop n (parsedIn text), ap (λ (l : List Meaning). length l) none) in
     let all : take n (parsedIn text) ≡ parsedIn text = take-all n (parsedIn text) few in
-    let none = passed-all (r .passing .passed) few in
     let counts : readAnswer false text ≡ makeAnswer 0 holdings pairs =
-        skip-none (fileFaults text) _ _ (le-ltb fileLimit (length text) short, none) ∙ rw (length-map, length-map, r .each-holding .counted, r .each-line .counted, all) in
+        skip-none (fileFaults text) _ _ (le-ltb fileLimit (length text) short, passed-all (r .passing .passed) few) ∙ simp length-map (rw (r .each-holding .counted, r .each-line .counted, all)) in
     record {
       answer = sym counts;
       contents = rw counts;

@@ -2,12 +2,12 @@
 use mathlib.Core.Path.{_≡_, refl, sym, ap, _∙_}
 use mathlib.Core.Bool.{true, false}
 use mathlib.Core.List.{List, [], _∷_, _++_, map, append-nil}
-use Prim.Native.Nat.{ℕ, zero, suc, _+_, _-_, _*_, _≤_, _<_}
+use Prim.Native.Nat.{ℕ, suc, _+_, _-_, _*_, _≤_, _<_}
 use native.Mathlib.Numerals.{add-one}
 use native.Mathlib.Omega.{arith}
 use lib.Dec.{ltb}
-use lib.ListN.{length, getD, take, drop, length-append}
-use lib.Seq.{take-suc}
+use lib.ListN.{length, getD, take, drop, length-append, length-drop}
+use lib.Seq.{take-suc, drop-cons}
 use borrow.Author.Tests.{eq-eqb, ne-eqb, le-ltb, ltb-true, ltb-false}
 use Rattle.lists.specs.Choice.{firstOf}
 use Rattle.lists.proofs.Tests.{either-way}
@@ -34,12 +34,10 @@ module _ {A : Type 0} (d x : A) (others : List A) where
     pub then : drop (suc n) xs ≡ others
 
   left : (xs : List A) (n : ℕ) → drop n xs ≡ x ∷ others → Left xs n
-  left [] zero e = absurd (omega (arith, ap (λ (l : List A). length l) e))
-  left [] (suc n) e = absurd (omega (arith, ap (λ (l : List A). length l) e))
-  left (y ∷ xs) zero e = record { within = omega arith; here = cc; then = cc }
-  left (y ∷ xs) (suc n) e =
-      let l = left xs n e in
-      record { within = omega (arith, l .within); here = l .here; then = l .then }
+  left xs n e =
+      let some : n < length xs = omega (arith, length-drop n xs, ap (λ (l : List A). length l) e) in
+      let split = drop-cons xs n d some in
+      record { within = some; here = cc; then = cc }
 
 -- the records after one
 abbrev after : List ℕ → Split → List Meaning
