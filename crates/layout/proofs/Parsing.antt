@@ -1,44 +1,75 @@
--- What a record is parsed as, by the tests on its fields. Assumes nothing.
+-- What a record that was looked at is parsed as, by the tests on its fields. Assumes nothing.
 use mathlib.Core.Path.{_≡_, refl, sym, _∙_}
-use mathlib.Core.Bool.{Bool, cond}
+use mathlib.Core.Bool.{Bool, true, false, cond}
 use mathlib.Core.List.{List, [], _∷_}
 use Prim.Native.Nat.{ℕ}
 use native.Mathlib.Omega.{arith}
-use lib.ListN.{length, getD, drop}
+use lib.ListN.{length, getD, drop, length-map}
 use borrow.Author.Tests.{eq-eqb, ne-eqb}
-use Rattle.csv.specs.Reading.{fieldCount, Read, formed, broken}
+use Rattle.csv.specs.Reading.{part, recordAt, fieldCount, Scans, textsIn, HandsBack, Read, formed}
+use Rattle.csv.specs.declared.Scanned.{Scanned}
+use Rattle.csv.specs.declared.Scanned.the-variants.{Fields, Malformed}
+use Rattle.csv.proofs.Places.{scanned-fields, scanned-malformed, all-texts}
 use Rattle.codes.specs.Codes.{placeOf}
+use Rattle.codes.specs.declared.Place.{Place}
 use Rattle.codes.specs.declared.Place.the-variants.{At, Nowhere}
-use Rattle.layout.specs.Layout.{letters, sortsBy, Values, values, wrong, valuesOf, good, refused, meant, afterLetter, parsedOf, parse, Found}
+use Rattle.layout.specs.Layout.{letters, sortsBy, Values, values, wrong, valuesOf, good, refused, meant, afterLetter, parsedOf, parse, readOf, nextOf, Found, entry, EntryAt}
+use Rattle.layout.specs.declared.Parsed.the-variants.{Good, Refused}
 
-pub parse-broken : (r : Read) → r ≡ broken → refused 19 ≡ parse r
+-- of as many fields as a record has, the first is the letter
+first : (ts : List (List ℕ)) → length ts ≡ fieldCount → parsedOf ts ≡ afterLetter (placeOf (getD ts 0 []) letters) (drop 1 ts)
+unfolding parsedOf
+first [] h = absurd (omega arith)
+first (letter ∷ ts) h = refl
+
+parse-first : (r : Read) {ts : List (List ℕ)} → r ≡ formed ts → length ts ≡ fieldCount → afterLetter (placeOf (getD ts 0 []) letters) (drop 1 ts) ≡ parse r
 unfolding parse
-parse-broken r e = rw e
+parse-first r {ts = ts} e h = rw (e, eq-eqb (length ts) fieldCount h) (sym (first ts h))
 
-module _ (r : Read) {texts : List (List ℕ)} (e : r ≡ formed texts) where
-  pub parse-other : (length texts ≡ fieldCount → ⊥) → refused 20 ≡ parse r
+-- a record of as many fields as it must have, with the place of its letter among the letters, and where the next one starts
+pub record Lettered (text : List ℕ) (at : ℕ) (starts ends : List ℕ) (place : Place) (next : ℕ) : Type 0 where
+  pub means : afterLetter place (drop 1 (textsIn text fieldCount starts ends)) ≡ parse (readOf text (recordAt text at))
+  pub onward : next ≡ nextOf (recordAt text at)
+
+-- a record that was looked at
+module _ (text : List ℕ) (at : ℕ) (old old′ starts ends : List ℕ) {r : Scanned} (s : Scans (recordAt text at) old old′ starts ends r) where
+  pub entry-malformed : r ≡ Malformed → (vs : List ℕ) → EntryAt text at vs (entry (Refused 19) 0)
   unfolding parse
-  parse-other h = rw (e, ne-eqb (length texts) fieldCount h)
+  entry-malformed q vs =
+      let is = scanned-malformed (recordAt text at) old old′ starts ends s q in
+      record { means = rw is; next = rw is }
 
-  -- of as many fields as a record has, the first is the letter
-  module _ (h : length texts ≡ fieldCount) where
-    first : (ts : List (List ℕ)) → length ts ≡ fieldCount → parsedOf ts ≡ afterLetter (placeOf (getD ts 0 []) letters) (drop 1 ts)
-    unfolding parsedOf
-    first [] l = absurd (omega arith)
-    first (letter ∷ ts) l = refl
-
-    parse-after : afterLetter (placeOf (getD texts 0 []) letters) (drop 1 texts) ≡ parse r
+  module _ {count next : ℕ} (q : r ≡ Fields count next) where
+    pub entry-other : (count ≡ fieldCount → ⊥) → (vs : List ℕ) → EntryAt text at vs (entry (Refused 20) next)
     unfolding parse
-    parse-after = rw (e, eq-eqb (length texts) fieldCount h) (sym (first texts h))
+    entry-other h vs =
+        let (ss, is, counted) = scanned-fields (recordAt text at) old old′ starts ends s q in
+        record { means = rw (is, length-map ss (part text), ne-eqb (length ss) fieldCount (λ e. h (sym counted ∙ e))); next = rw is }
 
-    pub parse-no-letter : placeOf (getD texts 0 []) letters ≡ Nowhere → refused 21 ≡ parse r
-    parse-no-letter q = rw q at parse-after
+    pub lettered : {letter : List ℕ} {place : Place} → count ≡ fieldCount → HandsBack text count starts ends 0 letter → place ≡ placeOf letter letters
+        → Lettered text at starts ends place next
+    lettered whole h e =
+        let (ss, is, counted) = scanned-fields (recordAt text at) old old′ starts ends s q in
+        let texts = all-texts text (recordAt text at) old old′ starts ends r s is (counted ∙ whole) in
+        let read : readOf text (recordAt text at) ≡ formed (textsIn text fieldCount starts ends) = rw (is, texts) in
+        let long : length (textsIn text fieldCount starts ends) ≡ fieldCount = rw texts (length-map ss (part text) ∙ counted ∙ whole) in
+        record { means = rw (e, rw whole at (h .by-places)) (parse-first (readOf text (recordAt text at)) read long); onward = rw is }
 
-    -- after the letter of number k
-    pub parse-values : (k : ℕ) → placeOf (getD texts 0 []) letters ≡ At k → (found : List ℕ) (all : Bool) → Found (valuesOf (sortsBy k) (drop 1 texts)) found all
-        → cond all (good k found) (refused 21) ≡ parse r
-    parse-values k q found all f = by (valuesOf (sortsBy k) (drop 1 texts)) f ∙ rw q at parse-after
+module _ {text : List ℕ} {at : ℕ} {starts ends : List ℕ} {place : Place} {next : ℕ} (l : Lettered text at starts ends place next) where
+  pub entry-unknown : place ≡ Nowhere → (vs : List ℕ) → EntryAt text at vs (entry (Refused 21) next)
+  entry-unknown n vs = record { means = rw n at (l .means); next = l .onward }
+
+  -- after the letter of number k
+  module _ {k : ℕ} (n : place ≡ At k) (found : List ℕ) (all : Bool) (f : Found (valuesOf (sortsBy k) (drop 1 (textsIn text fieldCount starts ends))) found all) where
+    values-mean : cond all (good k found) (refused 21) ≡ parse (readOf text (recordAt text at))
+    values-mean = by (valuesOf (sortsBy k) (drop 1 (textsIn text fieldCount starts ends))) f ∙ rw n at (l .means)
       where
         by : (vs : Values) → Found vs found all → cond all (good k found) (refused 21) ≡ meant k vs
         by (values vs) w = rw (w .0, w .1)
         by wrong w = rw w
+
+    pub entry-wrong : all ≡ false → EntryAt text at found (entry (Refused 21) next)
+    entry-wrong g = record { means = rw g at values-mean; next = l .onward }
+
+    pub entry-good : all ≡ true → EntryAt text at found (entry (Good k) next)
+    entry-good g = record { means = rw g at values-mean; next = l .onward }
