@@ -8,7 +8,7 @@ use native.Mathlib.Omega.{arith}
 use lib.ListN.{length, getD, take, drop, length-append, length-drop, take-append-drop}
 use lib.Seq.{length-take-le, take-at, drop-at, take-append-le, drop-append-le, take-append-add, drop-append-add}
 use Rattle.lists.proofs.Tests.{by-end, same-or-not}
-use Rattle.words.specs.Words.{littleEndian, withWord}
+use Rattle.words.specs.Words.{withWord}
 use Rattle.words.proofs.Encoded.{length-little-endian}
 use Rattle.columns.specs.Columns.{columnIn, EntryRoom, EntryPut}
 use Rattle.columns.proofs.Tables.{column-long}
@@ -58,22 +58,25 @@ module _ (rows : ℕ) (table : List ℕ) (j : ℕ) (there : 8 * (rows * j + rows
 
   -- a number that is written into it, into a column after it, and into one before
   module _ (k v : ℕ) where
+    into-parts : (m : ℕ) → withWord table m v ≡ withWord (before ++ (here ++ after)) m v
+    into-parts m = ap (λ (t : List ℕ). withWord t m v) parted
+
     written-here : k < rows → columnIn rows rows (withWord table (rows * j + k) v) j ≡ withWord here k v
     written-here h =
-        let long = length-with-word here k v (omega (arith, here-long)) in
-        rw (ap (λ (t : List ℕ). withWord t (rows * j + k) v) parted, in-second before (here ++ after) k v (rows * j) before-long, in-first here after k v (omega (arith, here-long)))
-        (between rows j before (withWord here k v) after before-long (long ∙ here-long))
+        let room : 8 * k + 8 ≤ length here = omega (arith, here-long) in
+        rw (into-parts (rows * j + k), in-second before (here ++ after) k v (rows * j) before-long, in-first here after k v room)
+        (between rows j before (withWord here k v) after before-long (length-with-word here k v room ∙ here-long))
 
     written-after : columnIn rows rows (withWord table (rows * j + (rows + k)) v) j ≡ here
     written-after =
-        rw (ap (λ (t : List ℕ). withWord t (rows * j + (rows + k)) v) parted, in-second before (here ++ after) (rows + k) v (rows * j) before-long, in-second here after k v rows here-long)
+        rw (into-parts (rows * j + (rows + k)), in-second before (here ++ after) (rows + k) v (rows * j) before-long, in-second here after k v rows here-long)
         (between rows j before here (withWord after k v) before-long here-long)
 
     written-before : k < rows * j → columnIn rows rows (withWord table k v) j ≡ here
     written-before h =
-        let long = length-with-word before k v (omega (arith, before-long)) in
-        rw (ap (λ (t : List ℕ). withWord t k v) parted, in-first before (here ++ after) k v (omega (arith, before-long)))
-        (between rows j (withWord before k v) here after (long ∙ before-long) here-long)
+        let room : 8 * k + 8 ≤ length before = omega (arith, before-long) in
+        rw (into-parts k, in-first before (here ++ after) k v room)
+        (between rows j (withWord before k v) here after (length-with-word before k v room ∙ before-long) here-long)
 
 -- the first j values of an entry are written, and the columns after those are as they were: at the start, after one more, and at the end
 pub record Putting (count rows k : ℕ) (values old : List ℕ) (j : ℕ) (now : List ℕ) : Type 0 where
@@ -96,8 +99,15 @@ module _ {count rows k j : ℕ} {values old so-far : List ℕ} (room : EntryRoom
   pub value-there : 8 * (rows * j + k) + 8 ≤ length so-far
   value-there = omega (arith, room .within, column-there j below)
 
+  abbrev value : ℕ
+  value = getD values j 0
+
   abbrev next : List ℕ
-  next = withWord so-far (rows * j + k) (getD values j 0)
+  next = withWord so-far (rows * j + k) value
+
+  -- the value is in its column, and every other column is as it was
+  this-column : columnIn rows rows next j ≡ withWord (columnIn rows rows old j) k value
+  this-column = rw (← p .rest j (omega arith) below) (written-here rows so-far j (column-there j below) k value (room .within))
 
   other-column : (i : ℕ) → i < count → i ≢ j → columnIn rows rows next i ≡ columnIn rows rows so-far i
   other-column =
@@ -105,24 +115,17 @@ module _ {count rows k j : ℕ} {values old so-far : List ℕ} (room : EntryRoom
       (λ i l h d.
       let far : ℕ = rows * j + k - (rows * i + rows) in
       let past : rows * j + k ≡ rows * i + (rows + far) = omega (arith, mul-le-mul-left rows l) in
-      rw past (written-after rows so-far i (column-there i h) far (getD values j 0)))
+      rw past (written-after rows so-far i (column-there i h) far value))
       (λ i l h d.
       let m : j < i = omega arith in
-      written-before rows so-far i (column-there i h) (rows * j + k) (getD values j 0) (omega (arith, room .within, mul-le-mul-left rows m)))
+      written-before rows so-far i (column-there i h) (rows * j + k) value (omega (arith, room .within, mul-le-mul-left rows m)))
+
+  next-put : EntryPut (j + 1) rows k values old next
+  next-put = record {
+    long = length-with-word so-far (rows * j + k) value value-there ∙ p .put .long;
+    each = λ i h. same-or-not i j (λ e. rw e this-column) (λ d. other-column i (omega arith) d ∙ p .put .each i (omega arith));
+  }
 
   pub putting-more : (now : List ℕ) → now ≡ next → Putting count rows k values old (j + 1) now
-  putting-more now w =
-      let this = written-here rows so-far j (column-there j below) k (getD values j 0) (room .within) in
-      let columns : (i : ℕ) → i < j + 1 → columnIn rows rows next i ≡ withWord (columnIn rows rows old i) k (getD values i 0) =
-          λ i h.
-          same-or-not i j
-          (λ e. rw (e, ← p .rest j (omega arith) below) this)
-          (λ d. other-column i (omega arith) d ∙ p .put .each i (omega arith))
-      in
-      let long = length-with-word so-far (rows * j + k) (getD values j 0) value-there ∙ p .put .long in
-      rw w
-      record {
-        within = omega arith;
-        put = record { long = long; each = columns };
-        rest = λ i h l. other-column i l (omega arith) ∙ p .rest i (omega arith) l;
-      }
+  putting-more now e =
+      rw e record { within = omega arith; put = next-put; rest = λ i h l. other-column i l (omega arith) ∙ p .rest i (omega arith) l }

@@ -53,12 +53,15 @@ module _ (ns : List (List ℕ)) where
       let first = price-read (map (nth j) ns) old each k (omega (arith, length-map ns (nth j))) ∙ getD-map-in (nth j) ns k [] 0 h in
       rw (drop-cons (getD ns k []) j 0 (omega (arith, e))) (λ i. first i ∷ numbers-read fit k h (suc j) olds (omega (arith, e)) i)
 
-  -- cut behind them, the columns are those that held nothing
+  -- cut behind them, a column has the bytes of the numbers alone, and the columns are those that held nothing
+  pub cut-numbers : (j : ℕ) (old : List ℕ) → take (8 * length ns) (column (map (nth j) ns) old) ≡ encode (map (nth j) ns)
+  cut-numbers j old = rw (length-map ns (nth j)) at (cut-column (map (nth j) ns) old)
+
   cut-filled : (j : ℕ) (olds : List (List ℕ)) → map (λ c. take (8 * length ns) c) (filledFrom j ns olds) ≡ filledFrom j ns (map (λ c. []) olds)
   unfolding filledFrom
   cut-filled j [] = refl
   cut-filled j (old ∷ olds) =
-      let first : take (8 * length ns) (column (map (nth j) ns) old) ≡ column (map (nth j) ns) [] = rw (length-map ns (nth j)) at (cut-column (map (nth j) ns) old) ∙ sym (bare-column (map (nth j) ns)) in
+      let first = cut-numbers j old ∙ sym (bare-column (map (nth j) ns)) in
       λ i. first i ∷ cut-filled (suc j) olds i
 
   count-filled : (olds : List (List ℕ)) → countIn (filledFrom 0 ns ([] ∷ olds)) ≡ length ns
@@ -119,6 +122,6 @@ pub submission-filled : (s : Submission) → SubmissionFits s → (old : Columns
 unfolding submission rowsIn linesIn filled
 submission-filled s fit old f t =
     let rows = entries-read numbersOf rowBy row-back 4 five noRow (s .rows) (fit .rows) (old .holdings) _ f refl in
-    let prices : decode (take (8 * length (s .prices)) (column (s .prices) (old .price))) ≡ s .prices = rw (cut-column (s .prices) (old .price)) (decode-encode (s .prices) (fit .prices)) in
+    let prices = ap decode (cut-column (s .prices) (old .price)) ∙ decode-encode (s .prices) (fit .prices) in
     let lines = entries-read lineNumbers lineBy line-back 2 three noLine (s .lines) (fit .lines) (old .lines) _ t refl in
     λ i. record { rows = rows i; prices = prices i; lines = lines i }

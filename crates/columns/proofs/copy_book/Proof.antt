@@ -4,11 +4,12 @@ use Rattle.columns.proofs.Tables.{column-fits, copied-none, copied-more
 use Rattle.columns.proofs.copy_book.Statement.{statement}
 use Rattle.columns.proofs.copy_book.Tie as tie
 
--- the start, from where one of the last three columns is copied
+-- the side's copy, and the start, from where one of the last three columns is copied
+abbrev copied-side : tie.After-copy-arg4 → tie.After-copy
+copied-side c = c .before .before .before .before .before .before .before .before .before .before .before .before .before .before
+
 abbrev of-days : tie.After-copy-arg4 → tie.Start
-of-days c =
-    let kind = c .before .before .before .before .before .before .before .before .before .before in
-    kind .before .before .before .before .before .before .before .before .before .before .before .before .before .before
+of-days c = copied-side c .before .before .before .before .before .before .before .before .before .before
 
 abbrev of-value : tie.After-copy-arg5 → tie.Start
 of-value c = of-days (c .before .before .before .before .before)
@@ -18,8 +19,7 @@ of-price c = of-value (c .before .before .before .before .before)
 
 same-length : tie.Need-same-length
 same-length c =
-    let kind = c .before .before .before .before .before .before .before .before .before .before .before .before .before .before .before .before .before .before .before .before .before .before in
-    let start = of-price (c .before .before .before) in
+    let side = copied-side (c .before .before .before .before .before .before .before .before .before .before .before .before .before) in
     search needs
 
 returns : tie.Need-returns
@@ -30,9 +30,12 @@ returns c =
     let issuer = days .before .before .before .before .before in
     let kind = issuer .before .before .before .before .before in
     let side = kind .before .before .before .before .before in
-    search (copied-none, copied-more, side .copy .ensures, kind .copy2 .ensures, issuer .copy3 .ensures, days .copy4 .ensures, value .copy5 .ensures, price .copy6 .ensures,
-    side .before .before .column .ensures, kind .before .before .column2 .ensures, issuer .before .before .column3 .ensures, days .before .before .column4 .ensures,
-    value .before .before .column5 .ensures, price .before .before .column6 .ensures) depth 20
+    copied-more _ _ 0 _ _ _ (side .before .before .column .ensures) (side .copy .ensures)
+    (copied-more _ _ 1 _ _ _ (kind .before .before .column2 .ensures) (kind .copy2 .ensures)
+    (copied-more _ _ 2 _ _ _ (issuer .before .before .column3 .ensures) (issuer .copy3 .ensures)
+    (copied-more _ _ 3 _ _ _ (days .before .before .column4 .ensures) (days .copy4 .ensures)
+    (copied-more _ _ 4 _ _ _ (value .before .before .column5 .ensures) (value .copy5 .ensures)
+    (copied-more _ _ 5 _ _ _ (price .before .before .column6 .ensures) (price .copy6 .ensures) (copied-none _ _ _ _))))))
 
 pub copy-book-spec : {M : Type 1} → statement M
 copy-book-spec =

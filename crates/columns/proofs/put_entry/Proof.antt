@@ -34,7 +34,7 @@ put-entry-spec =
     (λ c. let room = there (c .before) in search needs)
     (λ c. search needs)
     (λ c. search needs)
-    (λ c κs. there (c .before .before))
+    (λ c κs. let room = there (c .before .before) in search needs)
     (λ c. search needs)
     (λ c. search needs)
     loop-again
