@@ -36,19 +36,27 @@ contents-refused text number place f other =
     }
 
 -- all records are read
-pub contents-read : {text : List ℕ} {rows : ℕ} {book lines book′ lines′ : List ℕ} {before : Place} {holdings pairs n i : ℕ}
-    → Reading text rows book lines book′ lines′ before holdings pairs n i → length text ≤ i → length text ≤ fileLimit
-    → ReadsFile text rows book lines book′ lines′ (Read holdings pairs)
-unfolding readAnswer fileFaults firstOf submissionOf contentsOf
-contents-read {text} {holdings = holdings} {pairs = pairs} {n = n} {i = i} r end short =
-    let none : drop n (parsedIn text) ≡ [] = sym (r .passing .rest) ∙ rw (records-end text i end) in
-    let few : length (parsedIn text) ≤ n = omega (arith, length-drop n (parsedIn text), ap (λ (l : List Meaning). length l) none) in
-    let all : take n (parsedIn text) ≡ parsedIn text = take-all n (parsedIn text) few in
-    let counts : readAnswer false text ≡ makeAnswer 0 holdings pairs =
-        skip-none (fileFaults text) _ _ (le-ltb fileLimit (length text) short, passed-all (r .passing .passed) few) ∙ simp length-map (rw (r .each-holding .counted, r .each-line .counted, all)) in
-    record {
-      answer = sym counts;
-      contents = rw counts;
-      each-holding = λ z. rw all at (r .each-holding .entered);
-      each-line = λ z. rw all at (r .each-line .entered);
-    }
+module _ {text : List ℕ} {rows : ℕ} {book lines book′ lines′ : List ℕ} {before : Place} {holdings pairs n i : ℕ}
+    (r : Reading text rows book lines book′ lines′ before holdings pairs n i) (end : length text ≤ i) (short : length text ≤ fileLimit) where
+  none-left : length (parsedIn text) ≤ n
+  none-left =
+      let none : drop n (parsedIn text) ≡ [] = sym (r .passing .rest) ∙ rw (records-end text i end) in
+      omega (arith, length-drop n (parsedIn text), ap (λ (l : List Meaning). length l) none)
+
+  all : take n (parsedIn text) ≡ parsedIn text
+  all = take-all n (parsedIn text) none-left
+
+  counts : readAnswer false text ≡ makeAnswer 0 holdings pairs
+  unfolding readAnswer fileFaults firstOf submissionOf
+  counts =
+      skip-none (fileFaults text) _ _ (le-ltb fileLimit (length text) short, passed-all (r .passing .passed) none-left)
+      ∙ simp length-map (rw (r .each-holding .counted, r .each-line .counted, all))
+
+  pub contents-read : ReadsFile text rows book lines book′ lines′ (Read holdings pairs)
+  unfolding contentsOf
+  contents-read = record {
+    answer = sym counts;
+    contents = rw counts;
+    each-holding = λ z. rw all at (r .each-holding .entered);
+    each-line = λ z. rw all at (r .each-line .entered);
+  }

@@ -28,10 +28,10 @@ use Rattle.reader.proofs.Reading.{values-append, values-few, Passing, c
 
 -- a list of which x and others are left
 module _ {A : Type 0} (d x : A) (others : List A) where
-  pub record Left (xs : List A) (n : ℕ) : Type 0 where
-    pub within : n < length xs
-    pub here : getD xs n d ≡ x
-    pub then : drop (suc n) xs ≡ others
+  record Left (xs : List A) (n : ℕ) : Type 0 where
+    within : n < length xs
+    here : getD xs n d ≡ x
+    then : drop (suc n) xs ≡ others
 
   left : (xs : List A) (n : ℕ) → drop n xs ≡ x ∷ others → Left xs n
   left xs n e =
@@ -58,7 +58,7 @@ pub record Turn (text : List ℕ) (before : Place) (n i : ℕ) (vs : List ℕ) (
   pub more : i < length text
   pub looked : EntryAt text i vs e
 
--- it is good, of the letter of number k
+-- and that one is good, of the letter of number k
 pub record GoodTurn (text : List ℕ) (before : Place) (n i : ℕ) (vs : List ℕ) (e : Entry) (k : ℕ) : Type 0 where
   pub turn : Turn text before n i vs e
   pub good : e .parsed ≡ Good k

@@ -68,18 +68,15 @@ returns-3 c = contents-refused _ 22 _ (turn-late (good (c .before)) (sym (c .bef
 returns-4 : tie.Need-returns-4 Inv-loop μ-loop
 returns-4 c =
     let m = c .before .before .before in
-    contents-refused _ 3 0 (turn-full (good m) (at (looked m) .loop .inv .each-holding) (c .before .if3 .taken) (follows (c .before .before)) (c .if4 .taken)) (λ z. omega arith)
+    contents-refused _ 3 0
+    (turn-full (good m) (at (looked m) .loop .inv .each-holding) (c .before .if3 .taken) (follows (c .before .before)) (c .if4 .taken))
+    (λ z. omega arith)
 
 put-entry-requires : tie.Need-put-entry-requires Inv-loop μ-loop
 put-entry-requires c κs =
     let m = c .before .before .before .before .before in
     entry-room (good m) (at (looked m) .loop .inv .each-holding) (c .before .before .before .if3 .taken) (c .before .before .if4 .left)
     (start (looked m) .pre .whole-book) (start (looked m) .pre .enough) (omega arith) (omega arith)
-
-loop-less : tie.Need-loop-less Inv-loop μ-loop
-loop-less c =
-    let a = turn-ahead (good (c .before .before .before .before .before .before .before .before)) in
-    omega arith
 
 loop-again : tie.Need-loop-again Inv-loop μ-loop
 loop-again c =
@@ -97,18 +94,15 @@ loop-again c =
 returns-5 : tie.Need-returns-5 Inv-loop μ-loop
 returns-5 c =
     let m = c .before .before .before in
-    contents-refused _ 9 0 (turn-full (good m) (at (looked m) .loop .inv .each-line) (second (c .before)) (follows (c .before .before)) (c .if5 .taken)) (λ z. omega arith)
+    contents-refused _ 9 0
+    (turn-full (good m) (at (looked m) .loop .inv .each-line) (second (c .before)) (follows (c .before .before)) (c .if5 .taken))
+    (λ z. omega arith)
 
 put-entry-requires-2 : tie.Need-put-entry-requires-2 Inv-loop μ-loop
 put-entry-requires-2 c κs =
     let m = c .before .before .before .before .before in
     entry-room (good m) (at (looked m) .loop .inv .each-line) (second (c .before .before .before)) (c .before .before .if5 .left)
     (start (looked m) .pre .whole-lines) (start (looked m) .pre .enough) (omega arith) (omega arith)
-
-loop-less-2 : tie.Need-loop-less-2 Inv-loop μ-loop
-loop-less-2 c =
-    let a = turn-ahead (good (c .before .before .before .before .before .before .before .before)) in
-    omega arith
 
 loop-again-2 : tie.Need-loop-again-2 Inv-loop μ-loop
 loop-again-2 c =
@@ -147,7 +141,7 @@ read-spec =
     put-entry-requires
     (λ c. search needs)
     (λ c. search needs)
-    loop-less
+    (λ c. let a = turn-ahead (good (c .before .before .before .before .before .before .before .before)) in omega arith)
     loop-again
     (λ c. search needs)
     (λ c. search needs)
@@ -156,7 +150,7 @@ read-spec =
     put-entry-requires-2
     (λ c. search needs)
     (λ c. search needs)
-    loop-less-2
+    (λ c. let a = turn-ahead (good (c .before .before .before .before .before .before .before .before)) in omega arith)
     loop-again-2
     (λ c. search needs)
     (λ c. search needs)
