@@ -12,8 +12,7 @@ use Rattle.csv.specs.Reading.{fieldAt, Split, fields, malformed, push, o
 use Rattle.csv.specs.declared.Span.{Span}
 use Rattle.csv.specs.declared.Piece.{Piece}
 use Rattle.csv.specs.declared.Piece.the-variants.{Field, Broken}
-use Rattle.csv.specs.declared.Scanned.{Scanned}
-use Rattle.csv.specs.declared.Scanned.the-variants.{Fields, Malformed}
+use Rattle.csv.specs.declared.Scanned.the-variants.{Fields}
 use Rattle.csv.proofs.Pieces.{FieldRead, field-read, reach, ahead}
 use Rattle.csv.proofs.Places.{record-turn, not-last}
 
@@ -58,24 +57,34 @@ module _ {f : Span → ℕ} {done : List Span} {old now : List ℕ} (p : Placed 
       let long : length old ≡ fieldCount = omega (arith, ap length (p .in-front), front-long firsts old fit) in
       rw long at (p .in-front)
 
+-- n fields that are done, with their places in two lists
+pub record Listed (done : List Span) (starts₀ ends₀ starts ends : List ℕ) (n : ℕ) : Type 0 where
+  pub counted : n ≡ length done
+  pub started : Placed (λ s. s .start) done starts₀ starts
+  pub ended : Placed (λ s. s .end) done ends₀ ends
+
+listed-more : {done : List Span} {starts₀ ends₀ starts ends starts′ ends′ : List ℕ} {n : ℕ} (s : Span) → Listed done starts₀ ends₀ starts ends n
+    → starts′ ≡ set starts n (s .start) → ends′ ≡ set ends n (s .end) → Listed (done ++ (s ∷ [])) starts₀ ends₀ starts′ ends′ (n + 1)
+listed-more {done} s l a b = record {
+  counted = omega (arith, length-append done (s ∷ []), l .counted);
+  started = placed-more (l .started) s (l .counted) a;
+  ended = placed-more (l .ended) s (l .counted) b;
+}
+
 -- what the loop keeps when it comes to place i with n fields done: these and the record from there on are the one that is asked for
 pub record Filling (text : List ℕ) (at : ℕ) (starts₀ ends₀ starts ends : List ℕ) (n i : ℕ) : Type 0 where
   pub done : List Span
-  pub counted : n ≡ length done
+  pub listed : Listed done starts₀ ends₀ starts ends n
   pub not-past : n ≤ i
   pub few : n ≤ length text
-  pub started : Placed (λ s. s .start) done starts₀ starts
-  pub ended : Placed (λ s. s .end) done ends₀ ends
   pub completes : recordAt text at ≡ prefixed done (recordAt text i)
 
 pub filling-none : (text : List ℕ) (at : ℕ) (starts ends : List ℕ) → Filling text at starts ends starts ends 0 at
 filling-none text at starts ends = record {
   done = [];
-  counted = refl;
+  listed = record { counted = refl; started = placed-none _ starts; ended = placed-none _ ends };
   not-past = omega arith;
   few = omega arith;
-  started = placed-none _ starts;
-  ended = placed-none _ ends;
   completes = prefixed-none (recordAt text at);
 }
 
@@ -102,19 +111,16 @@ module _ {text : List ℕ} {at : ℕ} {starts₀ ends₀ starts ends : List ℕ}
     module _ {starts′ ends′ : List ℕ} (to-starts : starts′ ≡ set starts n (s .start)) (to-ends : ends′ ≡ set ends n (s .end)) where
       pub filling-last : length starts′ ≡ fieldCount → length ends′ ≡ fieldCount → last ≡ true → Scans (recordAt text at) starts₀ ends₀ starts′ ends′ (Fields (n + 1) next)
       filling-last room room′ l =
-          let whole : n + 1 ≡ length (t .done ++ (s ∷ [])) = omega (arith, length-append (t .done) (s ∷ []), t .counted) in
-          rw (turned {p = Field s true next} (rw (← l) (sym b ∙ e)))
-          (rw whole, placed-first (placed-more (t .started) s (t .counted) to-starts) room, placed-first (placed-more (t .ended) s (t .counted) to-ends) room′)
+          let m = listed-more s (t .listed) to-starts to-ends in
+          rw (turned {p = Field s true next} (rw (← l) (sym b ∙ e))) (rw (m .counted), placed-first (m .started) room, placed-first (m .ended) room′)
 
       pub filling-more : last ≡ false → Filling text at starts₀ ends₀ starts′ ends′ (n + 1) next
       filling-more l =
           let (far, near) = filling-on l in
           record {
             done = t .done ++ (s ∷ []);
-            counted = omega (arith, length-append (t .done) (s ∷ []), t .counted);
+            listed = listed-more s (t .listed) to-starts to-ends;
             not-past = omega (arith, t .not-past);
             few = omega (arith, t .not-past);
-            started = placed-more (t .started) s (t .counted) to-starts;
-            ended = placed-more (t .ended) s (t .counted) to-ends;
             completes = turned {p = Field s false next} (rw (← l) (sym b ∙ e)) ∙ prefixed-push (t .done) s (recordAt text next);
           }

@@ -1,7 +1,7 @@
 -- Records at places of a text: one turn after another, and what the code hands back of one. Assumes nothing.
 use mathlib.Core.Path.{_≡_, refl, sym, ap, _∙_}
 use mathlib.Core.Bool.{Bool, true, false, cond, false≢true}
-use mathlib.Core.List.{List, [], _∷_, map, append-nil}
+use mathlib.Core.List.{List, [], _∷_, map}
 use Prim.Native.Nat.{ℕ, _≤_, _<_, min}
 use native.Mathlib.Omega.{arith}
 use borrow.Author.Tests.{lt-ltb, le-ltb, ltb-true}
@@ -10,7 +10,8 @@ use lib.ListN.{length, getD, take, length-take, length-map, List·getD-eq-defaul
 use lib.Seq.{take-all, getD-take, ext-getD}
 use Rattle.lists.specs.Tables.{listTo, front}
 use Rattle.lists.proofs.Tables.{length-to, getD-to, getD-map-in, front-at}
-use Rattle.csv.specs.Reading.{span, part, fieldAt, Split, fields, malformed, push, onPiece, fieldsFrom, recordAt, fieldCount, Scans, textsOf, textsIn, HandsBack, Read, formed, broken, onSplit, recordsFrom, recordsAt}
+use Rattle.csv.specs.Reading.{span, part, fieldAt, Split, fields, malformed, push, onPiece, fieldsFrom, recordAt, Read, formed, broken, onSplit, recordsFrom, recordsAt}
+use Rattle.csv.specs.Reading.{fieldCount, Scans, textsOf, textsIn, HandsBack}
 use Rattle.csv.specs.declared.Span.{Span}
 use Rattle.csv.specs.declared.Piece.{Piece}
 use Rattle.csv.specs.declared.Piece.the-variants.{Field, Broken}
@@ -132,9 +133,9 @@ take-listed d n f xs h =
     getD-take (length xs) (listTo n f) k d b ∙ getD-to n f k d a ∙ h k a b ∙ sym (getD-take n xs k d a))
 
 -- where a field starts, or ends, by a list that has these places at its front
-placed : (f : Span → ℕ) (n : ℕ) (ss : List Span) (old : List ℕ) (k : ℕ) (s : Span) → k < n → k < length ss
+place-in : (f : Span → ℕ) (n : ℕ) (ss : List Span) (old : List ℕ) (k : ℕ) (s : Span) → k < n → k < length ss
     → getD (front (map f (take n ss)) old) k 0 ≡ f (getD ss k s)
-placed f n ss old k s a b =
+place-in f n ss old k s a b =
     let c : k < length (take n ss) = simp length-take (omega arith) in
     front-at (map f (take n ss)) old k (simp length-map c) ∙ getD-map-in f (take n ss) k s 0 c ∙ ap f (getD-take n ss k s a)
 
@@ -160,7 +161,7 @@ module _ (text : List ℕ) where
       (take-listed [] fieldCount (λ k. part text (span (getD starts k 0) (getD ends k 0))) (map (part text) ss)
       (λ k h q.
       let m : k < length ss = simp length-map at q in
-      rw (a, b, placed (λ s. s .start) fieldCount ss old k (span 0 0) h m, placed (λ s. s .end) fieldCount ss old′ k (span 0 0) h m)
+      rw (a, b, place-in (λ s. s .start) fieldCount ss old k (span 0 0) h m, place-in (λ s. s .end) fieldCount ss old′ k (span 0 0) h m)
       (sym (getD-map-in (part text) ss k (span 0 0) [] m))))
   scanned-texts malformed old old′ starts ends s e = clash cc
 
