@@ -23,25 +23,26 @@ column-long rows n j table h = length-take-le (8 * n) (drop (8 * (rows * j)) tab
 -- no entry, and one entry more
 pub entered-none : (count rows : ℕ) (table : List ℕ) → Entered count rows [] table table
 unfolding column front encode
-entered-none count rows table = record { long = refl; each = λ j h. refl }
+entered-none count rows table = record { few = omega arith; long = refl; each = λ j h. refl }
 
 pub entered-more : {count rows : ℕ} {numbers : List (List ℕ)} {values old so-far now : List ℕ} → Entered count rows numbers old so-far
-    → EntryPut count rows (length numbers) values so-far now → Entered count rows (numbers ++ (values ∷ [])) old now
+    → EntryPut count rows (length numbers) values so-far now → length numbers < rows → Entered count rows (numbers ++ (values ∷ [])) old now
 unfolding column
-entered-more {rows = rows} {numbers = numbers} {values = values} {old = old} e p = record {
+entered-more {rows = rows} {numbers = numbers} {values = values} {old = old} e p h = record {
+  few = simp length-append (omega arith);
   long = p .long ∙ e .long;
-  each = λ j h.
+  each = λ j l.
       let more = word-more (map (nth j) numbers) (columnIn rows rows old j) (nth j values) in
-      p .each j h ∙ rw (e .each j h, map-append (nth j)) (rw (length-map numbers (nth j)) at more);
+      p .each j l ∙ rw (e .each j l, map-append (nth j)) (rw (length-map numbers (nth j)) at more);
 }
 
 -- n entries in a table
-module _ {count rows n : ℕ} {numbers : List (List ℕ)} {old now : List ℕ} (e : Entered count rows numbers old now) (many : length numbers ≡ n) (few : n ≤ rows) where
+module _ {count rows n : ℕ} {numbers : List (List ℕ)} {old now : List ℕ} (e : Entered count rows numbers old now) (many : length numbers ≡ n) where
   -- the first n of a column are the bytes of the numbers alone
   pub entered-column : (j : ℕ) → j < count → columnIn rows n now j ≡ encode (map (nth j) numbers)
   unfolding columnIn
   entered-column j h =
-      let cut : take (8 * n) (columnIn rows rows now j) ≡ columnIn rows n now j = take-take (8 * n) (8 * rows) (drop (8 * (rows * j)) now) (omega arith) in
+      let cut : take (8 * n) (columnIn rows rows now j) ≡ columnIn rows n now j = take-take (8 * n) (8 * rows) (drop (8 * (rows * j)) now) (omega (arith, e .few)) in
       sym cut ∙ ap (take (8 * n)) (e .each j h) ∙ rw many at (cut-numbers numbers j (columnIn rows rows old j))
 
   -- copied, they fill the lists

@@ -174,12 +174,12 @@ module _ {text : List ℕ} {before : Place} {n i : ℕ} {vs : List ℕ} {e : Ent
           enough = omega (arith, turn-values);
         }
 
-        pub tabled-more : {new : List ℕ} → EntryPut columns rows put vs now new → Tabled text (n + 1) j columns rows old new (put + 1)
+        pub tabled-more : {new : List ℕ} → EntryRoom columns rows put vs now → EntryPut columns rows put vs now new → Tabled text (n + 1) j columns rows old new (put + 1)
         unfolding valuesBy
-        tabled-more done =
+        tabled-more room done =
             let same : valuesBy j (take (n + 1) (parsedIn text)) ≡ valuesBy j (take n (parsedIn text)) ++ (vs ∷ []) = values-more (g .turn) means j ∙ rw (eq-eqb k j here) in
             record {
               counted = rw (same, length-append, ← t .counted) refl;
               few = omega (arith, t .few);
-              entered = rw same (entered-more (t .entered) (rw (t .counted) at done));
+              entered = rw same (entered-more (t .entered) (rw (t .counted) at done) (rw (t .counted) at (room .within)));
             }

@@ -86,7 +86,7 @@ loop-again c =
     let less = c .before .before .before .before .before .if4 .left in
     record {
       passing = turn-passing (good m) (r .each-holding) (first .if3 .taken) less (follows (first .before));
-      each-holding = tabled-more (good m) (r .each-holding) (first .if3 .taken) less (c .before .before .put-entry .ensures);
+      each-holding = tabled-more (good m) (r .each-holding) (first .if3 .taken) less (c .before .before .put-entry .pre) (c .before .before .put-entry .ensures);
       each-line = tabled-same (good m) (r .each-line) (λ z. omega (arith, first .if3 .taken));
     }
 
@@ -113,7 +113,7 @@ loop-again-2 c =
     record {
       passing = turn-passing (good m) (r .each-line) (second other) less (follows (other .before));
       each-holding = tabled-same (good m) (r .each-holding) (other .if3 .left);
-      each-line = tabled-more (good m) (r .each-line) (second other) less (c .before .before .put-entry2 .ensures);
+      each-line = tabled-more (good m) (r .each-line) (second other) less (c .before .before .put-entry2 .pre) (c .before .before .put-entry2 .ensures);
     }
 
 pub read-spec : {M : Type 1} → statement M
