@@ -11,6 +11,18 @@ use Rattle.lists.specs.Each.{Each}
 use Rattle.lists.specs.Tables.{turns, inTurn}
 use Rattle.lists.proofs.Entries.{each-append}
 
+-- what holds of each entry of lists in turn holds of each entry of them all
+module _ {A : Type 0} (P : A → Type 0) (f : ℕ → List A) where
+  each-turns : (i k : ℕ) → ((m : ℕ) → i ≤ m → m < i + k → Each P (f m)) → Each P (turns i k f)
+  unfolding turns
+  each-turns i zero h = tt
+  each-turns i (suc k) h =
+      each-append P (f i) (turns (suc i) k f) (h i (omega arith) (omega arith)) (each-turns (suc i) k (λ m a b. h m (omega arith) (omega arith)))
+
+  pub each-in-turn : (n : ℕ) → ((k : ℕ) → k < n → Each P (f k)) → Each P (inTurn n f)
+  unfolding inTurn
+  each-in-turn n h = each-turns 0 n (λ m a b. h m (omega arith))
+
 -- no test of the list holds
 abbrev pub None : {A : Type 0} → List (Bool × A) → Type 0
 None {A} fs = Each (λ (f : Bool × A). f .0 ≡ false) fs
@@ -51,12 +63,6 @@ module _ {A : Type 0} where
 
   -- lists in turn
   module _ (f : ℕ → List (Bool × A)) where
-    pub none-turns : (i k : ℕ) → ((m : ℕ) → i ≤ m → m < i + k → None (f m)) → None (turns i k f)
-    unfolding turns
-    none-turns i zero h = tt
-    none-turns i (suc k) h =
-        none-append (f i) (turns (suc i) k f) (h i (omega arith) (omega arith)) (none-turns (suc i) k (λ m a b. h m (omega arith) (omega arith)))
-
     pub turns-none : (i k : ℕ) → None (turns i k f) → (m : ℕ) → i ≤ m → m < i + k → None (f m)
     unfolding turns
     turns-none i zero h m a b = absurd (omega arith)
@@ -68,8 +74,7 @@ module _ {A : Type 0} where
         (eq-or-lt-of-le a)
 
     pub none-in-turn : (n : ℕ) → ((k : ℕ) → k < n → None (f k)) → None (inTurn n f)
-    unfolding inTurn
-    none-in-turn n h = none-turns 0 n (λ m a b. h m (omega arith))
+    none-in-turn n h = each-in-turn (λ (x : Bool × A). x .0 ≡ false) f n h
 
     pub in-turn-none : (n : ℕ) → None (inTurn n f) → (k : ℕ) → k < n → None (f k)
     unfolding inTurn
@@ -97,14 +102,8 @@ module _ {A : Type 0} (number : A → ℕ) where
   pub numbered-append : (xs ys : List (Bool × A)) → Numbered xs → Numbered ys → Numbered (xs ++ ys)
   numbered-append xs ys g h = each-append (λ (f : Bool × A). 1 ≤ number (f .1)) xs ys g h
 
-  pub numbered-turns : (f : ℕ → List (Bool × A)) → ((k : ℕ) → Numbered (f k)) → (i k : ℕ) → Numbered (turns i k f)
-  unfolding turns
-  numbered-turns f h i zero = tt
-  numbered-turns f h i (suc k) = numbered-append (f i) (turns (suc i) k f) (h i) (numbered-turns f h (suc i) k)
-
   pub numbered-in-turn : (f : ℕ → List (Bool × A)) → ((k : ℕ) → Numbered (f k)) → (n : ℕ) → Numbered (inTurn n f)
-  unfolding inTurn
-  numbered-in-turn f h n = numbered-turns f h 0 n
+  numbered-in-turn f h n = each-in-turn (λ (x : Bool × A). 1 ≤ number (x .1)) f n (λ k _. h k)
 
   -- the number 0 is given where none holds
   pub none-first : (fs : List (Bool × A)) (z : A) → Numbered fs → number (firstOf fs z) ≡ 0 → None fs × (number z ≡ 0)

@@ -1,46 +1,53 @@
--- The numbers of what a text submits fit in eight bytes. Assumes nothing.
+-- The numbers of what a text submits fit in eight bytes, and a file that is read submits no more than may be checked. Assumes nothing.
 use mathlib.Core.Path.{_≡_, refl, ap}
 use mathlib.Core.List.{List, [], _∷_}
-use Prim.Native.Nat.{ℕ, suc, _^_, _<_}
+use Prim.Native.Nat.{ℕ, suc, _^_, _≤_, _<_}
 use native.Mathlib.Omega.{arith}
 use lib.ListN.{length}
 use Rattle.lists.specs.Each.{Each}
-use Rattle.lists.proofs.Entries.{each-so}
+use Rattle.lists.proofs.Entries.{each-so, each-parts}
 use Rattle.holding.specs.Holding.{numbersOf}
 use Rattle.holding.specs.declared.Row.{Row}
 use Rattle.pairing.specs.declared.Line.{Line}
 use Rattle.proposal.specs.Submission.{lineNumbers}
-use Rattle.layout.specs.Sorts.{AreValues}
-use Rattle.layout.specs.declared.Sort.{Sort}
+use Rattle.columns.proofs.ReadBack.{Fits, SubmissionFits}
+use Rattle.layout.specs.Layout.{IsRecord}
+use Rattle.reader.specs.File.{submissionIn, fileFault}
 use Rattle.readable.specs.Readable.{AreHoldings, no-holdings, holding-and, AreLines, no-lines, line-and}
 use Rattle.readable.proofs.Below.{values-below}
+use Rattle.readable.proofs.Exactly.{read-exactly}
 
-abbrev Fits : ℕ → Type 0
-Fits x = x < 2 ^ 64
-
-values-fit : {ss : List Sort} {ts : List (List ℕ)} {vs : List ℕ} → AreValues ss ts vs → Each Fits vs
-values-fit {vs = vs} h = each-so (λ (v : ℕ). v < 10 ^ 12) Fits (λ v l. omega (arith, l)) vs (values-below h)
+-- the values of a good record
+record-fits : (k : ℕ) (texts : List (List ℕ)) (vs : List ℕ) → IsRecord k texts vs → Fits vs
+record-fits k [] vs is = absurd is
+record-fits k (letter ∷ texts) vs is =
+    each-so (λ (v : ℕ). v < 10 ^ 12) (λ v. v < 2 ^ 64) (λ v l. omega (arith, l)) vs (each-parts (λ (v : ℕ). v < 10 ^ 12) vs _ (values-below (is .1)) .0)
 
 pub record HoldingsFit (rows : List Row) (prices : List ℕ) : Type 0 where
-  pub each-row : Each (λ row. Each Fits (numbersOf row)) rows
-  pub each-price : Each Fits prices
+  pub each-row : Each (λ row. Fits (numbersOf row)) rows
+  pub each-price : Fits prices
   pub as-many : length prices ≡ length rows
 
 pub holdings-fit : {rs : List (List (List ℕ))} {rows : List Row} {prices : List ℕ} → AreHoldings rs rows prices → HoldingsFit rows prices
 holdings-fit no-holdings = record { each-row = tt; each-price = tt; as-many = refl }
-holdings-fit (holding-and {r = []} is rest) = absurd is
-holdings-fit (holding-and {r = letter ∷ texts} (_, is) rest) =
-    let (side, (kind, (issuer, (days, (value, (price, _)))))) = values-fit is in
+holdings-fit (holding-and {r} {row} {price} is rest) =
+    let (numbers, last) = each-parts (λ (x : ℕ). x < 2 ^ 64) (numbersOf row) (price ∷ []) (record-fits 0 r _ is) in
     let more = holdings-fit rest in
-    record {
-      each-row = (unfold numbersOf in (side, (kind, (issuer, (days, (value, tt))))), more .each-row);
-      each-price = (price, more .each-price);
-      as-many = ap suc (more .as-many);
-    }
+    record { each-row = (numbers, more .each-row); each-price = (last .0, more .each-price); as-many = ap suc (more .as-many) }
 
-pub lines-fit : {rs : List (List (List ℕ))} {lines : List Line} → AreLines rs lines → Each (λ line. Each Fits (lineNumbers line)) lines
+pub lines-fit : {rs : List (List (List ℕ))} {lines : List Line} → AreLines rs lines → Each (λ line. Fits (lineNumbers line)) lines
 lines-fit no-lines = tt
-lines-fit (line-and {r = []} is rest) = absurd is
-lines-fit (line-and {r = letter ∷ texts} (_, is) rest) =
-    let (long, (short, (amount, _))) = values-fit is in
-    (unfold lineNumbers in (long, (short, (amount, tt))), lines-fit rest)
+lines-fit (line-and {r} is rest) = (record-fits 1 r _ is, lines-fit rest)
+
+-- a file that is read
+module _ (text : List ℕ) (e : fileFault text .number ≡ 0) where
+  pub file-counts : (length (submissionIn text .rows) ≤ 256) × (length (submissionIn text .lines) ≤ 512)
+  file-counts =
+      let file = read-exactly text .read .0 e in
+      (file .few-holdings, file .few-lines)
+
+  pub file-fits : SubmissionFits (submissionIn text)
+  file-fits =
+      let file = read-exactly text .read .0 e in
+      let holdings = holdings-fit (file .each-holding) in
+      record { rows = holdings .each-row; prices = holdings .each-price; lines = lines-fit (file .each-line) }

@@ -6,3 +6,4 @@ pub mod Submitted
 pub mod Exactly
 pub mod Below
 pub mod Fitting
+pub mod Answered

@@ -1,47 +1,35 @@
 -- A file is not refused exactly when none of its refusals holds: each has a number from 1. Assumes nothing.
 use mathlib.Core.Path.{_≡_, refl, ap}
-use mathlib.Core.Logic.{_↔_, _≢_}
+use mathlib.Core.Logic.{_↔_}
 use mathlib.Core.List.{List}
-use Prim.Native.Nat.{ℕ, zero, suc, _+_, _≤_, _<_}
+use Prim.Native.Nat.{ℕ, _≤_, _<_}
 use native.Mathlib.Omega.{arith}
 use lib.ListN.{length, getD, length-map}
-use Rattle.lists.specs.Each.{Each}
-use Rattle.lists.specs.Tables.{turns, inTurn}
-use Rattle.lists.proofs.Entries.{each-append}
+use Rattle.lists.proofs.Entries.{each-at}
 use Rattle.lists.proofs.Tables.{getD-map-in}
-use Rattle.lists.proofs.Firsts.{None, Numbered, none-first, first-of-none}
+use Rattle.lists.proofs.Firsts.{None, Numbered, each-in-turn, none-first, first-of-none}
 use Rattle.article.specs.Answer.{makeAnswer}
 use Rattle.proposal.proofs.Clear.{number}
+use Rattle.codes.specs.declared.Place.{Place}
 use Rattle.csv.specs.Reading.{Read, broken, recordsOf}
-use Rattle.layout.specs.Layout.{parse}
-use Rattle.layout.specs.declared.Parsed.{Parsed}
-use Rattle.layout.specs.declared.Parsed.the-variants.{Holding, Line as Lined, Refused}
-use Rattle.reader.specs.File.{parsedIn, faultsOf, atRecord, fileFaults, fileFault}
-use Rattle.reader.proofs.FileRead.{refused-number}
+use Rattle.layout.specs.Layout.{Meaning, good, refused, parse}
+use Rattle.layout.proofs.Letters.{parse-good, parse-refused}
+use Rattle.reader.specs.File.{parsedIn, limits, faultsOf, atRecord, fileFaults, fileFault}
 
--- what holds of each entry of the lists in turn holds of each entry of them all
-each-turns : {A : Type 0} (P : A → Type 0) (f : ℕ → List A) (i k : ℕ) → ((m : ℕ) → i ≤ m → m < i + k → Each P (f m)) → Each P (turns i k f)
-unfolding turns
-each-turns P f i zero h = tt
-each-turns P f i (suc k) h =
-    each-append P (f i) (turns (suc i) k f) (h i (omega arith) (omega arith)) (each-turns P f (suc i) k (λ m a b. h m (omega arith) (omega arith)))
-
--- the refusals of a record
-numbered-of : (n h l : ℕ) (r : Read) (s : Parsed) → parse r ≡ s → Numbered number (faultsOf n h l s)
-numbered-of n h l r (Holding row price) e = (omega arith, (omega arith, tt))
-numbered-of n h l r (Lined line) e = (omega arith, tt)
-numbered-of n h l r (Refused k) e =
-    let other : k ≢ 0 = refused-number r k refl e in
-    (omega arith, tt)
+-- the refusals of a record: its own, or 22 and that of one more than the limit of a known letter
+numbered-of : (n : ℕ) (before : Place) (count : ℕ → ℕ) (r : Read) (m : Meaning) → parse r ≡ m → Numbered number (faultsOf n before count m)
+numbered-of n before count r (good k vs) e =
+    (omega arith, (each-at (λ (l : ℕ × ℕ). 1 ≤ l .1) (0, 0) limits (omega arith, (omega arith, tt)) k (parse-good r e), tt))
+numbered-of n before count r (refused k) e = (omega (arith, parse-refused r e), tt)
 
 numbered : (text : List ℕ) → Numbered number (fileFaults text)
-unfolding fileFaults inTurn atRecord parsedIn
+unfolding fileFaults atRecord parsedIn
 numbered text =
     let records = recordsOf text in (
       omega arith,
-      each-turns _ (atRecord (parsedIn text)) 0 (length (parsedIn text)) (λ m a b.
-          let q : m < length records = omega (arith, length-map records parse) in
-          rw (getD-map-in parse records m broken (Refused 0) q) (numbered-of m _ _ (getD records m broken) _ refl)),
+      each-in-turn _ (atRecord (parsedIn text)) (length (parsedIn text)) (λ n q.
+          let within : n < length records = omega (arith, length-map records parse) in
+          rw (getD-map-in parse records n broken (refused 0) within) (numbered-of n _ _ (getD records n broken) _ refl)),
     )
 
 pub none-exactly : (text : List ℕ) → (fileFault text .number ≡ 0) ↔ None (fileFaults text)

@@ -1,101 +1,101 @@
--- Records that are read are holdings, then lines, exactly when they are good H, then good P, with the rows, prices and lines that are parsed.
--- Assumes nothing.
-use mathlib.Core.Path.{_≡_, refl, ap}
+-- Records that are read are parsed in order exactly when they are good H, then good P, with the rows, prices and lines that are parsed. Assumes nothing.
+use mathlib.Core.Path.{_≡_, refl, sym, ap, subst}
+use mathlib.Core.Bool.{true}
 use mathlib.Core.List.{List, [], _∷_, _++_, map}
-use Prim.Native.Nat.{ℕ, _+_, _≤_, _<_}
+use Prim.Native.Nat.{ℕ, zero, suc, _<_}
 use native.Mathlib.Omega.{arith}
-use lib.ListN.{length}
+use lib.Dec.{leb·zero}
+use lib.ListN.{length, getD}
+use borrow.Author.Tests.{leb-true}
+use Rattle.lists.specs.Tables.{listTo}
+use Rattle.holding.specs.Holding.{numbersOf}
 use Rattle.holding.specs.declared.Row.{Row}
 use Rattle.pairing.specs.declared.Line.{Line}
-use Rattle.proposal.specs.Submission.{Submission}
+use Rattle.proposal.specs.Submission.{Submission, lineNumbers}
+use Rattle.codes.specs.declared.Place.{Place}
+use Rattle.codes.specs.declared.Place.the-variants.{At}
 use Rattle.csv.specs.Reading.{Read, formed, broken}
-use Rattle.layout.specs.Layout.{parse}
-use Rattle.layout.specs.declared.Parsed.{Parsed}
-use Rattle.layout.specs.declared.Parsed.the-variants.{Holding, Line as Lined, Refused}
-use Rattle.reader.specs.File.{parsedRows, parsedPrices, parsedLines, submissionOf}
+use Rattle.csv.proofs.Places.{clash}
+use Rattle.layout.specs.Layout.{Meaning, good, refused, mayFollow, parse}
+use Rattle.reader.specs.File.{valuesBy, submissionOf, limitOf, letterOf}
 use Rattle.readable.specs.Readable.{AreHoldings, no-holdings, holding-and, AreLines, no-lines, line-and}
-use Rattle.readable.proofs.Layouts.{ParsedAs, parsed-as, holding-exactly, line-exactly}
-use Rattle.readable.proofs.Orders.{holdingsIn, linesIn, Fits, InOrder}
+use Rattle.readable.proofs.Layouts.{record-exactly, record-of}
+use Rattle.readable.proofs.Orders.{Follow}
 
--- records that are read, after h holdings and l lines: good H with the rows and prices that are parsed, then good P with the lines
-pub record Parted (h l : ℕ) (reads : List Read) (parsed : List Parsed) : Type 0 where
-  pub holdings : List (List (List ℕ))
-  pub lines : List (List (List ℕ))
-  pub all : reads ≡ map formed (holdings ++ lines)
-  pub each-holding : AreHoldings holdings (parsedRows parsed) (parsedPrices parsed)
-  pub each-line : AreLines lines (parsedLines parsed)
-  pub few-holdings : h + holdingsIn parsed ≤ 256
-  pub few-lines : l + linesIn parsed ≤ 512
-  pub no-more : 0 < l → holdings ≡ []
+-- the first record, and those after it
+follow-rest : (before : Place) (m : Meaning) (ms : List Meaning) → Follow before (m ∷ ms) → Follow (letterOf m) ms
+follow-rest before m ms f zero q = f 1 (omega arith)
+follow-rest before m ms f (suc n) q = f (suc (suc n)) (omega arith)
 
--- one record before them
-module _ (texts : List (List ℕ)) (h l : ℕ) (reads : List Read) (parsed : List Parsed) where
-  one-more : (s : Parsed) → ParsedAs texts s → Fits h l s → Parted (h + holdingsIn (s ∷ [])) (l + linesIn (s ∷ [])) reads parsed → Parted h l (formed texts ∷ reads) (s ∷ parsed)
-  unfolding parsedRows parsedPrices parsedLines
-  one-more (Holding row price) is fits rest = record {
-    holdings = texts ∷ rest .holdings;
-    lines = rest .lines;
-    all = ap {B = List Read} (formed texts ∷_) (rest .all);
-    each-holding = holding-and is (rest .each-holding);
-    each-line = rest .each-line;
-    few-holdings = omega (arith, rest .few-holdings);
-    few-lines = omega (arith, rest .few-lines);
-    no-more = λ q. absurd (omega (arith, fits .0));
-  }
-  one-more (Lined line) is fits rest =
-      let none = rest .no-more (omega arith) in
-      record {
-        holdings = [];
-        lines = texts ∷ rest .lines;
-        all = ap {B = List Read} (formed texts ∷_) (rw none at (rest .all));
-        each-holding = rw none at (rest .each-holding);
-        each-line = line-and is (rest .each-line);
-        few-holdings = omega (arith, rest .few-holdings);
-        few-lines = omega (arith, rest .few-lines);
-        no-more = λ q. refl;
-      }
-  one-more (Refused number) is fits rest = absurd fits
+-- records that are read: good H, then good P, that submit this
+abbrev pub Parted : List Read → Submission → Type 0
+Parted reads s =
+    (holdings : List (List (List ℕ)))
+    × (lines : List (List (List ℕ)))
+    × (reads ≡ map formed (holdings ++ lines))
+    × AreHoldings holdings (s .rows) (s .prices)
+    × AreLines lines (s .lines)
 
--- it is not one too many
-few : (h l : ℕ) (s : Parsed) → Fits h l s → h ≤ 256 → l ≤ 512 → (h + holdingsIn (s ∷ []) ≤ 256) × (l + linesIn (s ∷ []) ≤ 512)
-unfolding parsedRows parsedLines
-few h l (Holding row price) fits a b = (omega (arith, fits .1), omega arith)
-few h l (Lined line) fits a b = (omega arith, omega arith)
-few h l (Refused number) fits a b = absurd fits
+first-letter : {r : List (List ℕ)} {rs : List (List (List ℕ))} {rows : List Row} {prices : List ℕ} → AreHoldings (r ∷ rs) rows prices → letterOf (parse (formed r)) ≡ At 0
+first-letter (holding-and {r} {row} {price} is rest) = rw (record-exactly r 0 (numbersOf row ++ (price ∷ [])) .1 is)
 
--- records parsed as holdings, then lines, are good H, then good P
-pub parted : (reads : List Read) (h l : ℕ) → h ≤ 256 → l ≤ 512 → InOrder h l (map parse reads) → Parted h l reads (map parse reads)
-unfolding parse parsedRows parsedPrices parsedLines
-parted [] h l a b o = record {
-  holdings = [];
-  lines = [];
-  all = refl;
-  each-holding = no-holdings;
-  each-line = no-lines;
-  few-holdings = omega arith;
-  few-lines = omega arith;
-  no-more = λ q. refl;
-}
-parted (broken ∷ reads) h l a b o = absurd (o .0)
-parted (formed texts ∷ reads) h l a b o =
-    let s = parse (formed texts) in
-    let (c, d) = few h l s (o .0) a b in
-    one-more texts h l reads (map parse reads) s (parsed-as texts) (o .0) (parted reads _ _ c d (o .1))
+-- one record before them; after a P there is no H
+module _ (texts : List (List ℕ)) (reads : List Read) where
+  one-more : (before : Place) (m : Meaning) → parse (formed texts) ≡ m → Follow before (m ∷ map parse reads) → Parted reads (submissionOf (map parse reads))
+      → Parted (formed texts ∷ reads) (submissionOf (m ∷ map parse reads))
+  unfolding valuesBy submissionOf numbersOf lineNumbers listTo
+  one-more before (good zero vs) e f (hs, ls, all, h, l) = (texts ∷ hs, ls, ap (formed texts ∷_) all, holding-and (record-of texts 0 vs e) h, l)
+  one-more before (good (suc zero) vs) e f ([], ls, all, h, l) = ([], texts ∷ ls, ap (formed texts ∷_) all, h, line-and (record-of texts 1 vs e) l)
+  one-more before (good (suc zero) vs) e f (r ∷ hs, ls, all, h, l) =
+      let (k, a, may, _) = f 1 (omega (arith, ap (λ (l : List Read). length (map parse l)) all)) in
+      let s : k ≡ 0 = cc (first-letter h, ap (λ (l : List Read). letterOf (getD (map parse l) 0 (refused 0))) all) in
+      absurd (omega (arith, leb-true 1 k may))
+  one-more before (good (suc (suc k)) vs) e f p =
+      let (j, a, _, some) = f 0 (omega arith) in
+      let s : j ≡ suc (suc k) = cc in
+      absurd (omega (arith, rw s at some))
+  one-more before (refused number) e f p =
+      let (j, a, _, _) = f 0 (omega arith) in
+      clash cc
 
--- good records, after h holdings and l lines, are parsed in order as what they are
-abbrev pub Gives : ℕ → ℕ → List (List (List ℕ)) → Submission → Type 0
-Gives h l records s = InOrder h l (map parse (map formed records)) × (submissionOf (map parse (map formed records)) ≡ s)
+-- records parsed in order are good H, then good P
+pub parted : (before : Place) (reads : List Read) → Follow before (map parse reads) → Parted reads (submissionOf (map parse reads))
+unfolding parse submissionOf valuesBy
+parted before [] f = ([], [], refl, no-holdings, no-lines)
+parted before (broken ∷ reads) f =
+    let (j, a, _, _) = f 0 (omega arith) in
+    clash cc
+parted before (formed texts ∷ reads) f =
+    let m = parse (formed texts) in
+    one-more texts reads before m refl f (parted (letterOf m) reads (follow-rest before m (map parse reads) f))
 
-lines-give : {rs : List (List (List ℕ))} {lines : List Line} → AreLines rs lines → (h l : ℕ) → l + length lines ≤ 512 → Gives h l rs (record { rows = []; prices = []; lines = lines })
-unfolding parsedRows parsedPrices parsedLines submissionOf
-lines-give no-lines h l q = (tt, refl)
-lines-give (line-and {r} {line} is rest) h l q =
-    let (order, same) = lines-give rest (h + 0) (l + 1) (omega arith) in
-    rw (line-exactly r line .1 is) ((omega arith, order), ap (λ (s : Submission). record { rows = s .rows; prices = s .prices; lines = line ∷ s .lines }) same)
+-- good records, where they may follow, are parsed in order as what they are
+abbrev pub Gives : Place → List Meaning → Submission → Type 0
+Gives before parsed s = Follow before parsed × (submissionOf parsed ≡ s)
 
-pub records-give : {hs ls : List (List (List ℕ))} {rows : List Row} {prices : List ℕ} {lines : List Line} → AreHoldings hs rows prices → AreLines ls lines → (h : ℕ) → h + length rows ≤ 256 → length lines ≤ 512 → Gives h 0 (hs ++ ls) (record { rows = rows; prices = prices; lines = lines })
-unfolding parsedRows parsedPrices parsedLines submissionOf
-records-give no-holdings ls h p q = lines-give ls h 0 (omega arith)
-records-give (holding-and {r} {row} {price} is rest) ls h p q =
-    let (order, same) = records-give rest ls (h + 1) (omega arith) q in
-    rw (holding-exactly r row price .1 is) (((refl, omega arith), order), ap (λ (s : Submission). record { rows = row ∷ s .rows; prices = price ∷ s .prices; lines = s .lines }) same)
+gives-and : (before : Place) (k : ℕ) (ms : List Meaning) {m : Meaning} {vs : List ℕ} {s : Submission} → m ≡ good k vs → mayFollow before k ≡ true → 0 < limitOf k .0
+    → Follow (At k) ms → submissionOf (good k vs ∷ ms) ≡ s → Gives before (m ∷ ms) s
+gives-and before k ms {vs = vs} {s = s} is may some f e = subst (λ m. Gives before (m ∷ ms) s) (sym is) (follow, e)
+  where
+    follow : Follow before (good k vs ∷ ms)
+    follow zero q = (k, refl, may, some)
+    follow (suc zero) q = f 0 (omega arith)
+    follow (suc (suc n)) q = f (suc n) (omega arith)
+
+lines-give : {rs : List (List (List ℕ))} {lines : List Line} → AreLines rs lines → (before : Place) → mayFollow before 1 ≡ true
+    → Gives before (map parse (map formed rs)) (record { rows = []; prices = []; lines = lines })
+unfolding valuesBy submissionOf lineNumbers
+lines-give no-lines before may = (λ n q. absurd (omega arith), refl)
+lines-give (line-and {r} {line} is rest) before may =
+    let (f, e) = lines-give rest (At 1) refl in
+    gives-and before 1 _ (record-exactly r 1 (lineNumbers line) .1 is) may (omega arith) f
+    (ap (λ (s : Submission). record { rows = s .rows; prices = s .prices; lines = line ∷ s .lines }) e)
+
+pub records-give : {hs ls : List (List (List ℕ))} {rows : List Row} {prices : List ℕ} {lines : List Line} → AreHoldings hs rows prices → AreLines ls lines
+    → (before : Place) → mayFollow before 0 ≡ true → mayFollow before 1 ≡ true → Gives before (map parse (map formed (hs ++ ls))) (record { rows = rows; prices = prices; lines = lines })
+unfolding valuesBy submissionOf numbersOf
+records-give no-holdings ls before may later = lines-give ls before later
+records-give (holding-and {r} {row} {price} is rest) ls before may later =
+    let (f, e) = records-give rest ls (At 0) refl refl in
+    gives-and before 0 _ (record-exactly r 0 (numbersOf row ++ (price ∷ [])) .1 is) may (omega arith) f
+    (ap (λ (s : Submission). record { rows = row ∷ s .rows; prices = price ∷ s .prices; lines = s .lines }) e)
