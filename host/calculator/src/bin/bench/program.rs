@@ -8,7 +8,7 @@ use std::process::{Command, Stdio};
 use std::time::Instant;
 
 use margin_calculator::print;
-use margin_calculator::samples::joined;
+use margin_calculator::texts::joined;
 
 use crate::read::full_file;
 use crate::timing::median;
