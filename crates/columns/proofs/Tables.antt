@@ -4,7 +4,7 @@ use mathlib.Core.List.{List, [], _∷_, _++_, map, map-append}
 use Prim.Native.Nat.{ℕ, suc, _+_, _*_, _≤_, _<_}
 use native.Mathlib.Nat.{add-zero}
 use native.Mathlib.Omega.{arith}
-use lib.ListN.{length, take, drop, length-take, length-drop, length-map}
+use lib.ListN.{length, take, drop, length-append, length-take, length-drop, length-map}
 use lib.Seq.{length-take-le, take-take}
 use Rattle.lists.specs.Tables.{listTo, front}
 use Rattle.lists.proofs.Tables.{getD-to}

@@ -6,6 +6,8 @@ use native.Mathlib.Omega.{arith}
 use lib.ListN.{length}
 use borrow.Author.Needs.{needs}
 use borrow.Author.Tests.{not-true, not-false}
+use Rattle.csv.specs.Reading.{fieldCount}
+use Rattle.columns.specs.Columns.{EntryRoom}
 use Rattle.layout.specs.Layout.{mayFollow}
 use Rattle.reader.proofs.Reading.{Reading, reading-none}
 use Rattle.reader.proofs.Turns.{Turn, GoodTurn, turn-refused, turn-number, turn-letter, turn-values, turn-late, turn-ahead, turn-full, turn-passing, entry-room}
@@ -72,21 +74,25 @@ returns-4 c =
     (turn-full (good m) (at (looked m) .loop .inv .each-holding) (c .before .if3 .taken) (follows (c .before .before)) (c .if4 .taken))
     (λ z. omega arith)
 
-put-entry-requires : tie.Need-put-entry-requires Inv-loop μ-loop
-put-entry-requires c κs =
-    let m = c .before .before .before .before .before in
-    entry-room (good m) (at (looked m) .loop .inv .each-holding) (c .before .before .before .if3 .taken) (c .before .before .if4 .left)
-    (start (looked m) .pre .whole-book) (start (looked m) .pre .enough) (omega arith) (omega arith)
+-- there is room for it
+module _ (c : tie.Else4 Inv-loop μ-loop) where
+  abbrev held : tie.After-may-follow Inv-loop μ-loop
+  held = c .before .before .before
+
+  holding-room : EntryRoom (fieldCount - 1) (start (looked held) .args .rows) (at (looked held) .loop .holdings) (looked held .entry-at .last .1 .1 .0) (at (looked held) .loop .book)
+  holding-room =
+      entry-room (good held) (at (looked held) .loop .inv .each-holding) (c .before .if3 .taken) (c .if4 .left)
+      (start (looked held) .pre .whole-book) (start (looked held) .pre .enough) (omega arith) (omega arith)
 
 loop-again : tie.Need-loop-again Inv-loop μ-loop
 loop-again c =
     let first = c .before .before .before .before .before .before in
     let m = first .before .before in
     let r = at (looked m) .loop .inv in
-    let less = c .before .before .before .before .before .if4 .left in
+    let few = c .before .before .before .before .before in
     record {
-      passing = turn-passing (good m) (r .each-holding) (first .if3 .taken) less (follows (first .before));
-      each-holding = tabled-more (good m) (r .each-holding) (first .if3 .taken) less (c .before .before .put-entry .pre) (c .before .before .put-entry .ensures);
+      passing = turn-passing (good m) (r .each-holding) (first .if3 .taken) (few .if4 .left) (follows (first .before));
+      each-holding = tabled-more (good m) (r .each-holding) (first .if3 .taken) (few .if4 .left) (holding-room few) (c .before .before .put-entry .ensures);
       each-line = tabled-same (good m) (r .each-line) (λ z. omega (arith, first .if3 .taken));
     }
 
@@ -98,22 +104,25 @@ returns-5 c =
     (turn-full (good m) (at (looked m) .loop .inv .each-line) (second (c .before)) (follows (c .before .before)) (c .if5 .taken))
     (λ z. omega arith)
 
-put-entry-requires-2 : tie.Need-put-entry-requires-2 Inv-loop μ-loop
-put-entry-requires-2 c κs =
-    let m = c .before .before .before .before .before in
-    entry-room (good m) (at (looked m) .loop .inv .each-line) (second (c .before .before .before)) (c .before .before .if5 .left)
-    (start (looked m) .pre .whole-lines) (start (looked m) .pre .enough) (omega arith) (omega arith)
+module _ (c : tie.Else5 Inv-loop μ-loop) where
+  abbrev lined : tie.After-may-follow Inv-loop μ-loop
+  lined = c .before .before .before
+
+  line-room : EntryRoom 3 (start (looked lined) .args .rows) (at (looked lined) .loop .pairs) (looked lined .entry-at .last .1 .1 .0) (at (looked lined) .loop .lines)
+  line-room =
+      entry-room (good lined) (at (looked lined) .loop .inv .each-line) (second (c .before)) (c .if5 .left)
+      (start (looked lined) .pre .whole-lines) (start (looked lined) .pre .enough) (omega arith) (omega arith)
 
 loop-again-2 : tie.Need-loop-again-2 Inv-loop μ-loop
 loop-again-2 c =
     let other = c .before .before .before .before .before .before in
     let m = other .before .before in
     let r = at (looked m) .loop .inv in
-    let less = c .before .before .before .before .before .if5 .left in
+    let few = c .before .before .before .before .before in
     record {
-      passing = turn-passing (good m) (r .each-line) (second other) less (follows (other .before));
+      passing = turn-passing (good m) (r .each-line) (second other) (few .if5 .left) (follows (other .before));
       each-holding = tabled-same (good m) (r .each-holding) (other .if3 .left);
-      each-line = tabled-more (good m) (r .each-line) (second other) less (c .before .before .put-entry2 .pre) (c .before .before .put-entry2 .ensures);
+      each-line = tabled-more (good m) (r .each-line) (second other) (few .if5 .left) (line-room few) (c .before .before .put-entry2 .ensures);
     }
 
 pub read-spec : {M : Type 1} → statement M
@@ -138,7 +147,7 @@ read-spec =
     (λ c. search needs)
     returns-4
     (λ c. sym (turn-values (good (c .before .before .before .before))))
-    put-entry-requires
+    (λ c κs. holding-room (c .before .before))
     (λ c. search needs)
     (λ c. search needs)
     (λ c. let a = turn-ahead (good (c .before .before .before .before .before .before .before .before)) in omega arith)
@@ -147,7 +156,7 @@ read-spec =
     (λ c. search needs)
     returns-5
     (λ c. sym (turn-values (good (c .before .before .before .before))))
-    put-entry-requires-2
+    (λ c κs. line-room (c .before .before))
     (λ c. search needs)
     (λ c. search needs)
     (λ c. let a = turn-ahead (good (c .before .before .before .before .before .before .before .before)) in omega arith)
