@@ -53,7 +53,9 @@ is-refused (Refused number place) = Unit {0}
 
 refused-number : {n place : ℕ} (a : Answer) → Refused n place ≡ contentsOf a → a .number ≢ 0
 unfolding contentsOf is-refused
-refused-number a e z = subst is-refused (e ∙ rw (eq-eqb (a .number) 0 z)) tt
+refused-number a e z =
+    let other : Refused _ _ ≡ Read (a .first) (a .second) = e ∙ rw (eq-eqb (a .number) 0 z) in
+    subst is-refused other tt
 
 module _ {text : List ℕ} {rows : ℕ} {book lines book′ lines′ : List ℕ} {d : Contents} (from-file : ReadsFile text rows book lines book′ lines′ d) where
   -- a refusal is the file's first
