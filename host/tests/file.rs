@@ -2,11 +2,11 @@
 
 mod support;
 
-use margin_calculator::samples::{joined, quoted};
-use margin_calculator::{Row, Rows, Sheet};
+use margin_calculator::texts::{PRINTED, holding, joined, of_width, quoted, quoted_at};
+use margin_calculator::{FIELDS, Row, Rows, Sheet};
 use margin_host::Line;
 use support::column;
-use support::file::{File, Files, PRINTED, with_field};
+use support::file::{File, Files, with_field};
 
 fn printed() -> Sheet {
     Sheet {
@@ -85,9 +85,9 @@ fn files_without_a_field() {
     files.refused(&File::of(b"\n"), (19, 0), format_args!("an LF"));
     files.refused(&File::of(b"\n\r"), (19, 0), format_args!("LF and CR"));
     files.refused(
-        &File::of(b",,,,,,"),
+        &File::of(of_width("", FIELDS).as_bytes()),
         (21, 0),
-        format_args!("seven empty fields"),
+        format_args!("empty fields"),
     );
     for at in 0..=PRINTED.len() {
         let mut records = PRINTED.to_vec();
@@ -116,7 +116,7 @@ fn every_letter_and_code() {
     for (side, side_number) in [("L", 0), ("S", 1)] {
         for (kind, kind_number) in [("B", 0), ("C", 1), ("R", 2)] {
             for (issuer, issuer_number) in issuers {
-                let record = format!("H,{side},{kind},{issuer},2000,1000,0");
+                let record = holding(&format!("{side},{kind},{issuer},2000,1000,0"));
                 let sheet = one_holding(side_number, kind_number, issuer_number);
                 for text in [joined(&[&record]), joined(&[quoted(&record)])] {
                     files.accepted(&File::exact(&text, 1, 0), &sheet, format_args!("{record}"));
@@ -236,7 +236,7 @@ fn texts_that_are_no_numerals() {
 #[test]
 fn fields_that_must_be_empty() {
     let mut files = Files::fixed("fields that must be empty");
-    for at in 4..7 {
+    for at in 4..FIELDS {
         let record = with_field(PRINTED[3], at, b"\"\"");
         let read = files.compare(&File::exact(&record, 0, 1), format_args!("quotes {at}"));
         assert_eq!(read.number, 0);
@@ -257,8 +257,8 @@ fn fields_that_must_be_empty() {
 fn a_doubled_quote_is_never_a_value() {
     let mut files = Files::fixed("doubled quotes");
     for record in [PRINTED[0], PRINTED[3]] {
-        for at in 0..7 {
-            let field = record.split(',').nth(at).expect("seven fields");
+        for at in 0..FIELDS {
+            let field = record.split(',').nth(at).expect("all fields");
             for text in [
                 "\"\"\"\"".to_string(),
                 format!("\"{field}\"\"\""),
@@ -305,15 +305,15 @@ fn a_line_end_in_quotes_ends_no_record() {
         );
     }
     // A later fault is counted in records and not in lines.
-    let many = ["\"\r\n\r\n\r\n\",1,2,3,4,5,6", PRINTED[0]];
+    let many = of_width("\"\r\n\r\n\r\n\",1,2,3,4,5,6", FIELDS);
     files.refused(
-        &File::of(&joined(&many)),
+        &File::of(&joined(&[&many, PRINTED[0]])),
         (21, 0),
         format_args!("three line ends"),
     );
-    let text = b"H,L,C,CA,2000,1000000,0\r\n\"H\",\"L\",C,CA,2000,1,0\r\n\"a\r\nb\"\r\n";
+    let second = quoted_at(&holding("L,C,CA,2000,1,0"), &[0, 1]);
     files.refused(
-        &File::of(text),
+        &File::of(&joined(&[PRINTED[0], &second, "\"a\r\nb\""])),
         (20, 2),
         format_args!("a field of two lines"),
     );

@@ -2,18 +2,16 @@
 
 mod support;
 
-use margin_calculator::samples::{ANY, best_sheet, holdings, text_of};
+use margin_calculator::samples::{ANY, best_sheet, holdings};
+use margin_calculator::texts::{PRINTED, holding, joined, line, text_of};
 use margin_calculator::{Row, Rows, Sheet};
 use margin_host::Line;
 use support::file::{File, Files};
 use support::lent::NAMES;
 
 /// Three holdings and two lines.
-const TEXT: &[u8] = b"H,L,C,CA,2000,1000000,0\r\nH,S,B,CA,2000,600000,5840\r\n\
-                      H,S,R,ON,2000,300000,6570\r\nP,0,1,600000,,,\r\nP,0,2,300000,,,\r\n";
-
 fn exact() -> File {
-    File::exact(TEXT, 3, 2)
+    File::exact(&joined(&PRINTED), 3, 2)
 }
 
 #[test]
@@ -56,22 +54,22 @@ fn two_lists_of_other_lengths() {
 #[test]
 fn answers_of_every_length() {
     let mut files = Files::fixed("answers of every length");
-    let holdings = b"H,L,C,CA,2000,1000000,0\r\n".repeat(257);
-    let lines = b"P,0,1,600000,,,\r\n".repeat(513);
-    let after: &[u8] = b"P,0,1,1,,,\r\nH,L,C,CA,1,1,0";
-    let texts: [(&[u8], (u64, u64)); 9] = [
-        (TEXT, (0, 3)),
-        (b"", (0, 0)),
-        (&holdings, (3, 0)),
-        (&lines, (9, 0)),
-        (&[b','; 65_537], (18, 0)),
-        (b"\r\n", (20, 0)),
-        (b"H,L,C,CA,1,1,0\r\n\t", (19, 1)),
-        (b"H,L,C,CA,1,1,0\r\nH,L,C,YT,1,1,0", (21, 1)),
-        (after, (22, 1)),
+    let (one, unknown) = (&holding("L,C,CA,1,1,0"), &holding("L,C,YT,1,1,0"));
+    let open = |records: [&str; 2]| records.join("\r\n").into_bytes();
+    let texts: [(Vec<u8>, (u64, u64)); 9] = [
+        (joined(&PRINTED), (0, 3)),
+        (Vec::new(), (0, 0)),
+        (joined(&[PRINTED[0]; 257]), (3, 0)),
+        (joined(&[PRINTED[3]; 513]), (9, 0)),
+        (vec![b','; 65_537], (18, 0)),
+        (b"\r\n".to_vec(), (20, 0)),
+        (open([one, "\t"]), (19, 1)),
+        (open([one, unknown]), (21, 1)),
+        (open([&line("0,1,1"), one]), (22, 1)),
     ];
     for length in 0..=24 {
-        for (text, (number, place)) in texts {
+        for (text, (number, place)) in &texts {
+            let (number, place) = (*number, *place);
             let mut file = File::of(text);
             file.answer = length;
             let what = format_args!("{number}, answer of {length} bytes");
@@ -103,8 +101,10 @@ fn lists_of_the_empty_file() {
 #[test]
 fn lists_of_holdings_alone_and_lines_alone() {
     let mut files = Files::fixed("holdings alone and lines alone");
-    let holdings = File::exact(b"H,L,C,CA,1,1,0\r\nH,S,C,CA,1,1,0", 2, 0);
-    let lines = File::exact(b"P,0,1,1,,,\r\nP,0,1,1,,,\r\nP,0,1,1,,,", 0, 3);
+    let holdings = ["L,C,CA,1,1,0", "S,C,CA,1,1,0"].map(holding).join("\r\n");
+    let holdings = File::exact(holdings.as_bytes(), 2, 0);
+    let lines = ["0,1,1"; 3].map(line).join("\r\n");
+    let lines = File::exact(lines.as_bytes(), 0, 3);
     for file in [holdings, lines] {
         assert_eq!(files.compare(&file, format_args!("exact")).number, 0);
         for (at, name) in NAMES.iter().enumerate() {

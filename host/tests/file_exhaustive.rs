@@ -2,8 +2,9 @@
 
 mod support;
 
-use margin_calculator::samples::{joined, quoted};
-use support::file::{File, Files, PRINTED, with_field};
+use margin_calculator::FIELDS;
+use margin_calculator::texts::{PRINTED, joined, quoted};
+use support::file::{File, Files, with_field};
 
 /// Every text of so many letters.
 fn texts(letters: &[u8], length: u32) -> impl Iterator<Item = Vec<u8>> + '_ {
@@ -18,7 +19,7 @@ fn texts(letters: &[u8], length: u32) -> impl Iterator<Item = Vec<u8>> + '_ {
 fn every_byte_as_a_field() {
     let mut files = Files::fixed("every byte as a field");
     for (record, holdings, lines) in [(PRINTED[0], 1, 0), (PRINTED[3], 0, 1)] {
-        for at in 0..7 {
+        for at in 0..FIELDS {
             let mut read = 0;
             for byte in 0..=255u8 {
                 let bare = with_field(record, at, &[byte]);
@@ -112,15 +113,15 @@ fn every_byte_at_every_place() {
 fn every_short_text() {
     let mut files = Files::fixed("every short text");
     let letters = b"\",\r\nH\0";
-    for length in 0..=6 {
+    for length in 0..FIELDS as u32 {
         for text in texts(letters, length) {
             files.compare(&File::exact(&text, 0, 0), format_args!("{length} bytes"));
         }
     }
     assert_eq!(files.seen[0], 1, "only the empty text is read");
     files.has_seen(&[19, 20], 1_000);
-    // Seven fields take six commas.
-    assert_eq!(files.seen[21], 1, "only six commas have seven fields");
+    // As many fields as a record has take one comma fewer.
+    assert_eq!(files.seen[21], 1, "only commas have that many fields");
 }
 
 #[test]

@@ -2,10 +2,10 @@
 
 mod support;
 
-use margin_calculator::samples::{joined, quoted, records};
-use margin_calculator::{Row, Rows, Sheet};
+use margin_calculator::texts::{PRINTED, holding, joined, of_width, quoted, records};
+use margin_calculator::{FIELDS, Row, Rows, Sheet};
 use margin_host::Line;
-use support::file::{File, Files, PRINTED};
+use support::file::{File, Files};
 
 /// How a text begins, what it is filled up with, how it ends, and what it is refused with.
 type Long<'a> = (&'a [u8], u8, &'a [u8], (u64, u64));
@@ -19,7 +19,9 @@ fn files_of_the_greatest_length() {
         text.extend(last);
         File::of(&text)
     };
-    let book = joined(&PRINTED);
+    let (book, empty) = (joined(&PRINTED), of_width("", FIELDS));
+    let price = holding("L,C,CA,2000,1,#") + "\r\n";
+    let (before, after) = price.split_once('#').expect("the mark of the digits");
     let texts: [Long<'_>; 12] = [
         (b"", b',', b"", (20, 0)),
         (b"", b'x', b"", (20, 0)),
@@ -29,10 +31,10 @@ fn files_of_the_greatest_length() {
         (b"", b'"', b"", (20, 0)),
         (b"", b',', b"\0", (19, 0)),
         (&book, b'x', b"", (20, 5)),
-        (&book, b'1', b",,,,,,", (21, 5)),
+        (&book, b'1', empty.as_bytes(), (21, 5)),
         (&book, b',', b"\r\n", (20, 5)),
         (&book, b',', b"\n", (19, 5)),
-        (b"H,L,C,CA,2000,1,", b'1', b"\r\n", (21, 0)),
+        (before.as_bytes(), b'1', after.as_bytes(), (21, 0)),
     ];
     for (first, fill, last, wanted) in texts {
         let what = format_args!("filled with {fill}");

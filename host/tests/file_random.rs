@@ -2,7 +2,9 @@
 
 mod support;
 
+use margin_calculator::FIELDS;
 use margin_calculator::samples::Random;
+use margin_calculator::texts;
 use support::file::{File, Files};
 
 /// Fields at which something changes in the paper, and some that are none.
@@ -34,7 +36,7 @@ fn holding(random: &mut Random) -> Vec<String> {
     let issuers = [
         "CA", "AB", "BC", "MB", "NB", "NL", "NS", "ON", "PE", "QC", "SK",
     ];
-    vec![
+    let mut fields = vec![
         "H".to_string(),
         random.pick(&["L", "S"]).to_string(),
         random.pick(&["B", "C", "R"]).to_string(),
@@ -42,13 +44,15 @@ fn holding(random: &mut Random) -> Vec<String> {
         numeral(random, 6),
         numeral(random, 12),
         numeral(random, 6),
-    ]
+    ];
+    fields.resize(FIELDS, String::new());
+    fields
 }
 
 fn line(random: &mut Random) -> Vec<String> {
     let mut fields = vec!["P".to_string(), numeral(random, 6), numeral(random, 6)];
     fields.push(numeral(random, 12));
-    fields.resize(7, String::new());
+    fields.resize(FIELDS, String::new());
     fields
 }
 
@@ -277,19 +281,13 @@ fn random_bytes() {
 #[test]
 fn long_random_texts() {
     let mut files = Files::new("long random texts", 0x0A05);
+    let records = [texts::line("0,1,1"), texts::holding("L,C,CA,1,1,0")];
+    let [line, holding] = records.map(|record| record + "\r\n");
     for round in 0..600 {
         let random = &mut files.random;
         let mut whole = small_records(random);
         let length = 65_530 + random.place(12);
-        let filler = random.pick(&[
-            ",",
-            "x",
-            "\"\"",
-            "\"",
-            "\r\n",
-            "P,0,1,1,,,\r\n",
-            "H,L,C,CA,1,1,0\r\n",
-        ]);
+        let filler = random.pick(&[",", "x", "\"\"", "\"", "\r\n", &line, &holding]);
         if random.below(4) == 0 {
             change(random, &mut whole);
         }

@@ -2,11 +2,13 @@
 
 mod support;
 
-use margin_calculator::samples::joined;
+use margin_calculator::FIELDS;
+use margin_calculator::texts::{holding, joined, line, of_width};
 use support::file::{File, Files};
 
-const HOLDING: &str = "H,L,C,ON,2000,1000,8760";
-const LINE: &str = "P,0,3,1000,,,";
+/// A holding and a line, by their fields.
+const HOLDING: &str = "L,C,ON,2000,1000,8760";
+const LINE: &str = "0,3,1000";
 /// Faults of one record, from the first in the reader's order.
 const OF_A_RECORD: [u64; 4] = [19, 20, 21, 22];
 
@@ -23,13 +25,13 @@ struct Plan {
 
 impl Plan {
     fn records(&self) -> Vec<String> {
-        let mut records = vec![HOLDING.to_string(); self.holdings];
-        records.resize(self.holdings + self.lines, LINE.to_string());
+        let mut records = vec![holding(HOLDING); self.holdings];
+        records.resize(self.holdings + self.lines, line(LINE));
         // From the last in order to the first: each leaves room for those before it.
         for number in OF_A_RECORD.into_iter().rev() {
             for (_, at) in self.faults.iter().filter(|fault| fault.0 == number) {
                 match number {
-                    22 => records[*at] = HOLDING.to_string(),
+                    22 => records[*at] = holding(HOLDING),
                     21 => records[*at].insert(2, 'x'),
                     20 => records[*at].push(','),
                     _ => records[*at].push('\t'),
@@ -144,9 +146,9 @@ fn one_record_too_many_and_another_fault() {
     files.has_seen(&[3, 9], 10);
     // The 257th holding after a line is 22, and the 513th line after it is not reached.
     for at in [257, 400, 768] {
-        let mut records = vec![HOLDING; 256];
-        records.resize(770, LINE);
-        records[at] = HOLDING;
+        let mut records = vec![holding(HOLDING); 256];
+        records.resize(770, line(LINE));
+        records[at] = holding(HOLDING);
         let what = format_args!("a 257th holding at {at}");
         files.refused(&File::of(&joined(&records)), (22, at as u64), what);
     }
@@ -202,6 +204,7 @@ fn a_short_list_comes_last() {
 #[test]
 fn the_grammar_is_judged_on_the_whole_record() {
     let mut files = Files::fixed("the whole record");
+    let good = &holding(HOLDING);
     for record in [
         "H,L,C,CA,1,1,0,,\t",
         "x,\u{7F}",
@@ -212,14 +215,15 @@ fn the_grammar_is_judged_on_the_whole_record() {
         "H,L,C,CA,1,1,0,\"\r\n",
     ] {
         for before in 0..3 {
-            let mut records = vec![HOLDING; before];
-            records.extend([record, HOLDING]);
+            let mut records = vec![good.as_str(); before];
+            records.extend([record, good]);
             let what = format_args!("{record:?} after {before}");
             files.refused(&File::of(&joined(&records)), (19, before as u64), what);
         }
     }
     // A record is finished before the next is looked at.
-    for (record, number) in [(HOLDING, 19), ("H", 20), ("", 20), ("h,,,,,,", 21)] {
+    let unknown = &of_width("h", FIELDS);
+    for (record, number) in [(good.as_str(), 19), ("H", 20), ("", 20), (unknown, 21)] {
         let records = [record, "\"", "\t"];
         let at = u64::from(number == 19);
         let what = format_args!("{record:?} before an ill-formed record");
@@ -230,14 +234,11 @@ fn the_grammar_is_judged_on_the_whole_record() {
 #[test]
 fn records_of_other_widths() {
     let mut files = Files::fixed("records of other widths");
-    for record in [HOLDING, LINE] {
-        let fields: Vec<&str> = record.split(',').collect();
+    for record in [holding(HOLDING), line(LINE)] {
         for count in 1..=20 {
-            let mut kept: Vec<&str> = fields.iter().copied().take(count).collect();
-            kept.resize(count, "");
-            let text = joined(&[kept.join(",")]);
-            if count == 7 {
-                let read = files.compare(&File::of(&text), format_args!("seven"));
+            let text = joined(&[of_width(&record, count)]);
+            if count == FIELDS {
+                let read = files.compare(&File::of(&text), format_args!("as many as it has"));
                 assert_eq!(read.number, 0);
             } else {
                 files.refused(&File::of(&text), (20, 0), format_args!("{count} fields"));

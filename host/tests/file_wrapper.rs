@@ -1,15 +1,13 @@
 //! The wrapper on files: what it reads, what it refuses, and reading and checking in one call.
 
-mod support;
-
 use margin_calculator::cases::all;
-use margin_calculator::samples::{Random, SHAPES, best_sheet, holdings, joined, text_of};
-use margin_calculator::{self as calculator, Position, Rows, Sheet, print};
+use margin_calculator::samples::{Random, SHAPES, best_sheet, holdings};
+use margin_calculator::texts::{PRINTED, holding, joined, line, of_width, text_of};
+use margin_calculator::{self as calculator, FIELDS, Position, Rows, Sheet, print};
 use margin_host::{
     Accepted, Book, Columns, Figures, Holding, Issuer, Kind, Line, Proposal, Refusal, Side, check,
     check_file, read,
 };
-use support::file::PRINTED;
 
 /// The printed file with another record at one place.
 fn with(at: usize, record: &str) -> Vec<u8> {
@@ -87,7 +85,7 @@ fn every_refusal_of_a_file() {
         let refusal = Err(Refusal::NotSevenFields { record });
         assert_eq!(read(&with(at, "")), refusal);
         let refusal = Err(Refusal::FieldNotOfItsSort { record });
-        assert_eq!(read(&with(at, "h,,,,,,")), refusal);
+        assert_eq!(read(&with(at, &of_width("h", FIELDS))), refusal);
     }
     let refusal = Err(Refusal::HoldingAfterLine { record: 4 });
     assert_eq!(read(&with(4, PRINTED[0])), refusal);
@@ -99,18 +97,18 @@ fn every_refusal_of_a_file() {
 
 #[test]
 fn ranges_are_left_to_the_check() {
-    let long = with(0, "H,L,C,CA,36501,1000000,0");
+    let long = with(0, &holding("L,C,CA,36501,1000000,0"));
     assert_eq!(read_columns(&long).map(|sheet| sheet.days[0]), Ok(36_501));
     let refusal = Err(Refusal::DaysOutOfRange { holding: 0 });
     assert_eq!(check_file(&long), refusal);
-    let large = with(2, "H,S,R,ON,2000,999999999999,6570");
+    let large = with(2, &holding("S,R,ON,2000,999999999999,6570"));
     assert_eq!(
         read_columns(&large).map(|sheet| sheet.value[2]),
         Ok(999_999_999_999)
     );
     let refusal = Err(Refusal::ValueOutOfRange { holding: 2 });
     assert_eq!(check_file(&large), refusal);
-    let far = with(4, "P,0,999999,300000,,,");
+    let far = with(4, &line("0,999999,300000"));
     assert_eq!(read_columns(&far).map(|sheet| sheet.short[1]), Ok(999_999));
     let refusal = Err(Refusal::NotInBook { line: 1 });
     assert_eq!(check_file(&far), refusal);

@@ -53,6 +53,10 @@ module _ (ns : List (List ℕ)) where
       let first = price-read (map (nth j) ns) old each k (omega (arith, length-map ns (nth j))) ∙ getD-map-in (nth j) ns k [] 0 h in
       rw (drop-cons (getD ns k []) j 0 (omega (arith, e))) (λ i. first i ∷ numbers-read fit k h (suc j) olds (omega (arith, e)) i)
 
+  -- cut behind them, a column has the bytes of the numbers alone
+  pub cut-numbers : (j : ℕ) (old : List ℕ) → take (8 * length ns) (column (map (nth j) ns) old) ≡ encode (map (nth j) ns)
+  cut-numbers j old = rw (length-map ns (nth j)) at (cut-column (map (nth j) ns) old)
+
   -- in columns that held nothing there are no others
   count-filled : (olds : List (List ℕ)) → countIn (filledFrom 0 ns ([] ∷ olds)) ≡ length ns
   unfolding countIn entries filledFrom

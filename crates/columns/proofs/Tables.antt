@@ -4,7 +4,7 @@ use mathlib.Core.List.{List, [], _∷_, _++_, map, map-append}
 use Prim.Native.Nat.{ℕ, suc, _+_, _*_, _≤_, _<_}
 use native.Mathlib.Nat.{add-zero}
 use native.Mathlib.Omega.{arith}
-use lib.ListN.{length, getD, take, drop, length-take, length-drop, length-map}
+use lib.ListN.{length, take, drop, length-append, length-take, length-drop, length-map}
 use lib.Seq.{length-take-le, take-take}
 use Rattle.lists.specs.Tables.{listTo, front}
 use Rattle.lists.proofs.Tables.{getD-to}
@@ -13,7 +13,7 @@ use Rattle.proposal.specs.Submission.{lineNumbers, lineBy}
 use Rattle.words.specs.Words.{encode}
 use Rattle.words.proofs.Encoded.{word-more}
 use Rattle.columns.specs.Columns.{Columns, makeColumns, column, filledFrom, filled, columnIn, ColumnThere, Entered, EntryPut, copied}
-use Rattle.columns.proofs.ReadBack.{nth, cut-column}
+use Rattle.columns.proofs.ReadBack.{nth, cut-numbers}
 
 -- the first entries of a column have eight bytes each
 pub column-long : (rows n j : ℕ) (table : List ℕ) → ColumnThere rows n j table → length (columnIn rows n table j) ≡ 8 * n
@@ -23,26 +23,27 @@ column-long rows n j table h = length-take-le (8 * n) (drop (8 * (rows * j)) tab
 -- no entry, and one entry more
 pub entered-none : (count rows : ℕ) (table : List ℕ) → Entered count rows [] table table
 unfolding column front encode
-entered-none count rows table = record { long = refl; each = λ j h. refl }
+entered-none count rows table = record { few = omega arith; long = refl; each = λ j h. refl }
 
 pub entered-more : {count rows : ℕ} {numbers : List (List ℕ)} {values old so-far now : List ℕ} → Entered count rows numbers old so-far
-    → EntryPut count rows (length numbers) values so-far now → Entered count rows (numbers ++ (values ∷ [])) old now
+    → EntryPut count rows (length numbers) values so-far now → length numbers < rows → Entered count rows (numbers ++ (values ∷ [])) old now
 unfolding column
-entered-more {rows = rows} {numbers = numbers} {values = values} {old = old} e p = record {
+entered-more {rows = rows} {numbers = numbers} {values = values} {old = old} e p h = record {
+  few = simp length-append (omega arith);
   long = p .long ∙ e .long;
-  each = λ j h.
+  each = λ j l.
       let more = word-more (map (nth j) numbers) (columnIn rows rows old j) (nth j values) in
-      p .each j h ∙ rw (e .each j h, map-append (nth j)) (rw (length-map numbers (nth j)) at more);
+      p .each j l ∙ rw (e .each j l, map-append (nth j)) (rw (length-map numbers (nth j)) at more);
 }
 
 -- n entries in a table
-module _ {count rows n : ℕ} {numbers : List (List ℕ)} {old now : List ℕ} (e : Entered count rows numbers old now) (many : length numbers ≡ n) (few : n ≤ rows) where
+module _ {count rows n : ℕ} {numbers : List (List ℕ)} {old now : List ℕ} (e : Entered count rows numbers old now) (many : length numbers ≡ n) where
   -- the first n of a column are the bytes of the numbers alone
   pub entered-column : (j : ℕ) → j < count → columnIn rows n now j ≡ encode (map (nth j) numbers)
   unfolding columnIn
   entered-column j h =
-      let cut : take (8 * n) (columnIn rows rows now j) ≡ columnIn rows n now j = take-take (8 * n) (8 * rows) (drop (8 * (rows * j)) now) (omega arith) in
-      sym cut ∙ ap (take (8 * n)) (e .each j h) ∙ rw (length-map numbers (nth j), many) at (cut-column (map (nth j) numbers) (columnIn rows rows old j))
+      let cut : take (8 * n) (columnIn rows rows now j) ≡ columnIn rows n now j = take-take (8 * n) (8 * rows) (drop (8 * (rows * j)) now) (omega (arith, e .few)) in
+      sym cut ∙ ap (take (8 * n)) (e .each j h) ∙ rw many at (cut-numbers numbers j (columnIn rows rows old j))
 
   -- copied, they fill the lists
   pub entered-copied : (j : ℕ) (olds : List (List ℕ)) → j + length olds ≤ count → copied rows n now j olds ≡ filledFrom j numbers olds
@@ -60,10 +61,10 @@ pub copied-none : (rows n j : ℕ) (table : List ℕ) → [] ≡ copied rows n t
 unfolding copied
 copied-none rows n j table = refl
 
-pub copied-more : (rows n j : ℕ) (table from old new : List ℕ) (olds news : List (List ℕ)) → from ≡ columnIn rows n table j → new ≡ front from old
+pub copied-more : (rows n j : ℕ) (table old : List ℕ) (olds : List (List ℕ)) {from new : List ℕ} {news : List (List ℕ)} → from ≡ columnIn rows n table j → new ≡ front from old
     → news ≡ copied rows n table (suc j) olds → new ∷ news ≡ copied rows n table j (old ∷ olds)
 unfolding copied
-copied-more rows n j table from old new olds news e p q = rw (p, e, q)
+copied-more rows n j table old olds e p q = rw (p, e, q)
 
 -- lists that are filled one after another
 filled-append : (values : List (List ℕ)) (j : ℕ) (olds more : List (List ℕ))

@@ -99,8 +99,9 @@ columnIn rows n table j = take (8 * n) (drop (8 * (rows * j)) table)
 abbrev pub ColumnThere : ℕ → ℕ → ℕ → List ℕ → Type 0
 ColumnThere rows n j table = 8 * (rows * j + n) ≤ length table
 
--- entries in a table: number j of each in column j, for as many columns as are counted, and all else as it was
+-- entries in a table, no more than it has rows: number j of each in column j, for as many columns as are counted, and all else as it was
 pub record Entered (count rows : ℕ) (numbers : List (List ℕ)) (old now : List ℕ) : Type 0 where
+  pub few : length numbers ≤ rows
   pub long : length now ≡ length old
   pub each : (j : ℕ) → j < count → columnIn rows rows now j ≡ column (map (λ ns. getD ns j 0) numbers) (columnIn rows rows old j)
 

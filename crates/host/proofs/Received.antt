@@ -145,13 +145,13 @@ module _ (text : List ℕ) (before : Columns) (out : List ℕ) where
           → ((s′ ∷ k′ ∷ i′ ∷ d′ ∷ v′ ∷ []) ≡ filledFrom 0 (map numbersOf (submissionIn text .rows)) (s ∷ k ∷ i ∷ d ∷ v ∷ [])) × (p′ ≡ column (submissionIn text .prices) p)
       unfolding submissionOf
       book-copied c =
-          book-filled (valuesBy 0 (parsedIn text)) (c ∙ entered-copied (from-file .each-holding (was-read from-file e)) (holdings-held from-file e) (few-holdings from-file e) 0 _ (omega arith))
+          book-filled (valuesBy 0 (parsedIn text)) (c ∙ entered-copied (from-file .each-holding (was-read from-file e)) (holdings-held from-file e) 0 _ (omega arith))
 
       pub lines-copied : {l s a l′ s′ a′ : List ℕ} → (l′ ∷ s′ ∷ a′ ∷ []) ≡ copied rows m lines′ 0 (l ∷ s ∷ a ∷ [])
           → (l′ ∷ s′ ∷ a′ ∷ []) ≡ filledFrom 0 (map lineNumbers (submissionIn text .lines)) (l ∷ s ∷ a ∷ [])
       unfolding submissionOf
       lines-copied {l} {s} {a} c =
-          c ∙ entered-copied (from-file .each-line (was-read from-file e)) (lines-held from-file e) (few-lines from-file e) 0 _ (omega arith) ∙ line-values-filled (valuesBy 1 (parsedIn text)) (l ∷ s ∷ a ∷ []) refl
+          c ∙ entered-copied (from-file .each-line (was-read from-file e)) (lines-held from-file e) 0 _ (omega arith) ∙ line-values-filled (valuesBy 1 (parsedIn text)) (l ∷ s ∷ a ∷ []) refl
 
       pub all-read : {two : Bool} {holdings′ lines′ : List (List ℕ)} {price′ : List ℕ} (out′ : List ℕ) (r : ℕ) → two ≡ short → two ≡ false
           → length (before .holdings) ≡ 5 → length (before .lines) ≡ 3

@@ -32,13 +32,12 @@ ahead-more found v wrong = refl
 
 -- the values of the texts after a letter: the first j are found
 pub record Finding (letter : ℕ) (ts : List (List ℕ)) (found : List ℕ) (j : ℕ) : Type 0 where
-  pub few : j < fieldCount
   pub texts : length ts ≡ fieldCount - 1
   pub room : length found ≡ fieldCount - 1
   pub rest : valuesOf (sortsBy letter) ts ≡ ahead (take j found) (valuesOf (drop j (sortsBy letter)) (drop j ts))
 
 pub finding-none : (letter : ℕ) (ts : List (List ℕ)) (found : List ℕ) → length ts ≡ fieldCount - 1 → length found ≡ fieldCount - 1 → Finding letter ts found 0
-finding-none letter ts found h l = record { few = omega arith; texts = h; room = l; rest = ahead-none (valuesOf (sortsBy letter) ts) }
+finding-none letter ts found h l = record { texts = h; room = l; rest = ahead-none (valuesOf (sortsBy letter) ts) }
 
 module _ {letter : ℕ} {ts : List (List ℕ)} {found : List ℕ} {j : ℕ} (f : Finding letter ts found j) where
   module _ (h : j < fieldCount - 1) where
@@ -49,7 +48,6 @@ module _ {letter : ℕ} {ts : List (List ℕ)} {found : List ℕ} {j : ℕ} (f :
 
     pub finding-more : (v : ℕ) → valueOf (getD (sortsBy letter) j Empty) (getD ts j []) ≡ Of v → Finding letter ts (set found j v) (j + 1)
     finding-more v e = record {
-      few = omega arith;
       texts = f .texts;
       room = length-set found j v ∙ f .room;
       rest =

@@ -3,9 +3,10 @@ use mathlib.Core.Path.{_≡_, refl, sym, _∙_}
 use mathlib.Core.List.{List, [], _∷_, _++_}
 use Prim.Native.Nat.{ℕ, zero, suc, _-_, _≤_, _<_}
 use native.Mathlib.Omega.{arith}
-use lib.Dec.{eqb}
+use lib.Dec.{ltb, eqb}
 use lib.ListN.{length, getD, replicate, length-append, length-replicate, List·getD-eq-default}
-use Rattle.lists.proofs.Entries.{each-read}
+use borrow.Author.Tests.{ltb-true}
+use Rattle.lists.proofs.Entries.{each-by, each-read}
 use Rattle.lists.proofs.Tests.{by-test}
 use Rattle.csv.specs.Reading.{fieldCount, Read, formed, broken}
 use Rattle.codes.specs.Codes.{placeOf}
@@ -46,7 +47,10 @@ listed k = getD layouts k ([], []) .1
 pub length-sorts : (k : ℕ) → length (sortsBy k) ≡ fieldCount - 1
 length-sorts k =
     length-padded Empty (listed k)
-    (each-read (λ (l : List ℕ × List Sort). length (l .1) < fieldCount) ([], []) (omega arith) layouts (omega arith, (omega arith, tt)) k)
+    (each-read Fits ([], []) (omega arith) layouts (each-by Fits (λ l. ltb (length (l .1)) fieldCount) (λ l e. ltb-true (length (l .1)) fieldCount e) layouts refl) k)
+  where
+    Fits : List ℕ × List Sort → Type 0
+    Fits l = length (l .1) < fieldCount
 
 -- past those that are listed all is empty
 pub past-listed : (k j : ℕ) → length (listed k) ≤ j → Empty ≡ getD (sortsBy k) j Empty

@@ -93,7 +93,7 @@ module _ {text : List ℕ} {rows : ℕ} {book lines book′ lines′ : List ℕ}
     lines-held = sym (length-map (valuesBy 1 (parsedIn text)) lineBy) ∙ lines-counted
 
     pub few-holdings : n ≤ rows
-    few-holdings = rw holdings-held at (from-file .few-holdings was-read)
+    few-holdings = rw holdings-held at (from-file .each-holding was-read .few)
 
     pub few-lines : m ≤ rows
-    few-lines = rw lines-held at (from-file .few-lines was-read)
+    few-lines = rw lines-held at (from-file .each-line was-read .few)

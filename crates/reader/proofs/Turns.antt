@@ -1,193 +1,185 @@
--- The records of a file, read one after another. Assumes nothing.
+-- What each turn does with the record that it looked at: it refuses the file, or passes the record and puts it into the table of its letter. Assumes nothing.
 use mathlib.Core.Path.{_≡_, refl, sym, ap, _∙_}
+use mathlib.Core.Bool.{true, false}
 use mathlib.Core.List.{List, [], _∷_, _++_, map, append-nil}
-use Prim.Native.Nat.{ℕ, zero, suc, _+_, _≤_, _<_}
+use Prim.Native.Nat.{ℕ, suc, _+_, _-_, _*_, _≤_, _<_}
 use native.Mathlib.Numerals.{add-one}
 use native.Mathlib.Omega.{arith}
-use lib.ListN.{length, getD, take, drop, set, length-set}
-use lib.Seq.{take-suc}
-use borrow.Author.Tests.{eq-eqb, ne-eqb, lt-ltb, le-ltb}
+use lib.Dec.{ltb}
+use lib.ListN.{length, getD, take, drop, length-append, length-drop}
+use lib.Seq.{take-suc, drop-cons}
+use borrow.Author.Tests.{eq-eqb, ne-eqb, le-ltb, ltb-true, ltb-false}
 use Rattle.lists.specs.Choice.{firstOf}
-use Rattle.lists.proofs.Tables.{length-to}
-use Rattle.lists.proofs.Passed.{Passed, passed-more, passed-first}
-use Rattle.holding.specs.declared.Row.{Row}
+use Rattle.lists.proofs.Tests.{either-way}
+use Rattle.lists.proofs.Passed.{passed-more, passed-first}
 use Rattle.article.specs.Answer.{Answer, makeAnswer}
-use Rattle.pairing.specs.declared.Line.{Line}
-use Rattle.proposal.specs.Submission.{noRow, noLine}
-use Rattle.csv.specs.Reading.{Split, fields, malformed, recordAt, fieldsOf, recordsAt}
-use Rattle.csv.proofs.Places.{progress, records-broken, records-next}
-use Rattle.layout.specs.Layout.{parse, EntryAt}
+use Rattle.codes.specs.declared.Place.{Place}
+use Rattle.codes.specs.declared.Place.the-variants.{At}
+use Rattle.csv.specs.Reading.{Split, fields, malformed, recordAt, recordsAt, fieldCount}
+use Rattle.csv.proofs.Places.{clash, progress, records-broken, records-next}
+use Rattle.columns.specs.Columns.{EntryRoom, EntryPut}
+use Rattle.columns.proofs.Tables.{entered-more}
+use Rattle.layout.specs.Layout.{letters, Meaning, good, refused, mayFollow, parse, readOf, meaningOf, EntryAt}
 use Rattle.layout.specs.declared.Entry.{Entry}
-use Rattle.layout.specs.declared.Parsed.{Parsed}
-use Rattle.layout.specs.declared.Parsed.the-variants.{Holding, Line as Lined, Refused}
-use Rattle.reader.specs.File.{parsedIn, parsedRows, parsedPrices, parsedLines, faultsOf, atRecord, fileFaults, fileFault}
-use Rattle.reader.proofs.Listed.{firsts, firsts-more}
-
--- what was parsed, and one more
-rows-parsed : (xs ys : List Parsed) → parsedRows (xs ++ ys) ≡ parsedRows xs ++ parsedRows ys
-unfolding parsedRows
-rows-parsed [] ys = refl
-rows-parsed (Holding row price ∷ xs) ys = ap (λ (l : List Row). row ∷ l) (rows-parsed xs ys)
-rows-parsed (Lined line ∷ xs) ys = rows-parsed xs ys
-rows-parsed (Refused number ∷ xs) ys = rows-parsed xs ys
-
-prices-parsed : (xs ys : List Parsed) → parsedPrices (xs ++ ys) ≡ parsedPrices xs ++ parsedPrices ys
-unfolding parsedPrices
-prices-parsed [] ys = refl
-prices-parsed (Holding row price ∷ xs) ys = ap (λ (l : List ℕ). price ∷ l) (prices-parsed xs ys)
-prices-parsed (Lined line ∷ xs) ys = prices-parsed xs ys
-prices-parsed (Refused number ∷ xs) ys = prices-parsed xs ys
-
-lines-parsed : (xs ys : List Parsed) → parsedLines (xs ++ ys) ≡ parsedLines xs ++ parsedLines ys
-unfolding parsedLines
-lines-parsed [] ys = refl
-lines-parsed (Holding row price ∷ xs) ys = lines-parsed xs ys
-lines-parsed (Lined line ∷ xs) ys = ap (λ (l : List Line). line ∷ l) (lines-parsed xs ys)
-lines-parsed (Refused number ∷ xs) ys = lines-parsed xs ys
-
--- n records are read, up to place i: none is refused, and the arrays begin with what they are
-pub record Reading (text : List ℕ) (rows : List Row) (prices : List ℕ) (lines : List Line) (holdings pairs n i : ℕ) : Type 0 where
-  pub few : n ≤ i
-  pub rest : map parse (recordsAt text i) ≡ drop n (parsedIn text)
-  pub passed : Passed (length (parsedIn text)) (atRecord (parsedIn text)) n
-  pub same-rows : firsts noRow holdings rows ≡ parsedRows (take n (parsedIn text))
-  pub same-prices : firsts 0 holdings prices ≡ parsedPrices (take n (parsedIn text))
-  pub same-lines : firsts noLine pairs lines ≡ parsedLines (take n (parsedIn text))
-  pub few-holdings : holdings ≤ 256
-  pub few-pairs : pairs ≤ 512
-  pub long-rows : length rows ≡ 256
-  pub long-prices : length prices ≡ 256
-  pub long-lines : length lines ≡ 512
+use Rattle.layout.specs.declared.Parsed.the-variants.{Good, Refused}
+use Rattle.layout.proofs.Letters.{parse-good, good-length, parse-refused}
+use Rattle.reader.specs.File.{parsedIn, valuesBy, limitOf, faultsOf, atRecord, fileLimit, fileFaults}
+use Rattle.reader.proofs.Reading.{values-append, values-few, Passing, countBy, Tabled, Refuses}
 
 -- a list of which x and others are left
 module _ {A : Type 0} (d x : A) (others : List A) where
-  pub record Left (xs : List A) (n : ℕ) : Type 0 where
-    pub within : n < length xs
-    pub here : getD xs n d ≡ x
-    pub then : drop (suc n) xs ≡ others
+  record Left (xs : List A) (n : ℕ) : Type 0 where
+    within : n < length xs
+    here : getD xs n d ≡ x
+    then : drop (suc n) xs ≡ others
 
   left : (xs : List A) (n : ℕ) → drop n xs ≡ x ∷ others → Left xs n
-  left [] zero e = absurd (omega (arith, ap (λ (l : List A). length l) e))
-  left [] (suc n) e = absurd (omega (arith, ap (λ (l : List A). length l) e))
-  left (y ∷ xs) zero e = record { within = omega arith; here = cc; then = cc }
-  left (y ∷ xs) (suc n) e =
-      let l = left xs n e in
-      record { within = omega (arith, l .within); here = l .here; then = l .then }
+  left xs n e =
+      let some : n < length xs = omega (arith, length-drop n xs, ap (λ (l : List A). length l) e) in
+      let split = drop-cons xs n d some in
+      record { within = some; here = cc; then = cc }
 
-module _ {text : List ℕ} {rows : List Row} {prices : List ℕ} {lines : List Line} {holdings pairs n i : ℕ} (r : Reading text rows prices lines holdings pairs n i)
-    (more : i < length text) {e : Entry} (at : EntryAt text i e) where
-  -- the record at place i is the n-th of the text
-  nth : (others : List Parsed) × Left (Refused 0) (e .parsed) others (parsedIn text) n
-  nth = by (recordAt text i) refl
-    where
-      by : (p : Split) → recordAt text i ≡ p → (others : List Parsed) × Left (Refused 0) (e .parsed) others (parsedIn text) n
-      by (fields ss next) q = (map parse (recordsAt text next), left (Refused 0) (e .parsed) _ (parsedIn text) n (sym (r .rest) ∙ rw (records-next text i more q, at, q)))
-      by malformed q = ([], left (Refused 0) (e .parsed) [] (parsedIn text) n (sym (r .rest) ∙ rw (records-broken text i more q, at, q)))
+-- the records after one
+abbrev after : List ℕ → Split → List Meaning
+after text (fields ss next) = map parse (recordsAt text next)
+after text malformed = []
 
-  abbrev others : List Parsed
-  others = nth .0
+from-here : (text : List ℕ) (i : ℕ) → i < length text → map parse (recordsAt text i) ≡ parse (readOf text (recordAt text i)) ∷ after text (recordAt text i)
+from-here text i more = by (recordAt text i) refl
+  where
+    by : (p : Split) → recordAt text i ≡ p → map parse (recordsAt text i) ≡ parse (readOf text p) ∷ after text p
+    by (fields ss next) q = rw (records-next text i more q)
+    by malformed q = rw (records-broken text i more q)
 
-  -- one more record is read
-  one-more : take (n + 1) (parsedIn text) ≡ take n (parsedIn text) ++ (e .parsed ∷ [])
-  one-more = rw (add-one, take-suc (parsedIn text) n (Refused 0) (nth .1 .within), nth .1 .here)
+-- n records of a text that is not too long are passed, and the code looked at the one at place i
+pub record Turn (text : List ℕ) (before : Place) (n i : ℕ) (vs : List ℕ) (e : Entry) : Type 0 where
+  pub short : length text ≤ fileLimit
+  pub passing : Passing text before n i
+  pub more : i < length text
+  pub looked : EntryAt text i vs e
 
-  -- so many holdings and lines are before it
-  holdings-before : length (parsedRows (take n (parsedIn text))) ≡ holdings
-  holdings-before = rw (← r .same-rows) (length-to holdings (λ k. getD rows k noRow))
+-- and that one is good, of the letter of number k
+pub record GoodTurn (text : List ℕ) (before : Place) (n i : ℕ) (vs : List ℕ) (e : Entry) (k : ℕ) : Type 0 where
+  pub turn : Turn text before n i vs e
+  pub good : e .parsed ≡ Good k
 
-  pairs-before : length (parsedLines (take n (parsedIn text))) ≡ pairs
-  pairs-before = rw (← r .same-lines) (length-to pairs (λ k. getD lines k noLine))
+-- the next record starts further on, and in the text
+pub record Ahead (text : List ℕ) (i next : ℕ) : Type 0 where
+  pub further : i < next
+  pub within : next ≤ length text
 
-  faults-here : atRecord (parsedIn text) n ≡ faultsOf n holdings pairs (e .parsed)
-  unfolding atRecord
-  faults-here = rw (holdings-before, pairs-before, nth .1 .here)
+module _ {text : List ℕ} {before : Place} {n i : ℕ} {vs : List ℕ} {e : Entry} (u : Turn text before n i vs e) where
+  -- what it means is the next in the text
+  module _ {m : Meaning} (means : meaningOf (e .parsed) vs ≡ m) where
+    parsed-here : parse (readOf text (recordAt text i)) ≡ m
+    parsed-here = sym (u .looked .means) ∙ means
 
-  -- a refusal of this record is the file's
-  refusal : length text ≤ 65536 → {a : Answer} → ((w : Answer) → firstOf (faultsOf n holdings pairs (e .parsed)) w ≡ a) → fileFault text ≡ a
-  unfolding fileFault fileFaults firstOf
-  refusal short f = rw (le-ltb 65536 (length text) short) (passed-first (r .passed) _ (nth .1 .within) (λ w. rw faults-here (f w)))
+    nth : Left (refused 0) m (after text (recordAt text i)) (parsedIn text) n
+    nth = left (refused 0) m _ (parsedIn text) n (sym (u .passing .rest) ∙ from-here text i (u .more) ∙ rw parsed-here)
 
-  pub turn-refused : (number : ℕ) → e .parsed ≡ Refused number → length text ≤ 65536 → fileFault text ≡ makeAnswer number n 0
-  unfolding firstOf
-  turn-refused number s short = refusal short (λ w. rw s)
+    faults-here : atRecord (parsedIn text) n ≡ faultsOf n before (countBy text n) m
+    unfolding atRecord
+    faults-here = rw (u .passing .last, nth .here)
 
-  pub turn-line-full : (line : Line) → e .parsed ≡ Lined line → pairs ≡ 512 → length text ≤ 65536 → fileFault text ≡ makeAnswer 9 0 0
-  unfolding firstOf
-  turn-line-full line s full short = refusal short (λ w. rw (s, eq-eqb pairs 512 full))
+    -- a refusal of it is the file's
+    refusal : {a : Answer} → ((w : Answer) → firstOf (faultsOf n before (countBy text n) m) w ≡ a) → Refuses text a
+    unfolding fileFaults firstOf
+    refusal f w = rw (le-ltb fileLimit (length text) (u .short)) (passed-first (u .passing .passed) w (nth .within) (λ w. rw faults-here (f w)))
 
-  module _ (row : Row) (price : ℕ) (s : e .parsed ≡ Holding row price) where
-    pub turn-late : (pairs ≡ 0 → ⊥) → length text ≤ 65536 → fileFault text ≡ makeAnswer 22 n 0
+    -- the values of a letter, with those of this record
+    values-more : (k : ℕ) → valuesBy k (take (n + 1) (parsedIn text)) ≡ valuesBy k (take n (parsedIn text)) ++ valuesBy k (m ∷ [])
+    values-more k = rw (add-one, take-suc (parsedIn text) n (refused 0) (nth .within), nth .here) (values-append k (take n (parsedIn text)) (m ∷ []))
+
+  module _ {number : ℕ} (s : e .parsed ≡ Refused number) where
+    pub turn-refused : Refuses text (makeAnswer number n 0)
     unfolding firstOf
-    turn-late some short =
-        let late : 0 < pairs = omega arith in
-        refusal short (λ w. rw (s, lt-ltb 0 pairs late))
+    turn-refused = refusal {m = refused number} (rw s) (λ w. refl)
 
-    pub turn-holding-full : pairs ≡ 0 → holdings ≡ 256 → length text ≤ 65536 → fileFault text ≡ makeAnswer 3 0 0
-    unfolding firstOf
-    turn-holding-full none full short = refusal short (λ w. rw (s, none, eq-eqb holdings 256 full))
+    pub turn-number : 19 ≤ number
+    turn-number = parse-refused (readOf text (recordAt text i)) (parsed-here (rw s))
 
-  -- a record that is not refused is followed by the others
-  pub record Followed : Type 0 where
-    pub rest : map parse (recordsAt text (e .next)) ≡ drop (n + 1) (parsedIn text)
-    pub ahead : i < e .next
-    pub within : e .next ≤ length text
+-- a good record
+module _ {text : List ℕ} {before : Place} {n i : ℕ} {vs : List ℕ} {e : Entry} {k : ℕ} (g : GoodTurn text before n i vs e k) where
+  means : meaningOf (e .parsed) vs ≡ good k vs
+  means = rw (g .good)
 
-  followed : ((number : ℕ) → e .parsed ≡ Refused number → ⊥) → Followed
-  unfolding parse fieldsOf
-  followed s = by (recordAt text i) refl
+  -- its letter is one of the two, and it has a value for each field after it
+  pub turn-letter : k < length letters
+  turn-letter = parse-good (readOf text (recordAt text i)) (parsed-here (g .turn) means)
+
+  pub turn-values : length vs ≡ fieldCount - 1
+  turn-values = good-length (readOf text (recordAt text i)) (parsed-here (g .turn) means)
+
+  pub turn-late : mayFollow before k ≡ false → Refuses text (makeAnswer 22 n 0)
+  unfolding firstOf
+  turn-late late = refusal (g .turn) means (λ w. rw late)
+
+  -- it is followed by the others
+  followed : Ahead text i (e .next) × (map parse (recordsAt text (e .next)) ≡ after text (recordAt text i))
+  unfolding parse
+  followed = by (recordAt text i) refl
     where
-      by : (p : Split) → recordAt text i ≡ p → Followed
+      by : (p : Split) → recordAt text i ≡ p → Ahead text i (e .next) × (map parse (recordsAt text (e .next)) ≡ after text (recordAt text i))
       by (fields ss next) q =
-          let on : e .next ≡ next = rw (at, q) in
-          let (a, w) = progress text i ss next more q in
-          let l = left (Refused 0) (e .parsed) (map parse (recordsAt text next)) (parsedIn text) n (sym (r .rest) ∙ rw (records-next text i more q, at, q)) in
-          record { rest = rw (on, add-one) (sym (l .then)); ahead = rw on a; within = rw on w }
-      by malformed q = absurd (s 19 (rw (at, q)))
+          let same : e .next ≡ next = g .turn .looked .next ∙ rw q in
+          let (a, w) = progress text i ss next (g .turn .more) q in
+          (record { further = rw same a; within = rw same w }, rw (q, same))
+      by malformed q =
+          let out : refused 19 ≡ good k vs = rw q at (parsed-here (g .turn) means) in
+          clash cc
 
-  -- one that is a holding, or a line, is not refused
-  pub followed-holding : (row : Row) (price : ℕ) → e .parsed ≡ Holding row price → Followed
-  followed-holding row price s = followed (λ number w. let z : _≡_ {A = ℕ} 0 1 = cc in absurd (omega arith))
+  pub turn-ahead : Ahead text i (e .next)
+  turn-ahead = followed .0
 
-  pub followed-line : (line : Line) → e .parsed ≡ Lined line → Followed
-  followed-line line s = followed (λ number w. let z : _≡_ {A = ℕ} 0 1 = cc in absurd (omega arith))
+  module _ {j columns rows put : ℕ} {old now : List ℕ} (t : Tabled text n j columns rows old now put) where
+    -- a table of another letter stays as it is
+    pub tabled-same : (k ≡ j → ⊥) → Tabled text (n + 1) j columns rows old now put
+    unfolding valuesBy
+    tabled-same other =
+        let same : valuesBy j (take (n + 1) (parsedIn text)) ≡ valuesBy j (take n (parsedIn text)) = values-more (g .turn) means j ∙ rw (ne-eqb k j other) (append-nil _) in
+        record { counted = rw (same, ← t .counted) refl; few = t .few; entered = rw same (t .entered) }
 
-  -- a holding more, and a line more
-  pub turn-holding : (row : Row) (price : ℕ) → e .parsed ≡ Holding row price → pairs ≡ 0 → (holdings ≡ 256 → ⊥)
-      → Reading text (set rows holdings row) (set prices holdings price) lines (holdings + 1) pairs (n + 1) (e .next)
-  unfolding parsedRows parsedPrices parsedLines
-  turn-holding row price s none room =
-      let f = followed-holding row price s in
-      let less : holdings < 256 = omega (arith, r .few-holdings) in
-      record {
-        few = omega (arith, r .few, f .ahead);
-        rest = f .rest;
-        passed = passed-more (r .passed) (nth .1 .within) (rw (faults-here, s, none, ne-eqb holdings 256 room) (refl, (refl, tt)));
-        same-rows = firsts-more noRow holdings rows row (omega (arith, r .long-rows)) ∙ rw (r .same-rows, one-more, s) (sym (rows-parsed (take n (parsedIn text)) _));
-        same-prices = firsts-more 0 holdings prices price (omega (arith, r .long-prices)) ∙ rw (r .same-prices, one-more, s) (sym (prices-parsed (take n (parsedIn text)) _));
-        same-lines = rw (r .same-lines, one-more, s, lines-parsed (take n (parsedIn text)) (Holding row price ∷ [])) (sym (append-nil _));
-        few-holdings = omega arith;
-        few-pairs = r .few-pairs;
-        long-rows = length-set rows holdings row ∙ r .long-rows;
-        long-prices = length-set prices holdings price ∙ r .long-prices;
-        long-lines = r .long-lines;
-      }
+    -- in the table of its letter
+    module _ (here : k ≡ j) where
+      counted-here : countBy text n k ≡ put
+      counted-here = rw here (sym (t .counted))
 
-  pub turn-line : (line : Line) → e .parsed ≡ Lined line → (pairs ≡ 512 → ⊥)
-      → Reading text rows prices (set lines pairs line) holdings (pairs + 1) (n + 1) (e .next)
-  unfolding parsedRows parsedPrices parsedLines
-  turn-line line s room =
-      let f = followed-line line s in
-      let less : pairs < 512 = omega (arith, r .few-pairs) in
-      record {
-        few = omega (arith, r .few, f .ahead);
-        rest = f .rest;
-        passed = passed-more (r .passed) (nth .1 .within) (rw (faults-here, s, ne-eqb pairs 512 room) (refl, tt));
-        same-rows = rw (r .same-rows, one-more, s, rows-parsed (take n (parsedIn text)) (Lined line ∷ [])) (sym (append-nil _));
-        same-prices = rw (r .same-prices, one-more, s, prices-parsed (take n (parsedIn text)) (Lined line ∷ [])) (sym (append-nil _));
-        same-lines = firsts-more noLine pairs lines line (omega (arith, r .long-lines)) ∙ rw (r .same-lines, one-more, s) (sym (lines-parsed (take n (parsedIn text)) _));
-        few-holdings = r .few-holdings;
-        few-pairs = omega arith;
-        long-rows = r .long-rows;
-        long-prices = r .long-prices;
-        long-lines = length-set lines pairs line ∙ r .long-lines;
-      }
+      -- it is one too many
+      pub turn-full : mayFollow before k ≡ true → put ≡ limitOf j .0 → Refuses text (makeAnswer (limitOf j .1) 0 0)
+      unfolding firstOf
+      turn-full follows full = rw (← here) (refusal (g .turn) means (λ w. rw (follows, counted-here, eq-eqb put (limitOf k .0) (full ∙ rw here))))
+
+      module _ (less : put ≡ limitOf j .0 → ⊥) where
+        pub turn-passing : mayFollow before k ≡ true → Passing text (At k) (n + 1) (e .next)
+        turn-passing follows =
+            let (ahead, rest) = followed in
+            record {
+              few = omega (arith, g .turn .passing .few, ahead .further);
+              rest = rest ∙ rw add-one (sym (nth (g .turn) means .then));
+              passed =
+                  passed-more (g .turn .passing .passed) (nth (g .turn) means .within)
+                  (rw (faults-here (g .turn) means, follows, counted-here, ne-eqb put (limitOf k .0) (λ full. less (full ∙ rw here))) (refl, (refl, tt)));
+              last = rw (add-one, nth (g .turn) means .here);
+            }
+
+        -- there is room for it, and it is put there
+        pub entry-room : length old ≡ 8 * (rows * columns) → (rows < 512 → length text ≤ rows) → columns < fieldCount → limitOf j .0 ≤ 512
+            → EntryRoom columns rows put vs now
+        entry-room whole enough wide low = record {
+          whole = t .entered .long ∙ whole;
+          within =
+              either-way (ltb rows 512)
+              (λ l. omega (arith, enough (ltb-true rows 512 l), values-few j n (parsedIn text), t .counted, g .turn .passing .few, g .turn .more))
+              (λ l. omega (arith, ltb-false rows 512 l, t .few));
+          enough = omega (arith, turn-values);
+        }
+
+        pub tabled-more : {new : List ℕ} → EntryRoom columns rows put vs now → EntryPut columns rows put vs now new → Tabled text (n + 1) j columns rows old new (put + 1)
+        unfolding valuesBy
+        tabled-more room done =
+            let same : valuesBy j (take (n + 1) (parsedIn text)) ≡ valuesBy j (take n (parsedIn text)) ++ (vs ∷ []) = values-more (g .turn) means j ∙ rw (eq-eqb k j here) in
+            record {
+              counted = rw (same, length-append, ← t .counted) refl;
+              few = omega (arith, t .few);
+              entered = rw same (entered-more (t .entered) (rw (t .counted) at done) (rw (t .counted) at (room .within)));
+            }

@@ -109,8 +109,6 @@ pub record ReadsFile (text : List ℕ) (rows : ℕ) (book lines book′ lines′
   pub answer : contentsAnswer r ≡ readAnswer false text
   -- read is a case of its own
   pub contents : r ≡ contentsOf (readAnswer false text)
-  -- the values of each H, and of each P, are in the columns of their tables, which hold them
-  pub few-holdings : contentsAnswer r .number ≡ 0 → length (valuesBy 0 (parsedIn text)) ≤ rows
-  pub few-lines : contentsAnswer r .number ≡ 0 → length (valuesBy 1 (parsedIn text)) ≤ rows
+  -- the values of each H, and of each P, are in the columns of their tables
   pub each-holding : contentsAnswer r .number ≡ 0 → Entered (fieldCount - 1) rows (valuesBy 0 (parsedIn text)) book book′
   pub each-line : contentsAnswer r .number ≡ 0 → Entered 3 rows (valuesBy 1 (parsedIn text)) lines lines′

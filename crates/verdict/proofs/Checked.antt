@@ -10,6 +10,7 @@ use Rattle.lists.specs.Choice.{firstOf}
 use Rattle.lists.specs.Each.{Each}
 use Rattle.lists.specs.Tables.{listTo, front}
 use Rattle.lists.specs.Sums.{sumTo}
+use Rattle.lists.proofs.Entries.{each-so, each-parts, each-back}
 use Rattle.lists.proofs.Sums.{sumTo-eq}
 use Rattle.lists.proofs.Tables.{length-to, getD-to, to-eq, front-at, front-long, front-again}
 use Rattle.article.specs.Answer.{Answer}
@@ -42,16 +43,8 @@ use Rattle.verdict.specs.declared.Verdict.the-variants.{Accepted}
 use Rattle.verdict.proofs.Judged.{refusal-judged, figures-judged}
 
 -- columns of as many bytes each have an entry for each number below n
-long-enough : (n : ℕ) (columns : List (List ℕ)) → Each (λ size. size ≡ 8 * n) (map length columns) → Each (λ c. 8 * n ≤ length c) columns
-long-enough n [] h = tt
-long-enough n (c ∷ cs) h = (omega (arith, h .0), long-enough n cs (h .1))
-
-before-last : (n : ℕ) (columns : List (List ℕ)) (last : List ℕ) → Each (λ size. size ≡ 8 * n) (map length (columns ++ (last ∷ [])))
-    → Each (λ size. size ≡ 8 * n) (map length columns) × (length last ≡ 8 * n)
-before-last n [] last h = (tt, h .0)
-before-last n (c ∷ cs) last h =
-    let (rest, end) = before-last n cs last (h .1) in
-    ((h .0, rest), end)
+long-enough : (n : ℕ) (columns : List (List ℕ)) → Each (λ c. length c ≡ 8 * n) columns → Each (λ c. 8 * n ≤ length c) columns
+long-enough n columns h = each-so (λ c. length c ≡ 8 * n) (λ c. 8 * n ≤ length c) (λ c e. omega arith) columns h
 
 -- columns of holdings and of lines, the first of each by name
 module _ (two : Bool) (side : List ℕ) (rest : List (List ℕ)) (price long : List ℕ) (more : List (List ℕ)) where
@@ -106,13 +99,13 @@ module _ (two : Bool) (side : List ℕ) (rest : List (List ℕ)) (price long : L
     unfolding outcomeIn holdingSizes lineSizes entriesOf
     lengths-fit e =
         let fit = sizes.fits {holdings = holdingSizes c} {lines = lineSizes c} {two = two} (sym found ∙ e) in
-        let (columns, last) = before-last n (side ∷ rest) price (fit .equal-holdings) in
+        let (columns, last) = each-parts (λ c. length c ≡ 8 * n) (side ∷ rest) (price ∷ []) (each-back (λ size. size ≡ 8 * n) length ((side ∷ rest) ++ (price ∷ [])) (fit .equal-holdings)) in
         record {
           few = fit .few-holdings;
           few-lines = fit .few-lines;
           each = long-enough n (side ∷ rest) columns;
-          prices = last;
-          each-line = long-enough (length long / 8) (long ∷ more) (fit .equal-lines);
+          prices = last .0;
+          each-line = long-enough (length long / 8) (long ∷ more) (each-back (λ size. size ≡ 8 * (length long / 8)) length (long ∷ more) (fit .equal-lines));
           next = from-holdings (differ (holdingSizes c) (lineSizes c)) two s (fit .alike) (fit .room) (omega (arith, rows-are, fit .few-holdings)) (omega (arith, lines-are, fit .few-lines));
         }
 

@@ -66,6 +66,12 @@ pub fn stdout(cases: &[Case]) -> Vec<u8> {
 /// Titles, what is changed in a file, and the first line that must be printed.
 type Table<Change, const COUNT: usize> = [(&'static str, &'static [Change], &'static str); COUNT];
 
+/// Fields of records after their letters.
+type Fields = &'static [&'static str];
+
+/// Titles, holdings, lines, and the first line that must be printed.
+type Files<const COUNT: usize> = [(&'static str, Fields, Fields, &'static str); COUNT];
+
 /// Cases as they are gathered.
 #[derive(Default)]
 struct List(Vec<Case>);

@@ -4,7 +4,8 @@
 //! [`margin_check`] says what the check must return and what it must leave in every lent list, byte for
 //! byte, and [`margin_read`] the same of the file's reader. [`print()`] says what the program prints for
 //! a file. [`optimise`] finds the pairing with the largest saving, and prices that show it. [`samples`]
-//! makes books and files from seeds, and [`cases`] has the files that the program `cases` is given.
+//! makes books from seeds, [`texts`] writes files, and [`cases`] has those that the program `cases` is
+//! given.
 
 #![deny(missing_docs)]
 
@@ -17,9 +18,10 @@ mod optimise;
 mod plain;
 pub mod samples;
 mod sheet;
+pub mod texts;
 
 pub use article::{Class, Position, pair_rate, saving_rate};
-pub use file::{ISSUERS, KINDS, MOST_BYTES, SIDES, margin_read, print, read};
+pub use file::{FIELDS, ISSUERS, KINDS, MOST_BYTES, SIDES, margin_read, print, read};
 pub use optimise::{Best, optimise};
 pub use plain::margin_check;
 pub use sheet::{Row, Rows, Sheet};

@@ -1,12 +1,8 @@
-//! Books made from a seed and files of them, for the tests, the cases and the benchmark.
+//! Books made from a seed, for the tests, the cases and the benchmark.
 
 use margin_host::Line;
 
 use crate::{Row, Rows, Sheet, optimise};
-
-mod text;
-
-pub use text::{joined, quoted, records, text_of};
 
 /// `SplitMix64`: the same numbers from the same seed everywhere.
 #[derive(Clone, Debug)]

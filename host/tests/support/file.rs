@@ -17,15 +17,6 @@ pub const ROOM: [usize; 9] = [
     2_048, 2_048, 2_048, 2_048, 2_048, 2_048, 4_096, 4_096, 4_096,
 ];
 
-/// The file that the paper prints.
-pub const PRINTED: [&str; 5] = [
-    "H,L,C,CA,2000,1000000,0",
-    "H,S,B,CA,2000,600000,5840",
-    "H,S,R,ON,2000,300000,6570",
-    "P,0,1,600000,,,",
-    "P,0,2,300000,,,",
-];
-
 /// What a reader gets: a text, and the lengths in bytes of the nine lists and of the answer.
 #[derive(Clone, Debug)]
 pub struct File {

@@ -23,7 +23,8 @@ module _ (c : tie.After-place-in) where
   abbrev start : tie.Start
   start = looked .before .before .before .before
 
-  placed : Lettered (start .args .text .now) (start .args .at) (looked .«record» .last .1 .1 .0) (looked .«record» .last .1 .1 .1 .0) (c .place-in .result) (scanned .scanned .given .0 .1 .0)
+  placed : Lettered (start .args .text .now) (start .args .at) (looked .«record» .last .1 .1 .0) (looked .«record» .last .1 .1 .1 .0)
+      (c .place-in .result) (scanned .scanned .given .0 .1 .0)
   unfolding cells
   placed = lettered _ _ _ _ _ _ (looked .«record» .ensures) (scanned .scanned .given .1) (counted .if1 .left) (field .field .ensures) (c .place-in .ensures)
 

@@ -1,96 +1,129 @@
--- `read` reads the records in turn: before each turn those before it are read and none is refused. Assumes nothing.
-use mathlib.Core.Path.{ap}
-use Prim.Native.Nat.{_-_, _≤_}
+-- `read` reads the records in turn: before each turn those before it are passed, and in their tables. Assumes nothing.
+use mathlib.Core.Path.{_≡_, sym, _∙_}
+use mathlib.Core.Bool.{true}
+use Prim.Native.Nat.{ℕ, _-_}
 use native.Mathlib.Omega.{arith}
 use lib.ListN.{length}
 use borrow.Author.Needs.{needs}
-use Rattle.layout.specs.declared.Entry.{Entry}
-use Rattle.reader.proofs.Turns.{Reading, turn-refused, turn-line-full, turn-late, turn-holding-full, turn-holding, turn-line, followed-holding, followed-line}
-use Rattle.reader.proofs.FileRead.{reading-none, contents-refused, contents-read, too-long, refused-number}
+use borrow.Author.Tests.{not-true, not-false}
+use Rattle.csv.specs.Reading.{fieldCount}
+use Rattle.columns.specs.Columns.{EntryRoom}
+use Rattle.layout.specs.Layout.{mayFollow}
+use Rattle.reader.proofs.Reading.{Reading, reading-none}
+use Rattle.reader.proofs.Turns.{Turn, GoodTurn, turn-refused, turn-number, turn-letter, turn-values, turn-late, turn-ahead, turn-full, turn-passing, entry-room}
+use Rattle.reader.proofs.Turns.{tabled-same, tabled-more}
+use Rattle.reader.proofs.FileRead.{contents-refused, contents-read, too-long}
 use Rattle.reader.proofs.read.Statement.{statement}
 use Rattle.reader.proofs.read.Tie as tie
 
 abbrev Inv-loop : tie.InvT-loop
-Inv-loop text rows₀ prices₀ lines₀ holdings₀ pairs₀ record₀ at₀ rows prices lines holdings pairs «record» at = Reading text rows prices lines holdings pairs «record» at
+Inv-loop text rows book₀ lines₀ values₀ before₀ holdings₀ pairs₀ record₀ at₀ book lines values before holdings pairs «record» at =
+    Reading text rows book₀ lines₀ book lines before holdings pairs «record» at
 
 abbrev μ-loop : tie.MeasureT-loop
-μ-loop text rows₀ prices₀ lines₀ holdings₀ pairs₀ record₀ at₀ rows prices lines holdings pairs «record» at = length text - at
+μ-loop text rows book₀ lines₀ values₀ before₀ holdings₀ pairs₀ record₀ at₀ book lines values before holdings pairs «record» at = length text - at
 
 -- a turn, from the record that was looked at
 module _ (c : tie.After-entry-at Inv-loop μ-loop) where
-  abbrev turn : tie.In-loop Inv-loop μ-loop
-  turn = c .before
-
   abbrev at : tie.At-loop Inv-loop μ-loop
-  at = turn .before
+  at = c .before .before .before
 
-  short : length (at .before .before .before .before .before .before .args .text .now) ≤ 65536
-  short = at .before .before .before .before .if1 .left
+  abbrev start : tie.Start Inv-loop μ-loop
+  start = at .before .before .before .before .before
+
+  turn : Turn (start .args .text .now) (at .loop .before) (at .loop .«record») (at .loop .at) (c .entry-at .last .1 .1 .0) (c .entry-at .result)
+  turn = record { short = at .before .if1 .left; passing = at .loop .inv .passing; more = c .before .before .loop-test .taken; looked = c .entry-at .ensures }
+
+-- a good record
+module _ (c : tie.After-may-follow Inv-loop μ-loop) where
+  abbrev looked : tie.After-entry-at Inv-loop μ-loop
+  looked = c .before .before .before .before
+
+  abbrev letter : ℕ
+  letter = c .before .before .parsed2 .given .0 .0
+
+  good : GoodTurn (start looked .args .text .now) (at looked .loop .before) (at looked .loop .«record») (at looked .loop .at) (looked .entry-at .last .1 .1 .0)
+      (looked .entry-at .result) letter
+  good = record { turn = turn looked; good = c .before .before .parsed2 .given .1 }
+
+-- one that may follow
+follows : (c : tie.Else2 Inv-loop μ-loop) → mayFollow (at (looked (c .before)) .loop .before) (letter (c .before)) ≡ true
+follows c = sym (c .before .may-follow .ensures) ∙ not-false _ (c .if2 .left)
+
+-- a letter that is not the first is the second
+second : (c : tie.Else3 Inv-loop μ-loop) → letter (c .before .before) ≡ 1
+second c = omega (arith, turn-letter (good (c .before .before)), c .if3 .left)
 
 returns : tie.Need-returns Inv-loop μ-loop
-returns c = contents-refused _ (too-long _ (c .before .if1 .taken)) (λ z. omega arith) (c .refused .ensures)
-
-loop-holds : tie.Need-loop-holds Inv-loop μ-loop
-loop-holds c = rw (c .before .before .no-rows .ensures, c .before .zeros .ensures, c .no-lines .ensures) (reading-none _)
+returns c = contents-refused _ 18 0 (too-long _ (c .if1 .taken)) (λ z. omega arith)
 
 returns-2 : tie.Need-returns-2 Inv-loop μ-loop
 returns-2 c =
-    let parsed = c .before .before .before in
-    let looked = parsed .before .before in
-    contents-refused _ (turn-late (at looked .loop .inv) (turn looked .loop-test .taken) (looked .entry-at .ensures) _ _ (parsed .parsed .given .1) (c .before .if2 .taken) (short looked))
-    (λ z. omega arith) (c .refused2 .ensures)
+    let u = turn (c .before .before .before) in
+    let e = c .before .parsed .given .1 in
+    contents-refused _ _ _ (turn-refused u e) (λ z. omega (arith, turn-number u e))
 
 returns-3 : tie.Need-returns-3 Inv-loop μ-loop
-returns-3 c =
-    let none = c .before .before in
-    let parsed = none .before .before in
-    let looked = parsed .before .before in
-    contents-refused _ (turn-holding-full (at looked .loop .inv) (turn looked .loop-test .taken) (looked .entry-at .ensures) _ _ (parsed .parsed .given .1) (none .if2 .left) (c .before .if3 .taken) (short looked))
-    (λ z. omega arith) (c .refused3 .ensures)
+returns-3 c = contents-refused _ 22 _ (turn-late (good (c .before)) (sym (c .before .may-follow .ensures) ∙ not-true _ (c .if2 .taken))) (λ z. omega arith)
 
+-- a holding
 returns-4 : tie.Need-returns-4 Inv-loop μ-loop
 returns-4 c =
-    let parsed = c .before .before .before in
-    let looked = parsed .before .before in
-    contents-refused _ (turn-line-full (at looked .loop .inv) (turn looked .loop-test .taken) (looked .entry-at .ensures) _ (parsed .parsed2 .given .1) (c .before .if4 .taken) (short looked))
-    (λ z. omega arith) (c .refused4 .ensures)
+    let m = c .before .before .before in
+    contents-refused _ 3 0
+    (turn-full (good m) (at (looked m) .loop .inv .each-holding) (c .before .if3 .taken) (follows (c .before .before)) (c .if4 .taken))
+    (λ z. omega arith)
 
-returns-5 : tie.Need-returns-5 Inv-loop μ-loop
-returns-5 c =
-    let parsed = c .before .before in
-    let looked = parsed .before .before in
-    contents-refused _ (turn-refused (at looked .loop .inv) (turn looked .loop-test .taken) (looked .entry-at .ensures) _ (parsed .parsed3 .given .1) (short looked))
-    (refused-number _ _ (ap (λ (e : Entry). e .parsed) (looked .entry-at .ensures)) (parsed .parsed3 .given .1)) (c .refused5 .ensures)
+-- there is room for it
+module _ (c : tie.Else4 Inv-loop μ-loop) where
+  abbrev held : tie.After-may-follow Inv-loop μ-loop
+  held = c .before .before .before
 
-loop-less : tie.Need-loop-less Inv-loop μ-loop
-loop-less c =
-    let parsed = c .before .before .before in
-    let looked = parsed .before .before in
-    let f = followed-holding (at looked .loop .inv) (turn looked .loop-test .taken) (looked .entry-at .ensures) _ _ (parsed .parsed .given .1) in
-    omega (arith, f .ahead, turn looked .loop-test .taken)
-
-loop-less-2 : tie.Need-loop-less-2 Inv-loop μ-loop
-loop-less-2 c =
-    let parsed = c .before .before in
-    let looked = parsed .before .before in
-    let f = followed-line (at looked .loop .inv) (turn looked .loop-test .taken) (looked .entry-at .ensures) _ (parsed .parsed2 .given .1) in
-    omega (arith, f .ahead, turn looked .loop-test .taken)
+  holding-room : EntryRoom (fieldCount - 1) (start (looked held) .args .rows) (at (looked held) .loop .holdings) (looked held .entry-at .last .1 .1 .0) (at (looked held) .loop .book)
+  holding-room =
+      entry-room (good held) (at (looked held) .loop .inv .each-holding) (c .before .if3 .taken) (c .if4 .left)
+      (start (looked held) .pre .whole-book) (start (looked held) .pre .enough) (omega arith) (omega arith)
 
 loop-again : tie.Need-loop-again Inv-loop μ-loop
 loop-again c =
-    let none = c .before in
-    let parsed = none .before .before in
-    let looked = parsed .before .before in
-    turn-holding (at looked .loop .inv) (turn looked .loop-test .taken) (looked .entry-at .ensures) _ _ (parsed .parsed .given .1) (none .if2 .left) (c .if3 .left)
+    let first = c .before .before .before .before .before .before in
+    let m = first .before .before in
+    let r = at (looked m) .loop .inv in
+    let few = c .before .before .before .before .before in
+    record {
+      passing = turn-passing (good m) (r .each-holding) (first .if3 .taken) (few .if4 .left) (follows (first .before));
+      each-holding = tabled-more (good m) (r .each-holding) (first .if3 .taken) (few .if4 .left) (holding-room few) (c .before .before .put-entry .ensures);
+      each-line = tabled-same (good m) (r .each-line) (λ z. omega (arith, first .if3 .taken));
+    }
+
+-- a line
+returns-5 : tie.Need-returns-5 Inv-loop μ-loop
+returns-5 c =
+    let m = c .before .before .before in
+    contents-refused _ 9 0
+    (turn-full (good m) (at (looked m) .loop .inv .each-line) (second (c .before)) (follows (c .before .before)) (c .if5 .taken))
+    (λ z. omega arith)
+
+module _ (c : tie.Else5 Inv-loop μ-loop) where
+  abbrev lined : tie.After-may-follow Inv-loop μ-loop
+  lined = c .before .before .before
+
+  line-room : EntryRoom 3 (start (looked lined) .args .rows) (at (looked lined) .loop .pairs) (looked lined .entry-at .last .1 .1 .0) (at (looked lined) .loop .lines)
+  line-room =
+      entry-room (good lined) (at (looked lined) .loop .inv .each-line) (second (c .before)) (c .if5 .left)
+      (start (looked lined) .pre .whole-lines) (start (looked lined) .pre .enough) (omega arith) (omega arith)
 
 loop-again-2 : tie.Need-loop-again-2 Inv-loop μ-loop
 loop-again-2 c =
-    let parsed = c .before .before in
-    let looked = parsed .before .before in
-    turn-line (at looked .loop .inv) (turn looked .loop-test .taken) (looked .entry-at .ensures) _ (parsed .parsed2 .given .1) (c .if4 .left)
-
-returns-6 : tie.Need-returns-6 Inv-loop μ-loop
-returns-6 c = contents-read (c .before .loop .inv) (c .loop-test .left) (c .before .before .before .before .before .if1 .left)
+    let other = c .before .before .before .before .before .before in
+    let m = other .before .before in
+    let r = at (looked m) .loop .inv in
+    let few = c .before .before .before .before .before in
+    record {
+      passing = turn-passing (good m) (r .each-line) (second other) (few .if5 .left) (follows (other .before));
+      each-holding = tabled-same (good m) (r .each-holding) (other .if3 .left);
+      each-line = tabled-more (good m) (r .each-line) (second other) (few .if5 .left) (line-room few) (c .before .before .put-entry2 .ensures);
+    }
 
 pub read-spec : {M : Type 1} → statement M
 read-spec =
@@ -98,36 +131,36 @@ read-spec =
     (tie.spec
     Inv-loop
     μ-loop
-    (λ c κs. search needs)
     returns
-    (λ c κs. search needs)
-    (λ c κs. search needs)
-    (λ c κs. search needs)
-    loop-holds
+    (λ c. reading-none _ _ _ _)
     (λ c κs. search needs)
     (λ c. search needs)
-    (λ c κs. search needs)
+    (λ c. search needs)
+    (λ c. search needs)
     returns-2
+    (λ c. search needs)
     (λ c κs. search needs)
+    (λ c. search needs)
+    (λ c. search needs)
     returns-3
     (λ c. search needs)
     (λ c. search needs)
+    returns-4
+    (λ c. sym (turn-values (good (c .before .before .before .before))))
+    (λ c κs. holding-room (c .before .before))
     (λ c. search needs)
     (λ c. search needs)
-    (λ c. search needs)
-    (λ c. search needs)
-    loop-less
+    (λ c. let a = turn-ahead (good (c .before .before .before .before .before .before .before .before)) in omega arith)
     loop-again
     (λ c. search needs)
-    (λ c κs. search needs)
-    returns-4
+    (λ c. search needs)
+    returns-5
+    (λ c. sym (turn-values (good (c .before .before .before .before))))
+    (λ c κs. line-room (c .before .before))
     (λ c. search needs)
     (λ c. search needs)
-    (λ c. search needs)
-    (λ c. search needs)
-    loop-less-2
+    (λ c. let a = turn-ahead (good (c .before .before .before .before .before .before .before .before)) in omega arith)
     loop-again-2
     (λ c. search needs)
-    (λ c κs. search needs)
-    returns-5
-    returns-6)
+    (λ c. search needs)
+    (λ c. contents-read (c .before .loop .inv) (c .loop-test .left) (c .before .before .if1 .left)))

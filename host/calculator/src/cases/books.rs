@@ -1,39 +1,40 @@
 //! Books of many shapes and sizes with best proposals, proposals next to them, and ties in the ranking.
 
-use super::{List, Table};
+use super::{Files, List};
 use crate::Sheet;
-use crate::samples::{
-    ANY, Random, SHAPES, best_sheet, holdings, joined, quoted, records, split_lines, text_of,
-};
+use crate::samples::{ANY, Random, SHAPES, best_sheet, holdings, split_lines};
+use crate::texts::{file, holding, joined, quoted, records, text_of};
 
 const SEED: u64 = 0x0C01;
 
-const TIES: Table<&str, 3> = [
+const TIES: Files<3> = [
     (
         "ties: four holdings alike",
-        &["H,L,C,ON,2000,1000,0"; 4],
+        &["L,C,ON,2000,1000,0"; 4],
+        &[],
         "M,35040000,240",
     ),
     // 1 x 8,760 and 2 x 4,380 units.
     (
         "ties: equal units of different holdings",
         &[
-            "H,L,C,ON,2000,1,0",
-            "H,L,C,CA,2000,2,0",
-            "H,L,C,ON,2000,1,0",
-            "H,L,B,CA,1,1,0",
+            "L,C,ON,2000,1,0",
+            "L,C,CA,2000,2,0",
+            "L,C,ON,2000,1,0",
+            "L,B,CA,1,1,0",
         ],
+        &[],
         "M,26284,1",
     ),
     (
         "ranking: nothing left of two holdings",
         &[
-            "H,L,B,CA,400,1,0",
-            "H,L,C,SK,50,9,1200",
-            "H,S,R,SK,50,9,0",
-            "H,L,B,CA,400,2,0",
-            "P,1,2,9,,,",
+            "L,B,CA,400,1,0",
+            "L,C,SK,50,9,1200",
+            "S,R,SK,50,9,0",
+            "L,B,CA,400,2,0",
         ],
+        &["1,2,9"],
         "M,4380,1",
     ),
 ];
@@ -109,11 +110,11 @@ fn change(random: &mut Random, sheet: &mut Sheet) -> &'static str {
 }
 
 fn ties(list: &mut List) {
-    for (title, records, first) in TIES {
-        list.add(title, joined(records), first);
+    for (title, holdings, lines, first) in TIES {
+        list.add(title, file(holdings, lines), first);
     }
     let rising: Vec<String> = (1..=9)
-        .map(|value| format!("H,S,B,MB,900,{value},0"))
+        .map(|value| holding(&format!("S,B,MB,900,{value},0")))
         .collect();
     let title = "ranking: the largest last in the file";
     list.add(title, joined(&rising), "M,197100,2");

@@ -1,9 +1,9 @@
 //! Fields: refusals 21 and 22, letters, codes, and numerals at their limits.
 
 use super::List;
-use super::sound::{Change, FIRST, RECORDS, with, with_fields};
-use crate::ISSUERS;
-use crate::samples::joined;
+use super::sound::{Change, FIRST, records, with, with_fields};
+use crate::texts::{holding, joined, line};
+use crate::{FIELDS, ISSUERS};
 
 /// Letters that are none there, at the first, a middle and the last record.
 const LETTERS: [Change; 10] = [
@@ -63,7 +63,7 @@ pub(super) fn add(list: &mut List) {
 }
 
 fn issuers(list: &mut List) {
-    let all = ISSUERS.map(|issuer| format!("H,L,B,{issuer},400,146000,0"));
+    let all = ISSUERS.map(|issuer| holding(&format!("L,B,{issuer},400,146000,0")));
     list.add("all eleven issuers", joined(&all), "M,6607960000,45260");
     for issuer in ["YT", "NT", "NU", "on", "C", "ON ", ""] {
         let file = with_fields(&[(4, 3, issuer)]);
@@ -72,7 +72,7 @@ fn issuers(list: &mut List) {
 }
 
 fn empty_fields(list: &mut List) {
-    for field in 4..7 {
+    for field in 4..FIELDS {
         let title = format!("21: field {field} of a line is filled");
         list.add(title, with_fields(&[(8, field, "0")]), "X,21,8,0");
     }
@@ -83,8 +83,8 @@ fn empty_fields(list: &mut List) {
 }
 
 fn holdings_after_lines(list: &mut List) {
-    let holding = RECORDS[0];
-    let first = joined(&["P,0,0,1,,,", holding]);
+    let holding = &records()[0];
+    let first = joined(&[&line("0,0,1"), holding]);
     list.add("22 at record 1", first, "X,22,1,0");
     list.add("22 at record 8", with(&[(8, holding)]), "X,22,8,0");
     list.add("22 at the last record", with(&[(9, holding)]), "X,22,9,0");

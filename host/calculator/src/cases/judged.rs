@@ -1,8 +1,8 @@
 //! Files that are read and that the check refuses: 7, 8 and 10 to 17, alone and competing.
 
-use super::sound::{Change, FIRST, HOLDINGS, RECORDS, with_fields};
+use super::sound::{Change, FIRST, HOLDINGS, records, with_fields};
 use super::{List, Table};
-use crate::samples::{joined, quoted};
+use crate::texts::{file, joined, quoted};
 
 /// Number, field, and what the first, a middle and the last holding have there.
 const HOLDING_FAULTS: [(u64, usize, [&str; 3]); 3] = [
@@ -71,12 +71,10 @@ const ORDERS: Table<Change, 14> = [
 ];
 
 pub(super) fn add(list: &mut List) {
-    list.add("the sound file", joined(&RECORDS), FIRST);
-    list.add(
-        "the sound file in quotes",
-        joined(&RECORDS.map(quoted)),
-        FIRST,
-    );
+    let sound = records();
+    list.add("the sound file", joined(&sound), FIRST);
+    let in_quotes: Vec<String> = sound.iter().map(|record| quoted(record)).collect();
+    list.add("the sound file in quotes", joined(&in_quotes), FIRST);
     for (number, field, texts) in HOLDING_FAULTS {
         for (at, text) in [0, 3, HOLDINGS - 1].into_iter().zip(texts) {
             let title = format!("{number} at holding {at}: {text}");
@@ -91,13 +89,13 @@ pub(super) fn add(list: &mut List) {
             list.add(title, file, format!("X,{number},{line},0"));
         }
     }
-    list.add("a line without a book", "P,0,0,1,,,\r\n", "X,11,0,0");
+    list.add("a line without a book", file(&[], &["0,0,1"]), "X,11,0,0");
     for (lowered, first) in UNCOVERED {
         let changes: Vec<Change> = lowered.iter().map(|at| (*at, 6, "8759")).collect();
         let title = format!("one unit too little on holdings {lowered:?}");
         list.add(title, with_fields(&changes), first);
     }
-    list.add("17: no line", joined(&RECORDS[..HOLDINGS]), "X,17,0,0");
+    list.add("17: no line", joined(&sound[..HOLDINGS]), "X,17,0,0");
     for (title, changes, first) in AMOUNTS.into_iter().chain(PRICES).chain(ORDERS) {
         list.add(title, with_fields(changes), first);
     }

@@ -1,37 +1,16 @@
 //! The limits: 65,536 bytes, 256 holdings and 512 lines, and what competes with them.
 
 use super::List;
-use super::sound::RECORDS;
-use crate::MOST_BYTES;
-use crate::samples::joined;
+use super::sound::records;
+use crate::texts::{holding, joined, line, of_width};
+use crate::{FIELDS, MOST_BYTES};
 
-const HOLDING: &str = "H,L,B,CA,1,1,0";
-const LINE: &str = "P,0,1,1,,,";
+/// A holding and a line, by their fields, of which a file has many.
+const HOLDING: &str = "L,B,CA,1,1,0";
+const LINE: &str = "0,1,1";
 
 /// Title, holdings, lines, a record in another's place, and what is printed.
-type Order = (
-    &'static str,
-    usize,
-    usize,
-    (usize, &'static str),
-    &'static str,
-);
-
-#[rustfmt::skip]
-const ORDERS: [Order; 12] = [
-    ("19 in the 257th holding", 258, 0, (256, "H,L,B,CA,1,1,\""), "X,19,256,0"),
-    ("20 in the 257th holding", 258, 0, (256, "H,L,B,CA,1,1"), "X,20,256,0"),
-    ("21 in the 257th holding", 258, 0, (256, "H,L,B,CA,1,1,00"), "X,21,256,0"),
-    ("a 257th holding before an ill-formed record", 258, 0, (257, "\""), "X,3,0,0"),
-    ("an ill-formed record before the 257th holding", 257, 0, (255, "\""), "X,19,255,0"),
-    ("a 257th holding after a line", 256, 2, (257, HOLDING), "X,22,257,0"),
-    ("a 513th line before an ill-formed record", 3, 514, (516, "\""), "X,9,0,0"),
-    ("21 in the 513th line", 3, 513, (515, "P,0,1,,,,"), "X,21,515,0"),
-    ("a holding in the place of the 513th line", 3, 513, (515, HOLDING), "X,22,515,0"),
-    ("3 before 7 of holding 0", 257, 0, (0, "H,L,B,CA,0,1,0"), "X,3,0,0"),
-    ("9 before 7 of holding 0", 1, 513, (0, "H,L,B,CA,0,1,0"), "X,9,0,0"),
-    ("7 of the 256th holding", 256, 1, (255, "H,L,B,CA,0,1,0"), "X,7,255,0"),
-];
+type Order = (&'static str, usize, usize, (usize, String), &'static str);
 
 /// Holdings and lines, and what is printed.
 const COUNTS: [(usize, usize, &str); 6] = [
@@ -60,54 +39,85 @@ pub(super) fn add(list: &mut List) {
         "X,9,0,0",
     );
     let mut last = paired(512);
-    last[767] = "P,254,255,26,,,".to_string();
+    last[767] = line("254,255,26");
     list.add("15 at the last of 512 lines", joined(&last), "X,15,511,0");
-    for (title, holdings, lines, (at, record), first) in ORDERS {
+    for (title, holdings, lines, (at, record), first) in orders() {
         let mut records = many(holdings, lines);
         records[at] = record;
         list.add(title, joined(&records), first);
     }
 }
 
+/// What competes with the limits.
+#[rustfmt::skip]
+fn orders() -> [Order; 12] {
+    let good = || holding(HOLDING);
+    let no_days = || holding("L,B,CA,0,1,0");
+    let quote = || "\"".to_string();
+    [
+        ("19 in the 257th holding", 258, 0, (256, holding("L,B,CA,1,1,\"")), "X,19,256,0"),
+        ("20 in the 257th holding", 258, 0, (256, of_width(&good(), FIELDS - 1)), "X,20,256,0"),
+        ("21 in the 257th holding", 258, 0, (256, holding("L,B,CA,1,1,00")), "X,21,256,0"),
+        ("a 257th holding before an ill-formed record", 258, 0, (257, quote()), "X,3,0,0"),
+        ("an ill-formed record before the 257th holding", 257, 0, (255, quote()), "X,19,255,0"),
+        ("a 257th holding after a line", 256, 2, (257, good()), "X,22,257,0"),
+        ("a 513th line before an ill-formed record", 3, 514, (516, quote()), "X,9,0,0"),
+        ("21 in the 513th line", 3, 513, (515, line("0,1,")), "X,21,515,0"),
+        ("a holding in the place of the 513th line", 3, 513, (515, good()), "X,22,515,0"),
+        ("3 before 7 of holding 0", 257, 0, (0, no_days()), "X,3,0,0"),
+        ("9 before 7 of holding 0", 1, 513, (0, no_days()), "X,9,0,0"),
+        ("7 of the 256th holding", 256, 1, (255, no_days()), "X,7,255,0"),
+    ]
+}
+
 /// No file of 65,536 bytes is accepted: what is read has at most 37,120.
 fn lengths(list: &mut List) {
-    let sound = joined(&RECORDS);
-    for (title, text, byte, first) in [
-        ("commas", &b""[..], b',', "X,20,0,0"),
+    let (sound, price) = (joined(&records()), holding("L,C,CA,1,1,#"));
+    let (before, after) = price.split_once('#').expect("the mark of the digits");
+    for (title, begin, fill, end, first) in [
+        ("commas", &b""[..], b',', "", "X,20,0,0"),
         (
             "the sound file and one long field",
             &sound,
             b'x',
+            "",
             "X,20,10,0",
         ),
-        ("NULs", b"", 0, "X,19,0,0"),
-        ("a price of many digits", b"H,L,C,CA,1,1,", b'1', "X,21,0,0"),
-        ("a quote that never closes", b"\"", b'\n', "X,19,0,0"),
+        ("NULs", b"", 0, "", "X,19,0,0"),
+        (
+            "a price of many digits",
+            before.as_bytes(),
+            b'1',
+            after,
+            "X,21,0,0",
+        ),
+        ("a quote that never closes", b"\"", b'\n', "", "X,19,0,0"),
     ] {
-        let mut text = text.to_vec();
-        text.resize(MOST_BYTES, byte);
-        list.add(format!("65536 bytes: {title}"), text.clone(), first);
-        text.push(byte);
-        list.add(format!("65537 bytes: {title}"), text, "X,18,0,0");
+        for (length, first) in [(MOST_BYTES, first), (MOST_BYTES + 1, "X,18,0,0")] {
+            let mut text = begin.to_vec();
+            text.resize(length - end.len(), fill);
+            text.extend(end.as_bytes());
+            list.add(format!("{length} bytes: {title}"), text, first);
+        }
     }
 }
 
-fn many(holdings: usize, lines: usize) -> Vec<&'static str> {
-    let mut records = vec![HOLDING; holdings];
-    records.resize(holdings + lines, LINE);
+fn many(holdings: usize, lines: usize) -> Vec<String> {
+    let mut records = vec![holding(HOLDING); holdings];
+    records.resize(holdings + lines, line(LINE));
     records
 }
 
 /// 256 ON coupons, every second one short; each long paired with the next by four lines.
 fn paired(lines: usize) -> Vec<String> {
     let mut records = Vec::new();
-    for holding in 0..256 {
-        let side = ["L", "S"][holding % 2];
-        records.push(format!("H,{side},C,ON,2000,100,8760"));
+    for number in 0..256 {
+        let side = ["L", "S"][number % 2];
+        records.push(holding(&format!("{side},C,ON,2000,100,8760")));
     }
-    for line in 0..lines {
-        let long = line / 4 * 2;
-        records.push(format!("P,{long},{},25,,,", long + 1));
+    for number in 0..lines {
+        let long = number / 4 * 2;
+        records.push(line(&format!("{long},{},25", long + 1)));
     }
     records
 }

@@ -1,6 +1,6 @@
 //! A file that is accepted, to plant faults in.
 
-use crate::samples::joined;
+use crate::texts::{holding, joined, line};
 
 /// Its first printed line: the lone bond of 500 cents at 5 per cent.
 pub(super) const FIRST: &str = "M,3650000,25";
@@ -9,34 +9,39 @@ pub(super) const HOLDINGS: usize = 7;
 
 /// Three longs and three shorts, ON coupons of 2,000 days, paired one with one; and a long bond in a
 /// period of its own, which may be paired with nobody.
-pub(super) const RECORDS: [&str; 10] = [
-    "H,L,C,ON,2000,1000,8760",
-    "H,L,C,ON,2000,1000,8760",
-    "H,L,C,ON,2000,1000,8760",
-    "H,S,C,ON,2000,1000,8760",
-    "H,S,C,ON,2000,1000,8760",
-    "H,S,C,ON,2000,1000,8760",
-    "H,L,B,ON,3000,500,0",
-    "P,0,3,1000,,,",
-    "P,1,4,1000,,,",
-    "P,2,5,1000,,,",
+const BOOK: [&str; HOLDINGS] = [
+    "L,C,ON,2000,1000,8760",
+    "L,C,ON,2000,1000,8760",
+    "L,C,ON,2000,1000,8760",
+    "S,C,ON,2000,1000,8760",
+    "S,C,ON,2000,1000,8760",
+    "S,C,ON,2000,1000,8760",
+    "L,B,ON,3000,500,0",
 ];
+const LINES: [&str; 3] = ["0,3,1000", "1,4,1000", "2,5,1000"];
 
 /// A record, a field of it, and its new text.
 pub(super) type Change = (usize, usize, &'static str);
 
+/// Its records.
+pub(super) fn records() -> Vec<String> {
+    let mut records = BOOK.map(holding).to_vec();
+    records.extend(LINES.map(line));
+    records
+}
+
 /// The file with other records at some places.
-pub(super) fn with(changes: &[(usize, &str)]) -> Vec<u8> {
-    let mut records = RECORDS;
+pub(super) fn with<T: AsRef<str>>(changes: &[(usize, T)]) -> Vec<u8> {
+    let mut records = records();
     for (at, record) in changes {
-        records[*at] = record;
+        records[*at] = record.as_ref().to_string();
     }
     joined(&records)
 }
 
 /// The file with other texts for some fields.
-pub(super) fn with_fields(changes: &[Change]) -> Vec<u8> {
-    let mut records = RECORDS.map(str::to_string);
+pub(super) fn with_fields(changes: &[(usize, usize, &str)]) -> Vec<u8> {
+    let mut records = records();
     for (at, field, text) in changes {
         let mut fields: Vec<&str> = records[*at].split(',').collect();
         fields[*field] = text;

@@ -46,12 +46,12 @@ fn entry(list: &[u8], at: usize) -> u64 {
 #[cfg(test)]
 mod tests {
     use super::print;
+    use crate::texts::{PRINTED, joined};
 
-    const FILE: &str = "H,L,C,CA,2000,1000000,0\r\n\
-                        H,S,B,CA,2000,600000,5840\r\n\
-                        H,S,R,ON,2000,300000,6570\r\n\
-                        P,0,1,600000,,,\r\n\
-                        P,0,2,300000,,,\r\n";
+    /// What is printed for the printed file with one text for another.
+    fn print_with(old: &str, new: &str) -> Vec<u8> {
+        print(&joined(&PRINTED.map(|record| record.replace(old, new))))
+    }
 
     #[test]
     fn the_printed_file() {
@@ -59,15 +59,13 @@ mod tests {
                        R,0,100000,438000000\r\n\
                        R,1,0,0\r\n\
                        R,2,0,0\r\n";
-        assert_eq!(print(FILE.as_bytes()), printed.as_bytes());
+        assert_eq!(print(&joined(&PRINTED)), printed.as_bytes());
     }
 
     #[test]
     fn refused_files() {
-        let uncovered = FILE.replace("6570", "6569");
-        assert_eq!(print(uncovered.as_bytes()), b"X,16,0,2\r\n");
-        let ill_formed = FILE.replace("P,0,2", "P,0,\"2");
-        assert_eq!(print(ill_formed.as_bytes()), b"X,19,4,0\r\n");
+        assert_eq!(print_with("6570", "6569"), b"X,16,0,2\r\n");
+        assert_eq!(print_with("P,0,2", "P,0,\"2"), b"X,19,4,0\r\n");
         assert_eq!(print(&[b','; 65_537]), b"X,18,0,0\r\n");
     }
 

@@ -8,6 +8,8 @@ use crate::{Row, Rows, Sheet};
 
 /// A longer file is refused.
 pub const MOST_BYTES: usize = 65_536;
+/// The fields of every record.
+pub const FIELDS: usize = 7;
 /// Long and short, in the order of their numbers.
 pub const SIDES: [&str; 2] = ["L", "S"];
 /// Bond, stripped coupon and residual, in the order of their numbers.
@@ -20,7 +22,7 @@ pub const ISSUERS: [&str; 11] = [
 const DIGITS_OF_CENTS: usize = 12;
 const DIGITS: usize = 6;
 
-/// The contents of a record with seven fields.
+/// The contents of a record.
 enum Contents {
     /// A holding and its price.
     Holding(Row, u64),
@@ -60,7 +62,7 @@ pub fn read(text: &[u8]) -> Result<Sheet, Refusal> {
     Ok(sheet)
 }
 
-fn contents(fields: [&[u8]; 7]) -> Option<Contents> {
+fn contents(fields: [&[u8]; FIELDS]) -> Option<Contents> {
     match fields {
         [b"H", side, kind, issuer, days, value, price] => {
             let holding = Row {

@@ -1,4 +1,5 @@
-//! The program `margin` as a process: its path is the first argument, or in the variable `MARGIN`.
+//! The program `margin` as a process, beside an empty program, which shows what a process costs. Their
+//! paths are the first and the second argument, or in the variables `MARGIN` and `MARGIN_EMPTY`.
 
 use std::env;
 use std::ffi::OsString;
@@ -8,40 +9,74 @@ use std::process::{Command, Stdio};
 use std::time::Instant;
 
 use margin_calculator::print;
-use margin_calculator::samples::joined;
+use margin_calculator::texts::joined;
 
 use crate::read::full_file;
 use crate::timing::median;
 
 const RUNS: usize = 101;
 
-/// Prints a line for an empty file, which is what a process costs, and one for a full file.
+/// Prints a line for an empty file and one for a full file.
 pub fn run() {
-    let given = env::args_os().nth(1).or_else(|| env::var_os("MARGIN"));
-    let Some(program) = given.filter(|path| Path::new(path).is_file()) else {
+    let Some(margin) = given(1, "MARGIN") else {
         println!("The program `margin` is not timed: give its path as an argument or in MARGIN.");
         return;
     };
+    let empty = given(2, "MARGIN_EMPTY");
     println!("The program as a process, from its start to its end, the file as standard input.");
-    println!("Median of {RUNS} alternating runs.");
-    println!();
-    println!("{:<22} {:>6}  {:>12}", "file", "bytes", "microseconds");
-    let texts = [("empty", Vec::new()), ("full file", joined(&full_file()))];
-    let path = env::temp_dir().join(format!("margin-bench-{}", std::process::id()));
-    let mut times = [Vec::new(), Vec::new()];
-    for _ in 0..RUNS {
-        for ((_, text), times) in texts.iter().zip(&mut times) {
-            fs::write(&path, text).expect("a file for standard input");
-            times.push(time(&program, &path, &print(text)));
+    match empty {
+        Some(_) => println!("Its own time is its median less that of the empty program."),
+        None => {
+            println!("For its own time give an empty program as argument 2 or in MARGIN_EMPTY.")
         }
     }
-    fs::remove_file(&path).expect("the file is there");
-    for ((name, text), times) in texts.iter().zip(times) {
-        println!("{name:<22} {:>6}  {:>12.0}", text.len(), median(times));
+    println!("Microseconds; median of {RUNS} alternating runs.");
+    println!();
+    println!(
+        "{:<10} {:>6}  {:>8}  {:>13}  {:>8}",
+        "file", "bytes", "margin", "empty program", "own time"
+    );
+    let texts = [("empty", Vec::new()), ("full file", joined(&full_file()))];
+    let times = measure(&texts, &margin, empty.as_ref());
+    for ((name, text), [ours, theirs]) in texts.iter().zip(times) {
+        let ours = median(ours);
+        print!("{name:<10} {:>6}  {ours:>8.1}", text.len());
+        if !theirs.is_empty() {
+            let theirs = median(theirs);
+            print!("  {theirs:>13.1}  {:>8.1}", ours - theirs);
+        }
+        println!();
     }
 }
 
-/// Microseconds of one run, which must print what the calculator prints.
+/// The path of a program, if it is given and there.
+fn given(argument: usize, variable: &str) -> Option<OsString> {
+    let given = env::args_os().nth(argument);
+    let given = given.or_else(|| env::var_os(variable));
+    given.filter(|path| Path::new(path).is_file())
+}
+
+/// For each text the microseconds of the runs of `margin`, and of the empty program if there is one.
+fn measure(
+    texts: &[(&str, Vec<u8>); 2],
+    margin: &OsString,
+    empty: Option<&OsString>,
+) -> [[Vec<f64>; 2]; 2] {
+    let path = env::temp_dir().join(format!("margin-bench-{}", std::process::id()));
+    let wanted = texts.each_ref().map(|(_, text)| print(text));
+    let mut times = <[[Vec<f64>; 2]; 2]>::default();
+    for _ in 0..RUNS {
+        for (at, [ours, theirs]) in times.iter_mut().enumerate() {
+            fs::write(&path, &texts[at].1).expect("a file for standard input");
+            ours.push(time(margin, &path, &wanted[at]));
+            theirs.extend(empty.map(|program| time(program, &path, b"")));
+        }
+    }
+    fs::remove_file(&path).expect("the file is there");
+    times
+}
+
+/// Microseconds of one run, which must print what is wanted.
 fn time(program: &OsString, input: &Path, wanted: &[u8]) -> f64 {
     let input = File::open(input).expect("the file for standard input");
     let start = Instant::now();
@@ -52,7 +87,8 @@ fn time(program: &OsString, input: &Path, wanted: &[u8]) -> f64 {
     let time = start.elapsed();
     assert!(
         done.stdout == wanted,
-        "the program prints what the calculator prints"
+        "{} prints what it must",
+        program.display()
     );
     time.as_secs_f64() * 1e6
 }

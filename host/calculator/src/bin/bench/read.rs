@@ -2,7 +2,8 @@
 
 use std::hint::black_box;
 
-use margin_calculator::samples::{ANY, joined, quoted, records};
+use margin_calculator::samples::ANY;
+use margin_calculator::texts::{joined, quoted, records};
 use margin_calculator::{MOST_BYTES, margin_read};
 use margin_host::{Columns, raw};
 

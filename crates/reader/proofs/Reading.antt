@@ -1,0 +1,81 @@
+-- What holds before each record of a file: those before it are passed, and in their tables. Assumes nothing.
+use mathlib.Core.Path.{_≡_, refl}
+use mathlib.Core.Bool.{Bool, true, false, cond}
+use mathlib.Core.List.{List, [], _∷_, _++_, map}
+use Prim.Native.Nat.{ℕ, zero, suc, _-_, _≤_}
+use native.Mathlib.Omega.{arith}
+use lib.Dec.{eqb}
+use lib.ListN.{length, take, drop}
+use Rattle.lists.specs.Choice.{firstOf}
+use Rattle.lists.proofs.Passed.{Passed, passed-none}
+use Rattle.article.specs.Answer.{Answer}
+use Rattle.codes.specs.declared.Place.{Place}
+use Rattle.codes.specs.declared.Place.the-variants.{Nowhere}
+use Rattle.csv.specs.Reading.{fieldCount, recordsAt, recordsOf}
+use Rattle.columns.specs.Columns.{Entered}
+use Rattle.columns.proofs.Tables.{entered-none}
+use Rattle.layout.specs.Layout.{Meaning, good, refused, parse}
+use Rattle.reader.specs.File.{parsedIn, valuesBy, limitOf, letterBefore, atRecord, fileFaults}
+
+-- the values of a letter, of records and of others after them
+pub values-append : (k : ℕ) (xs ys : List Meaning) → valuesBy k (xs ++ ys) ≡ valuesBy k xs ++ valuesBy k ys
+unfolding valuesBy
+values-append k [] ys = refl
+values-append k (good letter vs ∷ xs) ys = rw (values-append k xs ys) (by (eqb letter k))
+  where
+    by : (b : Bool) → cond b (vs ∷ (valuesBy k xs ++ valuesBy k ys)) (valuesBy k xs ++ valuesBy k ys) ≡ cond b (vs ∷ valuesBy k xs) (valuesBy k xs) ++ valuesBy k ys
+    by true = refl
+    by false = refl
+values-append k (refused number ∷ xs) ys = values-append k xs ys
+
+-- they are no more than the records
+pub values-few : (k n : ℕ) (xs : List Meaning) → length (valuesBy k (take n xs)) ≤ n
+unfolding valuesBy
+values-few k zero xs = omega arith
+values-few k (suc n) [] = omega arith
+values-few k (suc n) (good letter vs ∷ xs) = by (eqb letter k) (values-few k n xs)
+  where
+    by : (b : Bool) → length (valuesBy k (take n xs)) ≤ n → length (cond b (vs ∷ valuesBy k (take n xs)) (valuesBy k (take n xs))) ≤ suc n
+    by true h = omega arith
+    by false h = omega arith
+values-few k (suc n) (refused number ∷ xs) = omega (arith, values-few k n xs)
+
+-- n records are passed, up to place i: none is refused, and this is the letter of the last
+pub record Passing (text : List ℕ) (before : Place) (n i : ℕ) : Type 0 where
+  pub few : n ≤ i
+  pub rest : map parse (recordsAt text i) ≡ drop n (parsedIn text)
+  pub passed : Passed (length (parsedIn text)) (atRecord (parsedIn text)) n
+  pub last : before ≡ letterBefore (parsedIn text) n
+
+-- the records of letter k among the first n
+abbrev pub countBy : List ℕ → ℕ → ℕ → ℕ
+countBy text n k = length (valuesBy k (take n (parsedIn text)))
+
+-- they are in a table of so many columns, within the letter's limit
+pub record Tabled (text : List ℕ) (n k columns rows : ℕ) (old now : List ℕ) (put : ℕ) : Type 0 where
+  pub counted : put ≡ countBy text n k
+  pub few : put ≤ limitOf k .0
+  pub entered : Entered columns rows (valuesBy k (take n (parsedIn text))) old now
+
+-- n records are read, up to place i: they are passed, and in the two tables
+pub record Reading (text : List ℕ) (rows : ℕ) (book₀ lines₀ book lines : List ℕ) (before : Place) (holdings pairs n i : ℕ) : Type 0 where
+  pub passing : Passing text before n i
+  pub each-holding : Tabled text n 0 (fieldCount - 1) rows book₀ book holdings
+  pub each-line : Tabled text n 1 3 rows lines₀ lines pairs
+
+-- what refuses a text, whatever follows its records
+abbrev pub Refuses : List ℕ → Answer → Type 0
+Refuses text a = (w : Answer) → firstOf (fileFaults text) w ≡ a
+
+-- before the first record
+tabled-none : (text : List ℕ) (k columns rows : ℕ) (table : List ℕ) → Tabled text 0 k columns rows table table 0
+unfolding valuesBy
+tabled-none text k columns rows table = record { counted = refl; few = omega arith; entered = entered-none columns rows table }
+
+pub reading-none : (text : List ℕ) (rows : ℕ) (book lines : List ℕ) → Reading text rows book lines book lines Nowhere 0 0 0 0
+unfolding parsedIn recordsOf
+reading-none text rows book lines = record {
+  passing = record { few = omega arith; rest = refl; passed = passed-none; last = refl };
+  each-holding = tabled-none text 0 _ rows book;
+  each-line = tabled-none text 1 _ rows lines;
+}

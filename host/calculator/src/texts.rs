@@ -1,0 +1,116 @@
+//! Texts of files, for the samples, the cases and the tests.
+//!
+//! A record is a text without its CRLF, so that it can be changed before it goes into a file. The
+//! empty fields that end a record are added here alone: the rest names the filled ones.
+
+use crate::{FIELDS, ISSUERS, KINDS, Rows, SIDES, Sheet};
+
+/// The records of the file that document 01 prints.
+pub const PRINTED: [&str; 5] = [
+    "H,L,C,CA,2000,1000000,0",
+    "H,S,B,CA,2000,600000,5840",
+    "H,S,R,ON,2000,300000,6570",
+    "P,0,1,600000,,,",
+    "P,0,2,300000,,,",
+];
+
+/// Fields of a holding that are filled, its letter among them; the others are empty.
+const FILLED_OF_HOLDING: usize = 7;
+/// Fields of a line that are filled, its letter among them; the others are empty.
+const FILLED_OF_LINE: usize = 4;
+
+/// The record of a holding with these fields after its letter.
+#[must_use]
+pub fn holding(fields: &str) -> String {
+    format!("H,{fields}{}", ",".repeat(FIELDS - FILLED_OF_HOLDING))
+}
+
+/// The record of a line with these fields after its letter.
+#[must_use]
+pub fn line(fields: &str) -> String {
+    format!("P,{fields}{}", ",".repeat(FIELDS - FILLED_OF_LINE))
+}
+
+/// The file of holdings and lines with these fields after their letters.
+#[must_use]
+pub fn file(holdings: &[&str], lines: &[&str]) -> Vec<u8> {
+    let mut records: Vec<String> = holdings.iter().map(|fields| holding(fields)).collect();
+    records.extend(lines.iter().map(|fields| line(fields)));
+    joined(&records)
+}
+
+/// Records with a CRLF after each.
+pub fn joined<T: AsRef<str>>(records: &[T]) -> Vec<u8> {
+    let mut text = Vec::new();
+    for record in records {
+        text.extend(record.as_ref().as_bytes());
+        text.extend(b"\r\n");
+    }
+    text
+}
+
+/// A record without a comma in quotes, cut or filled up with empty fields until it has so many.
+#[must_use]
+pub fn of_width(record: &str, count: usize) -> String {
+    let mut fields: Vec<&str> = record.split(',').collect();
+    fields.resize(count, "");
+    fields.join(",")
+}
+
+/// A record without quotes, with each of its fields in quotes.
+#[must_use]
+pub fn quoted(record: &str) -> String {
+    let fields: Vec<String> = record
+        .split(',')
+        .map(|field| format!("\"{field}\""))
+        .collect();
+    fields.join(",")
+}
+
+/// A record without quotes, with the fields at some places in quotes.
+///
+/// # Panics
+///
+/// If the record has no field at one of them.
+#[must_use]
+pub fn quoted_at(record: &str, places: &[usize]) -> String {
+    let mut fields: Vec<String> = record.split(',').map(String::from).collect();
+    for at in places {
+        fields[*at] = format!("\"{}\"", fields[*at]);
+    }
+    fields.join(",")
+}
+
+/// The records of a sheet: holdings, then lines.
+///
+/// # Panics
+///
+/// If a side, kind or issuer is unknown, or the columns differ in length.
+#[must_use]
+pub fn records(sheet: &Sheet) -> Vec<String> {
+    let mut records = Vec::with_capacity(sheet.side.len() + sheet.long.len());
+    for (number, price) in sheet.price.iter().enumerate() {
+        let row = sheet.row(number);
+        let side = SIDES[row.side as usize];
+        let kind = KINDS[row.kind as usize];
+        let issuer = ISSUERS[row.issuer as usize];
+        let (days, value) = (row.days, row.value);
+        records.push(holding(&format!(
+            "{side},{kind},{issuer},{days},{value},{price}"
+        )));
+    }
+    for ((long, short), amount) in sheet.long.iter().zip(&sheet.short).zip(&sheet.amount) {
+        records.push(line(&format!("{long},{short},{amount}")));
+    }
+    records
+}
+
+/// The file of a sheet.
+///
+/// # Panics
+///
+/// As [`records`].
+#[must_use]
+pub fn text_of(sheet: &Sheet) -> Vec<u8> {
+    joined(&records(sheet))
+}
