@@ -4,8 +4,10 @@ use mathlib.Core.Logic.{_↔_}
 use mathlib.Core.List.{List}
 use Prim.Native.Nat.{ℕ, _≤_, _<_}
 use native.Mathlib.Omega.{arith}
+use lib.Dec.{leb}
 use lib.ListN.{length, getD, length-map}
-use Rattle.lists.proofs.Entries.{each-at}
+use borrow.Author.Tests.{leb-true}
+use Rattle.lists.proofs.Entries.{each-by, each-at}
 use Rattle.lists.proofs.Tables.{getD-map-in}
 use Rattle.lists.proofs.Firsts.{None, Numbered, each-in-turn, none-first, first-of-none}
 use Rattle.article.specs.Answer.{makeAnswer}
@@ -16,10 +18,11 @@ use Rattle.layout.specs.Layout.{Meaning, good, refused, parse}
 use Rattle.layout.proofs.Letters.{parse-good, parse-refused}
 use Rattle.reader.specs.File.{parsedIn, limits, faultsOf, atRecord, fileFaults, fileFault}
 
--- the refusals of a record: its own, or 22 and that of one more than the limit of a known letter
+-- the refusals of a record: its own, or 22 and that of one more than the limit of its letter, which is known
 numbered-of : (n : ℕ) (before : Place) (count : ℕ → ℕ) (r : Read) (m : Meaning) → parse r ≡ m → Numbered number (faultsOf n before count m)
 numbered-of n before count r (good k vs) e =
-    (omega arith, (each-at (λ (l : ℕ × ℕ). 1 ≤ l .1) (0, 0) limits (omega arith, (omega arith, tt)) k (parse-good r e), tt))
+    let each = each-by (λ (l : ℕ × ℕ). 1 ≤ l .1) (λ l. leb 1 (l .1)) (λ l. leb-true 1 (l .1)) limits refl in
+    (omega arith, (each-at (λ (l : ℕ × ℕ). 1 ≤ l .1) (0, 0) limits each k (parse-good r e), tt))
 numbered-of n before count r (refused k) e = (omega (arith, parse-refused r e), tt)
 
 numbered : (text : List ℕ) → Numbered number (fileFaults text)
