@@ -15,10 +15,10 @@ use Rattle.words.specs.Words.{encode}
 use Rattle.columns.specs.Columns.{Columns, makeColumns, columnAt, submission, holdingSizes, lineSizes, column, filledFrom, filled, columnIn, Entered}
 use Rattle.columns.proofs.Columns.{column-entries}
 use Rattle.columns.proofs.Tables.{column-long, entered-column, filled-values, pricesOf}
-use Rattle.columns.proofs.ReadBack.{SubmissionFits, submission-filled}
+use Rattle.columns.proofs.ReadBack.{SubmissionFits, nth, bare, bare-column, submission-filled}
 use Rattle.sizes.specs.Sizes.{entriesOf, Equal, differ}
 use Rattle.sizes.proofs.Sizes.{differ-exactly}
-use Rattle.verdict.specs.Judges.{Scratch, Judges}
+use Rattle.verdict.specs.Judges.{columnsDiffer, Scratch, Judges}
 use Rattle.verdict.specs.declared.Verdict.{Verdict}
 use Rattle.report.specs.Report.{reportOf}
 use Rattle.report.specs.Written.{reportRoom, Prints}
@@ -44,15 +44,26 @@ equal n c cs h =
 
 -- the columns of two tables
 module _ (n m : ℕ) (book lines : List ℕ) where
-  pub tables-even : TablesHold n m book lines → differ (holdingSizes (columnsOf n m book lines)) (lineSizes (columnsOf n m book lines)) ≡ false
+  abbrev held : ℕ → List ℕ
+  held j = columnIn 512 n book j
+
+  abbrev lined : ℕ → List ℕ
+  lined j = columnIn 512 m lines j
+
+  pub same-columns : {side kind issuer days value price long short amount : List ℕ} → side ≡ held 0 → kind ≡ held 1 → issuer ≡ held 2 → days ≡ held 3 → value ≡ held 4
+      → price ≡ held 5 → long ≡ lined 0 → short ≡ lined 1 → amount ≡ lined 2
+      → makeColumns (side ∷ kind ∷ issuer ∷ days ∷ value ∷ []) price (long ∷ short ∷ amount ∷ []) ≡ columnsOf n m book lines
+  same-columns a b c d e f g h i = rw (a, b, c, d, e, f, g, h, i)
+
+  pub tables-even : TablesHold n m book lines → columnsDiffer (columnsOf n m book lines) ≡ false
   unfolding holdingSizes lineSizes
   tables-even h =
-      let held : (j : ℕ) → j < 6 → Full n (columnIn 512 n book j) = λ j l. column-long 512 n j book (omega (arith, h .few-holdings, h .whole-book)) in
-      let lined : (j : ℕ) → j < 3 → Full m (columnIn 512 m lines j) = λ j l. column-long 512 m j lines (omega (arith, h .few-lines, h .whole-lines)) in
-      let below : (k j : ℕ) → k < j → k < j = λ k j l. l in
+      let full : (j : ℕ) → j < 6 → Full n (held j) = λ j l. column-long 512 n j book (omega (arith, h .few-holdings, h .whole-book)) in
+      let whole : (j : ℕ) → j < 3 → Full m (lined j) = λ j l. column-long 512 m j lines (omega (arith, h .few-lines, h .whole-lines)) in
       differ-exactly _ _ .1 (
-        equal n _ _ (held 0 (omega arith), (held 1 (omega arith), (held 2 (omega arith), (held 3 (omega arith), (held 4 (omega arith), (held 5 (omega arith), tt)))))),
-        equal m _ _ (lined 0 (omega arith), (lined 1 (omega arith), (lined 2 (omega arith), tt))),
+        equal n (held 0) (held 1 ∷ held 2 ∷ held 3 ∷ held 4 ∷ held 5 ∷ [])
+            (full 0 (omega arith), (full 1 (omega arith), (full 2 (omega arith), (full 3 (omega arith), (full 4 (omega arith), (full 5 (omega arith), tt)))))),
+        equal m (lined 0) (lined 1 ∷ lined 2 ∷ []) (whole 0 (omega arith), (whole 1 (omega arith), (whole 2 (omega arith), tt))),
       )
 
   -- where values were entered they hold what these submit
@@ -60,11 +71,13 @@ module _ (n m : ℕ) (book lines : List ℕ) where
     abbrev submitted : Submission
     submitted = record { rows = map rowBy hs; prices = pricesOf hs; lines = map lineBy ls }
 
-    pub tables-submitted : {old oldLines : List ℕ} → Entered 6 512 hs old book → Entered 3 512 ls oldLines lines → length hs ≡ n → length ls ≡ m → n ≤ 512 → m ≤ 512
+    pub tables-submitted : {old oldLines : List ℕ} → Entered 6 512 hs old book → Entered 3 512 ls oldLines lines → length hs ≡ n → length ls ≡ m
         → SubmissionFits submitted → submission (columnsOf n m book lines) ≡ submitted
     unfolding filledFrom
-    tables-submitted e f p q a b fit =
-        let held = λ (j : ℕ) (l : j < 6). entered-column e p a j l ∙ sym (bare-column (map (nth j) hs)) in
-        let lined = λ (j : ℕ) (l : j < 3). entered-column f q b j l ∙ sym (bare-column (map (nth j) ls)) in
-        let same : columnsOf n m book lines ≡ filled submitted bare = sym (filled-values hs ls bare refl refl ∙ ?) in
-        rw same (submission-bare submitted fit)
+    tables-submitted e f p q fit =
+        let in-book : (j : ℕ) → j < 6 → held j ≡ column (map (nth j) hs) [] = λ j l. entered-column e p j l ∙ sym (bare-column (map (nth j) hs)) in
+        let in-lines : (j : ℕ) → j < 3 → lined j ≡ column (map (nth j) ls) [] = λ j l. entered-column f q j l ∙ sym (bare-column (map (nth j) ls)) in
+        let filling : columnsOf n m book lines ≡ makeColumns (filledFrom 0 hs (bare .holdings)) (column (pricesOf hs) []) (filledFrom 0 ls (bare .lines)) =
+        λ i. makeColumns (in-book 0 (omega arith) i ∷ in-book 1 (omega arith) i ∷ in-book 2 (omega arith) i ∷ in-book 3 (omega arith) i ∷ in-book 4 (omega arith) i ∷ [])
+        (in-book 5 (omega arith) i) (in-lines 0 (omega arith) i ∷ in-lines 1 (omega arith) i ∷ in-lines 2 (omega arith) i ∷ []) in
+        rw (filling ∙ sym (filled-values hs ls bare refl refl)) (submission-filled submitted fit)

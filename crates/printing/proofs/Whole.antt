@@ -127,7 +127,7 @@ module _ (text : List ℕ) where
           let read = was-read from-file e in
           let holds : submission (columnsOf n m book′ lines′) ≡ submissionIn text =
           tables-submitted n m book′ lines′ (valuesBy 0 (parsedIn text)) (valuesBy 1 (parsedIn text)) (from-file .each-holding read) (from-file .each-line read)
-          (holdings-held from-file e) (lines-held from-file e) (few-holdings from-file e) (few-lines from-file e) (file-fits text (no-fault from-file e)) in
+          (holdings-held from-file e) (lines-held from-file e) (file-fits text (no-fault from-file e)) in
           let same : printedOf (submission (columnsOf n m book′ lines′)) (outcomeIn false (columnsOf n m book′ lines′)) ≡ printed text =
           rw (answer-checked (no-fault from-file e), tables-even n m book′ lines′ tables-hold, holds) in
           promised (rw same at (p .prints)) (rw same at (p .room))
