@@ -2,11 +2,10 @@
 // A case is two eight-byte little-endian numbers, the bytes of the title and of the text, then the title, then the text.
 use report::Printed;
 ghost use mathlib.Core.Path.{_≡_};
-ghost use Prim.Native.Nat.{_+_};
-ghost use lib.ListN.{length};
+ghost use Prim.Native.Nat.{_+_, _≤_};
+ghost use lib.ListN.{length, take};
 ghost use Rattle.reader.specs.File.{fileLimit};
 ghost use Rattle.report.specs.Written.{reportRoom};
-ghost use Rattle.printing.specs.Within.{Within};
 
 // Room for a text of one byte more than a file may have, and for a title.
 fn text_buffer() -> [u8; reader::LIMIT + 1]
@@ -24,7 +23,7 @@ fn print_buffer() -> [u8; report::ROOM]
 
 // Reads so many bytes into the front of the buffer, as many as it has room for, and returns how many there were.
 fn read_part(n: u64, buffer: &mut [u8]) -> usize
-    ensures { λ r. ⌜ Within r (now (buffer .exit)) ⌝ }
+    ensures { λ r. ⌜ (r ≤ length (now (buffer .exit))) × (r ≡ length (take r (now (buffer .exit)))) ⌝ }
 {
     if n < buffer.len() as u64 {
         return io::read_full(libc::STDIN_FILENO, &mut buffer[..n as usize]);
