@@ -1,19 +1,12 @@
 -- THE PAGE OF HOLDINGS, RATES AND PAIRS: what document 01 says of them, in its own words, over the definitions beside it.
 -- `article` of proofs/Article.antt proves it. Assumes nothing.
-use mathlib.Core.Path.{_≡_}
-use mathlib.Core.Bool.{true, false}
-use mathlib.Core.Logic.{_↔_}
+use mathlib.Core.{Path._≡_, Bool.true, Bool.false, Logic._↔_}
 use Prim.Native.Nat.{ℕ, _*_, _≤_, _<_, _+_, min, max}
-use Rattle.article.specs.Rate.{rateOf, periodOf}
-use Rattle.holding.specs.declared.Kind.the-variants.{Bond}
-use Rattle.holding.specs.declared.Issuer.the-variants.{Canada, Province}
-use Rattle.holding.specs.declared.Holding.{Holding}
+use Rattle.article.specs.{Rate.rateOf, Rate.periodOf, Pair.legOf, Pair.allowed, Pair.pairRateOf, Pair.savingRateOf}
+use Rattle.holding.specs.declared.{Kind.the-variants.Bond, Issuer.the-variants.Canada, Issuer.the-variants.Province, Holding.Holding, Side.the-variants.Long, Side.the-variants.Short}
+use Rattle.holding.specs.declared.{Issuer.Issuer, Row.Row}
 use Rattle.lists.specs.Choice.{within}
 use Rattle.holding.specs.Holding.{Ranges, InRange, faultOf, rowOf, holdingOf, Numbers}
-use Rattle.article.specs.Pair.{legOf, allowed, pairRateOf, savingRateOf}
-use Rattle.holding.specs.declared.Side.the-variants.{Long, Short}
-use Rattle.holding.specs.declared.Issuer.{Issuer}
-use Rattle.holding.specs.declared.Row.{Row}
 
 -- the four rates of a row: Canada bond, Canada strip, province bond, province strip. Strip means coupon or residual, what is no bond
 pub record Rates (h : Holding) (a b c d : ℕ) : Type 0 where

@@ -1,18 +1,12 @@
 -- Document 01, "A pair", from the article's Group XI(2). Assumes nothing.
-use mathlib.Core.Bool.{Bool, true, false, cond, _&&_, _||_}
-use mathlib.Core.Path.{_≡_}
-use mathlib.Core.List.{[], _∷_}
+use mathlib.Core.{Bool.Bool, Bool.true, Bool.false, Bool.cond, Bool._&&_, Bool._||_, Path._≡_, List.[], List._∷_}
 use Prim.Native.Nat.{ℕ, _+_, _-_, _/_, _≤_, min, max}
 use lib.Dec.{eqb}
 use Rattle.lists.specs.Choice.{firstOf, within}
-use Rattle.article.specs.Answer.{Answer, makeAnswer}
+use Rattle.article.specs.{Answer.Answer, Answer.makeAnswer, Rate.periodOf, Rate.rateOf}
 use Rattle.holding.specs.Holding.{rowOf}
-use Rattle.article.specs.Rate.{periodOf, rateOf}
 use Rattle.holding.specs.declared.Holding.{Holding}
-use Rattle.article.specs.declared.pair.Rule.{Rule}
-use Rattle.article.specs.declared.pair.Rule.the-variants.{Difference, HalfSum, NotAllowed}
-use Rattle.article.specs.declared.pair.Leg.{Leg}
-use Rattle.article.specs.declared.pair.Pair.{Pair}
+use Rattle.article.specs.declared.{pair.Rule.Rule, pair.Rule.the-variants.Difference, pair.Rule.the-variants.HalfSum, pair.Rule.the-variants.NotAllowed, pair.Leg.Leg, pair.Pair.Pair}
 use Rattle.article.specs.declared.pair.Pair.the-variants as pairs
 
 -- what a pair asks of a holding: the numbers of its side, kind and issuer, its period, and its rate alone

@@ -1,15 +1,10 @@
 -- Document 01, "Rate and period", from the article's Group I, Group II and Group XI(1). Assumes nothing.
-use mathlib.Core.Bool.{Bool, cond}
-use mathlib.Core.List.{List, [], _∷_}
+use mathlib.Core.{Bool.Bool, Bool.cond, List.List, List.[], List._∷_}
 use Prim.Native.Nat.{ℕ, _+_, _-_, _*_, _/_}
-use lib.Dec.{ltb, leb}
-use lib.ListN.{getD}
+use lib.{Dec.ltb, Dec.leb, ListN.getD}
 use Rattle.lists.specs.Choice.{count}
-use Rattle.holding.specs.declared.Kind.{Kind}
-use Rattle.holding.specs.declared.Kind.the-variants.{Bond, Coupon, Residual}
-use Rattle.holding.specs.declared.Issuer.{Issuer}
-use Rattle.holding.specs.declared.Issuer.the-variants.{Canada, Province}
-use Rattle.holding.specs.declared.Holding.{Holding}
+use Rattle.holding.specs.declared.{Kind.Kind, Kind.the-variants.Bond, Kind.the-variants.Coupon, Kind.the-variants.Residual, Issuer.Issuer, Issuer.the-variants.Canada}
+use Rattle.holding.specs.declared.{Issuer.the-variants.Province, Holding.Holding}
 
 -- a term of more than so many years. A year is 365 days here
 unfoldable pub longerThan : ℕ → ℕ → Bool

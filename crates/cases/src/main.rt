@@ -5,7 +5,7 @@ ghost use mathlib.Core.Path.{_≡_};
 ghost use Prim.Native.Nat.{_+_, _≤_};
 ghost use lib.ListN.{length, take};
 ghost use Rattle.reader.specs.File.{fileLimit};
-ghost use Rattle.report.specs.Written.{reportRoom};
+ghost use Rattle.report.specs.Report.{reportRoom};
 
 // Room for a text of one byte more than a file may have, and for a title.
 fn text_buffer() -> [u8; reader::LIMIT + 1]

@@ -1,12 +1,9 @@
 -- A text among named ones, by its place. Assumes nothing.
-use mathlib.Core.Path.{_≡_}
-use mathlib.Core.Bool.{cond}
-use mathlib.Core.List.{List, [], _∷_}
+use mathlib.Core.{Path._≡_, Bool.cond, List.List, List.[], List._∷_}
 use Prim.Native.Nat.{ℕ, zero, suc, _<_}
 use lib.ListN.{length, getD, take, drop}
 use Rattle.lists.specs.Choice.{same}
-use Rattle.codes.specs.declared.Place.{Place}
-use Rattle.codes.specs.declared.Place.the-variants.{At, Nowhere}
+use Rattle.codes.specs.declared.{Place.Place, Place.the-variants.At, Place.the-variants.Nowhere}
 
 -- the first place of a text in a list of texts, whose places go from n on
 unfoldable pub placeFrom : ℕ → List ℕ → List (List ℕ) → Place

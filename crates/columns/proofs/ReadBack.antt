@@ -5,8 +5,7 @@ use Prim.Native.Nat.{ℕ, suc, _+_, _*_, _<_, _^_}
 use native.Mathlib.Omega.{arith}
 use lib.ListN.{length, getD, take, drop, replicate, length-map, drop-of-length-le}
 use lib.Seq.{drop-nil, drop-cons, take-at}
-use Rattle.lists.specs.Each.{Each}
-use Rattle.lists.specs.Tables.{listTo, front}
+use Rattle.lists.specs.Tables.{Each, listTo, front}
 use Rattle.lists.proofs.Entries.{each-so, each-map, each-read}
 use Rattle.lists.proofs.Tables.{to-eq, to-back, getD-map-in}
 use Rattle.holding.specs.Holding.{numbersOf, rowBy}

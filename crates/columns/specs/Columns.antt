@@ -1,11 +1,9 @@
 -- Document 01, "A book or proposal has as many holdings or lines as its columns have entries": columns of bytes, what they hold, and those columns
 -- filled by the reader. Assumes nothing.
-use mathlib.Core.Path.{_≡_}
-use mathlib.Core.List.{List, [], _∷_, _++_, map}
+use mathlib.Core.{Path._≡_, List.List, List.[], List._∷_, List._++_, List.map}
 use Prim.Native.Nat.{ℕ, suc, _+_, _*_, _/_, _≤_, _<_}
 use lib.ListN.{length, getD, take, drop}
-use Rattle.lists.specs.Each.{Each}
-use Rattle.lists.specs.Tables.{listTo, front}
+use Rattle.lists.specs.{Tables.Each, Tables.listTo, Tables.front}
 use Rattle.holding.specs.Holding.{numbersOf, rowBy}
 use Rattle.holding.specs.declared.Row.{Row}
 use Rattle.pairing.specs.declared.Line.{Line}

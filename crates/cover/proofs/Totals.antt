@@ -4,12 +4,11 @@ use mathlib.Core.List.{List}
 use Prim.Native.Nat.{ℕ, _+_, _*_, _≤_, _<_}
 use native.Mathlib.Nat.{mul-le-mul}
 use native.Mathlib.Omega.{arith}
-use Rattle.lists.specs.Sums.{sumTo}
+use Rattle.lists.specs.Tables.{sumTo}
 use Rattle.lists.proofs.Sums.{sumTo-bound, sumTo-more, sumTo-eq}
 use Rattle.words.specs.Words.{wordAt, entries}
 use Rattle.pairing.specs.Pairing.{pricedTotal}
-use Rattle.proposal.specs.Submission.{termsOf}
-use Rattle.proposal.specs.Figures.{savedLimit}
+use Rattle.proposal.specs.Submission.{termsOf, savedLimit}
 use Rattle.cover.specs.Cover.{Valued, Totals}
 
 module _ (price value : List ℕ) where

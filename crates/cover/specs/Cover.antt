@@ -1,8 +1,6 @@
 -- Document 01, "16 an allowed pair not covered, lowest long, then lowest short", over packed legs and a column of prices: what the search and the
 -- priced total promise of every book that the lists hold. Assumes nothing.
-use mathlib.Core.Path.{_≡_}
-use mathlib.Core.Bool.{cond}
-use mathlib.Core.List.{List}
+use mathlib.Core.{Path._≡_, Bool.cond, List.List}
 use Prim.Native.Nat.{ℕ, _+_, _*_, _/_, _%_, _≤_, _<_}
 use lib.ListN.{length, getD}
 use Rattle.words.specs.Words.{wordAt, entries}
@@ -12,9 +10,7 @@ use Rattle.article.specs.Pair.{isCanada, rateLimit}
 use Rattle.packed.specs.Packed.{legAt, AtMost, entry, Legs, LegsOf, Same}
 use Rattle.holding.specs.Holding.{valueLimit}
 use Rattle.pairing.specs.Pairing.{pricedTotal}
-use Rattle.proposal.specs.Submission.{PricedBook, termsOf}
-use Rattle.proposal.specs.Figures.{priceLimit}
-use Rattle.proposal.specs.Outcome.{faultAnswer, uncoveredPairs, firstFault}
+use Rattle.proposal.specs.{Submission.PricedBook, Submission.termsOf, Submission.priceLimit, Outcome.faultAnswer, Outcome.uncoveredPairs, Outcome.firstFault}
 use Rattle.proposal.specs.declared.Fault.{Fault}
 
 -- what a pair asks of a leg beside its side, kind and rate, as one number: its period and its class, 0 for Canada and 1 for any other

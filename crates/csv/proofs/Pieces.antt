@@ -10,9 +10,8 @@ use lib.Dec.{eqb}
 use lib.ListN.{length, drop, length-append, length-drop}
 use lib.Seq.{drop-drop, take-at, drop-at}
 use Rattle.lists.proofs.Tests.{by-test}
-use Rattle.csv.specs.Bytes.{isText, isQuotable}
+use Rattle.csv.specs.Grammar.{isText, isQuotable, TextRun, no-text, text-data, QuotedRun, no-quoted, quoted, doubled, escaped, non-escaped}
 use Rattle.csv.specs.Grammar as G
-use Rattle.csv.specs.Grammar.{TextRun, no-text, text-data, QuotedRun, no-quoted, quoted, doubled, escaped, non-escaped}
 use Rattle.csv.specs.Reading.{span, part, textFrom, textEnd, closeFrom, closeAt, followedBy, followed, begins, opens, enclosed, fieldAt}
 use Rattle.csv.specs.declared.Span.{Span}
 use Rattle.csv.specs.declared.Found.{Found}

@@ -10,7 +10,7 @@ use lib.Dec.{eqb}
 use lib.ListN.{length, getD, take, drop, length-drop, drop-of-length-le}
 use lib.Seq.{drop-cons, take-all, take-nil}
 use Rattle.lists.proofs.Tests.{by-end}
-use Rattle.csv.specs.Bytes.{isText, isQuotable}
+use Rattle.csv.specs.Grammar.{isText, isQuotable}
 use Rattle.csv.specs.Reading.{span, part, textFrom, textEnd, closeFrom, closeAt, followedBy, followed, begins, opens, enclosed, fieldAt}
 use Rattle.csv.specs.declared.Span.{Span}
 use Rattle.csv.specs.declared.Found.{Found}

@@ -6,7 +6,7 @@ use native.Mathlib.Omega.{arith}
 use lib.Dec.{leb}
 use borrow.Author.Tests.{le-leb, lt-leb, leb-false}
 use Rattle.lists.specs.Choice.{within}
-use Rattle.csv.specs.Bytes.{isText}
+use Rattle.csv.specs.Grammar.{isText}
 
 module _ (c : ℕ) where
   pub text-quote : c ≡ 0x22 → isText c ≡ false

@@ -1,10 +1,17 @@
 -- RFC 4180's grammar over the bytes of a text, line by line beside its ABNF. A field has, beside its own text, the text that is handed back:
 -- enclosing quotes dropped, doubled quotes left doubled. A record has the texts of its fields, a file its records. Assumes nothing.
-use mathlib.Core.Path.{_≡_}
-use mathlib.Core.Bool.{true}
-use mathlib.Core.List.{List, [], _∷_, _++_}
+use mathlib.Core.{Bool.Bool, Bool._||_, Bool.true, Path._≡_, List.List, List.[], List._∷_, List._++_}
 use Prim.Native.Nat.{ℕ}
-use Rattle.csv.specs.Bytes.{isText, isQuotable}
+use lib.Dec.{eqb}
+use Rattle.lists.specs.Choice.{within}
+
+-- TEXTDATA = %x20-21 / %x23-2B / %x2D-7E
+unfoldable pub isText : ℕ → Bool
+isText c = within 0x20 0x21 c || within 0x23 0x2B c || within 0x2D 0x7E c
+
+-- TEXTDATA / COMMA / CR / LF, where COMMA = %x2C, CR = %x0D, LF = %x0A
+unfoldable pub isQuotable : ℕ → Bool
+isQuotable c = eqb c 0x2C || eqb c 0x0D || eqb c 0x0A || isText c
 
 -- *TEXTDATA
 pub data TextRun : List ℕ → Type 0 where

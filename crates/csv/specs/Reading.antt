@@ -1,20 +1,12 @@
 -- Records read from a text by places, which is what the code promises. That they are those of `Grammar` is shown in the crate `grammar`.
 -- Assumes nothing.
-use mathlib.Core.Path.{_≡_}
-use mathlib.Core.Bool.{Bool, true, false, cond, _&&_}
-use mathlib.Core.List.{List, [], _∷_, map}
+use mathlib.Core.{Path._≡_, Bool.Bool, Bool.true, Bool.false, Bool.cond, Bool._&&_, List.List, List.[], List._∷_, List.map}
 use Prim.Native.Nat.{ℕ, zero, suc, _+_, _-_}
-use lib.Dec.{ltb, eqb}
-use lib.ListN.{length, getD, take, drop}
+use lib.{Dec.ltb, Dec.eqb, ListN.length, ListN.getD, ListN.take, ListN.drop}
 use Rattle.lists.specs.Tables.{listTo, front}
-use Rattle.csv.specs.Bytes.{isText, isQuotable}
-use Rattle.csv.specs.declared.Span.{Span}
-use Rattle.csv.specs.declared.Found.{Found}
-use Rattle.csv.specs.declared.Found.the-variants.{At, Nothing}
-use Rattle.csv.specs.declared.Piece.{Piece}
-use Rattle.csv.specs.declared.Piece.the-variants.{Field, Broken}
-use Rattle.csv.specs.declared.Scanned.{Scanned}
-use Rattle.csv.specs.declared.Scanned.the-variants.{Fields, Malformed}
+use Rattle.csv.specs.Grammar.{isText, isQuotable}
+use Rattle.csv.specs.declared.{Span.Span, Found.Found, Found.the-variants.At, Found.the-variants.Nothing, Piece.Piece, Piece.the-variants.Field, Piece.the-variants.Broken}
+use Rattle.csv.specs.declared.{Scanned.Scanned, Scanned.the-variants.Fields, Scanned.the-variants.Malformed}
 
 -- from a place to another
 abbrev pub span : ℕ → ℕ → Span

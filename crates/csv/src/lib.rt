@@ -1,7 +1,7 @@
 // RFC 4180 in one pass: a field, what follows it, a record. A byte is written as its number: 10 LF, 13 CR, 34 the quote, 44 the comma.
 ghost use mathlib.Core.Path.{_≡_};
 ghost use lib.ListN.{set};
-ghost use Rattle.csv.specs.Bytes.{isText, isQuotable};
+ghost use Rattle.csv.specs.Grammar.{isText, isQuotable};
 ghost use Rattle.csv.specs.Reading.{span, part, textEnd, closeAt, followed, opens, fieldAt, recordAt, Scans, HandsBack};
 
 // The number of fields that a record of the file has.

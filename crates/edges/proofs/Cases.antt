@@ -6,9 +6,8 @@ use Prim.Native.Nat.{ℕ, _-_}
 use Prim.Native.String.{String}
 use lib.Dec.{eqb}
 use lib.ListN.{length, getD, take, drop, replicate}
-use Rattle.lists.specs.Tables.{zeros}
+use Rattle.lists.specs.Tables.{zeros, ascii}
 use Rattle.lists.specs.Choice.{same, firstOf}
-use Rattle.lists.specs.Texts.{ascii}
 use Rattle.words.specs.Words.{decode, encode}
 use Rattle.holding.specs.Holding.{faultOf, holdingOf}
 use Rattle.holding.specs.declared.Row.{Row}
@@ -16,13 +15,11 @@ use Rattle.article.specs.Answer.{makeAnswer}
 use Rattle.article.specs.Rate.{rateOf}
 use Rattle.article.specs.Pair.{legOf, pairOf}
 use Rattle.pairing.specs.declared.Line.{Line}
-use Rattle.proposal.specs.Submission.{Submission, bookOf, priced}
-use Rattle.proposal.specs.Figures.{remainder, margin, unitsOf, remaindersOf, ranked, centsOf}
+use Rattle.proposal.specs.Submission.{Submission, bookOf, priced, remainder, margin, unitsOf, remaindersOf, ranked, centsOf}
 use Rattle.proposal.specs.Outcome.{outcome}
 use Rattle.codes.specs.Codes.{placeOf}
-use Rattle.csv.specs.Bytes.{isText, isQuotable}
-use Rattle.layout.specs.Sorts.{byPlace, valueOf}
-use Rattle.layout.specs.Layout.{letters, Meaning}
+use Rattle.csv.specs.Grammar.{isText, isQuotable}
+use Rattle.layout.specs.Layout.{byPlace, valueOf, letters, Meaning}
 use Rattle.layout.specs.declared.Sort.{Sort}
 use Rattle.layout.specs.declared.Value.{Value}
 use Rattle.layout.specs.declared.Value.the-variants.{Of, Wrong}

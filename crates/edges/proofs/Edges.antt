@@ -6,10 +6,8 @@ use Prim.Native.String.{String}
 use native.Mathlib.Omega.{arith}
 use lib.ListN.{length}
 use Rattle.lists.specs.Choice.{within, firstOf, some, count, same}
-use Rattle.lists.specs.Each.{Each}
+use Rattle.lists.specs.Tables.{Each, listTo, turns, inTurn, front, zeros, sumTo, sumOf, only}
 use Rattle.lists.specs.Order.{insert, ordered}
-use Rattle.lists.specs.Sums.{sumTo, sumOf, only}
-use Rattle.lists.specs.Tables.{listTo, turns, inTurn, front, zeros}
 use Rattle.lists.proofs.Entries.{each-so, same-true}
 use Rattle.words.specs.Words.{number, littleEndian, wordAt, entries, decode, encode}
 use Rattle.holding.specs.Holding as row
@@ -19,15 +17,13 @@ use Rattle.article.specs.Pair.{legOf, isLong, isShort, isBond, isStrip, isCanad
 use Rattle.pairing.specs.Pairing as theory
 use Rattle.pairing.specs.Pairing.{used, saving, pairUnits, pricedTotal}
 use Rattle.ranking.specs.Ranking.{ranksBefore, rankingOf}
-use Rattle.proposal.specs.Submission.{lineNumbers, lineBy, bookOf, termsOf, priced}
-use Rattle.proposal.specs.Figures.{remainder, margin, unitsOf, remaindersOf, ranked, centsOf}
+use Rattle.proposal.specs.Submission.{lineNumbers, lineBy, bookOf, termsOf, priced, remainder, margin, unitsOf, remaindersOf, ranked, centsOf}
 use Rattle.proposal.specs.Outcome.{atPlace, holdingFaults, pairFaults, lineFaults, atHolding, bookFaults, atLine, linesFaults, uncovered, atPair, atLong, uncoveredPairs, totalsDiffer, totalsFaults, sizeFaults, faults, accepted, outcome}
 use Rattle.numerals.specs.Numerals.{lead, digits, valueFrom, numeralOf}
 use Rattle.codes.specs.Codes.{placeFrom, placeOf}
-use Rattle.csv.specs.Bytes.{isText, isQuotable}
+use Rattle.csv.specs.Grammar.{isText, isQuotable}
 use Rattle.csv.specs.Reading.{part, textFrom, textEnd, closeFrom, closeAt, followedBy, followed, begins, opens, enclosed, fieldAt, fieldsFrom, recordAt, recordsFrom, recordsAt, recordsOf}
-use Rattle.layout.specs.Sorts.{valueOf}
-use Rattle.layout.specs.Layout.{valuesOf, parsedOf, parse}
+use Rattle.layout.specs.Layout.{valueOf, valuesOf, parsedOf, parse}
 use Rattle.reader.specs.File.{parsedIn, valuesBy, submissionOf, atRecord, fileFaults, fileFault, readAnswer}
 use Rattle.columns.specs.Columns.{countIn, numbersAt, rowsIn, linesIn, submission, holdingSizes, lineSizes, listsOf, column, filledFrom, filled}
 use Rattle.sizes.specs.Sizes.{entriesOf, unequal, differ, tooShort, lengthFault}

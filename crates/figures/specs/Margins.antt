@@ -1,12 +1,10 @@
 -- The margins of what is left of each holding, over packed legs. Assumes nothing.
-use mathlib.Core.Path.{_≡_}
-use mathlib.Core.List.{List}
+use mathlib.Core.{Path._≡_, List.List}
 use Prim.Native.Nat.{ℕ, _*_, _≤_}
 use lib.ListN.{length}
-use Rattle.lists.specs.Sums.{sumTo}
-use Rattle.lists.specs.Tables.{listTo, front}
+use Rattle.lists.specs.{Tables.sumTo, Tables.listTo, Tables.front}
 use Rattle.holding.specs.Holding.{valueLimit}
-use Rattle.proposal.specs.Figures.{marginLimit}
+use Rattle.proposal.specs.Submission.{marginLimit}
 use Rattle.packed.specs.Packed.{legAt, Legs, AtMost, entry}
 
 -- legs and what is left of n holdings, within the limits, and room for their margins

@@ -1,5 +1,5 @@
 // The figures of a proposal: the margin of what is left of each holding, and total cents.
-ghost use Rattle.proposal.specs.Figures.{RoundedUp};
+ghost use Rattle.proposal.specs.Submission.{RoundedUp};
 ghost use Rattle.figures.specs.Margins.{MarginsLent, Margins};
 
 // Puts the margin of what is left of each of n holdings into a list, and returns their sum.

@@ -8,9 +8,8 @@ use borrow.Author.Tests.{ne-eqb}
 use lib.Dec.{eqb}
 use lib.ListN.{length, drop, length-append, length-drop}
 use Rattle.lists.specs.Choice.{within}
-use Rattle.csv.specs.Bytes.{isText, isQuotable}
+use Rattle.csv.specs.Grammar.{isText, isQuotable, TextRun, no-text, text-data, QuotedRun, no-quoted, quoted, doubled, escaped, non-escaped, Record, one, more, File, none, last, line}
 use Rattle.csv.specs.Grammar as G
-use Rattle.csv.specs.Grammar.{TextRun, no-text, text-data, QuotedRun, no-quoted, quoted, doubled, escaped, non-escaped, Record, one, more, File, none, last, line}
 use Rattle.csv.specs.Reading.{span, part, textFrom, textEnd, closeFrom, closeAt, followedBy, followed, begins, opens, fieldAt, fields, recordAt, Read, formed, recordsAt, recordsOf}
 use Rattle.csv.specs.declared.Span.{Span}
 use Rattle.csv.specs.declared.Found.{Found}

@@ -1,21 +1,11 @@
 -- Document 01, "A holding": the ranges of raw numbers, and the record that numbers within them make. Assumes nothing.
-use mathlib.Core.Path.{_≡_}
-use mathlib.Core.Bool.{Bool, cond, not, true}
-use mathlib.Core.List.{List, [], _∷_, _++_}
+use mathlib.Core.{Path._≡_, Bool.Bool, Bool.cond, Bool.not, Bool.true, List.List, List.[], List._∷_, List._++_}
 use Prim.Native.Nat.{ℕ, _≤_}
-use lib.Dec.{eqb}
-use lib.ListN.{getD}
+use lib.{Dec.eqb, ListN.getD}
 use Rattle.lists.specs.Choice.{firstOf, within}
-use Rattle.holding.specs.declared.Side.{Side}
-use Rattle.holding.specs.declared.Side.the-variants.{Long, Short}
-use Rattle.holding.specs.declared.Kind.{Kind}
-use Rattle.holding.specs.declared.Kind.the-variants.{Bond, Coupon, Residual}
-use Rattle.holding.specs.declared.Issuer.{Issuer}
-use Rattle.holding.specs.declared.Issuer.the-variants.{Canada, Province}
-use Rattle.holding.specs.declared.Holding.{Holding}
-use Rattle.holding.specs.declared.Row.{Row}
-use Rattle.holding.specs.declared.Built.{Built}
-use Rattle.holding.specs.declared.Built.the-variants.{Made, Refused}
+use Rattle.holding.specs.declared.{Side.Side, Side.the-variants.Long, Side.the-variants.Short, Kind.Kind, Kind.the-variants.Bond, Kind.the-variants.Coupon, Kind.the-variants.Residual}
+use Rattle.holding.specs.declared.{Issuer.Issuer, Issuer.the-variants.Canada, Issuer.the-variants.Province, Holding.Holding, Row.Row, Built.Built, Built.the-variants.Made}
+use Rattle.holding.specs.declared.{Built.the-variants.Refused}
 
 -- the most cents that a market value may be
 abbrev pub valueLimit : ℕ

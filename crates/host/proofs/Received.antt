@@ -8,8 +8,7 @@ use native.Mathlib.Omega.{arith}
 use lib.Dec.{eqb}
 use lib.ListN.{length, getD, take, length-map, length-append}
 use borrow.Author.Tests.{ne-eqb}
-use Rattle.lists.specs.Each.{Each}
-use Rattle.lists.specs.Tables.{front}
+use Rattle.lists.specs.Tables.{Each, front}
 use Rattle.lists.proofs.Entries.{each-so, each-parts, each-back}
 use Rattle.article.specs.Answer.{Answer, makeAnswer}
 use Rattle.proposal.specs.Submission.{Submission, lineNumbers, lineBy}

@@ -1,12 +1,8 @@
 -- THE PAGE OF THE EXPORTED READER. Document 01, "The reader fills lent columns, or leaves them untouched": what it promises of a text and of what is lent.
 -- Assumes nothing.
-use mathlib.Core.Path.{_≡_}
-use mathlib.Core.Logic.{_↔_}
-use mathlib.Core.Bool.{cond}
-use mathlib.Core.List.{List, []}
+use mathlib.Core.{Path._≡_, Logic._↔_, Bool.cond, List.List, List.[]}
 use Prim.Native.Nat.{ℕ, _<_}
-use lib.Dec.{eqb}
-use lib.ListN.{length, getD}
+use lib.{Dec.eqb, ListN.length, ListN.getD}
 use Rattle.article.specs.Answer.{Answer}
 use Rattle.proposal.specs.Submission.{Submission, noRow, noLine}
 use Rattle.words.specs.Words.{wordAt}

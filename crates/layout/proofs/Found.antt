@@ -9,8 +9,7 @@ use lib.ListN.{length, getD, take, drop, set, length-set, length-take, length-dr
 use lib.Seq.{drop-cons, getD-drop, take-suc-set, take-all}
 use Rattle.lists.proofs.Tables.{length-to}
 use Rattle.csv.specs.Reading.{fieldCount, textsIn, HandsBack}
-use Rattle.layout.specs.Sorts.{valueOf}
-use Rattle.layout.specs.Layout.{sortsBy, Values, values, wrong, andValue, valuesOf, Found}
+use Rattle.layout.specs.Layout.{valueOf, sortsBy, Values, values, wrong, andValue, valuesOf, Found}
 use Rattle.layout.specs.declared.Sort.{Sort}
 use Rattle.layout.specs.declared.Sort.the-variants.{Empty}
 use Rattle.layout.specs.declared.Value.{Value}

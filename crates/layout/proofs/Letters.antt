@@ -13,8 +13,7 @@ use Rattle.codes.specs.Codes.{placeOf}
 use Rattle.codes.specs.declared.Place.{Place}
 use Rattle.codes.specs.declared.Place.the-variants.{At, Nowhere}
 use Rattle.codes.proofs.Places.{place-exactly}
-use Rattle.layout.specs.Sorts.{valueOf}
-use Rattle.layout.specs.Layout.{padded, layouts, letters, sortsBy, Values, values, wrong, andValue, valuesOf, Meaning, good, refused, meant, afterLetter, parsedOf, parse}
+use Rattle.layout.specs.Layout.{valueOf, padded, layouts, letters, sortsBy, Values, values, wrong, andValue, valuesOf, Meaning, good, refused, meant, afterLetter, parsedOf, parse}
 use Rattle.layout.specs.declared.Sort.{Sort}
 use Rattle.layout.specs.declared.Sort.the-variants.{Empty}
 use Rattle.layout.specs.declared.Value.{Value}

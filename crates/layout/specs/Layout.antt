@@ -1,23 +1,62 @@
 -- Document 01, "The file": the layout of a record, parsed, and the refusals 19 to 21. Assumes nothing.
-use mathlib.Core.Path.{_≡_}
-use mathlib.Core.Bool.{Bool, true, false, cond}
-use mathlib.Core.List.{List, [], _∷_, _++_, map}
-use Prim.Native.Nat.{ℕ, suc, _-_}
-use lib.Dec.{eqb, leb}
-use lib.ListN.{length, getD, replicate}
-use Rattle.lists.specs.Texts.{ascii}
-use Rattle.csv.specs.Reading.{part, Split, fields, malformed, recordAt, fieldCount, Read, formed, broken}
+use mathlib.Core.{Path._≡_, Bool.cond, Bool.Bool, Bool.true, Bool.false, List.List, List.[], List._∷_, List._++_, List.map}
+use Prim.Native.Nat.{ℕ, _≤_, suc, _-_}
+use lib.{Dec.eqb, Dec.leb, ListN.length, ListN.getD, ListN.replicate}
+use Rattle.lists.specs.Tables.{ascii}
+use Rattle.numerals.specs.Numerals.{digits, numeralOf}
+use Rattle.numerals.specs.declared.{Numeral.Numeral, Numeral.the-variants.Number, Numeral.the-variants.NotANumeral}
 use Rattle.codes.specs.Codes.{placeOf, Named}
-use Rattle.codes.specs.declared.Place.{Place}
-use Rattle.codes.specs.declared.Place.the-variants.{At, Nowhere}
-use Rattle.layout.specs.Sorts.{AreValues, valueOf}
-use Rattle.layout.specs.declared.Sort.{Sort}
-use Rattle.layout.specs.declared.Sort.the-variants.{Side, Kind, Issuer, Six, Twelve, Empty}
-use Rattle.layout.specs.declared.Value.{Value}
-use Rattle.layout.specs.declared.Value.the-variants.{Of, Wrong}
-use Rattle.layout.specs.declared.Parsed.{Parsed}
-use Rattle.layout.specs.declared.Parsed.the-variants.{Good, Refused}
-use Rattle.layout.specs.declared.Entry.{Entry}
+use Rattle.codes.specs.declared.{Place.Place, Place.the-variants.At, Place.the-variants.Nowhere}
+use Rattle.layout.specs.declared.{Sort.Sort, Sort.the-variants.Side, Sort.the-variants.Kind, Sort.the-variants.Issuer, Sort.the-variants.Six, Sort.the-variants.Twelve}
+use Rattle.layout.specs.declared.{Sort.the-variants.Empty, Value.Value, Value.the-variants.Of, Value.the-variants.Wrong, Parsed.Parsed, Parsed.the-variants.Good}
+use Rattle.layout.specs.declared.{Parsed.the-variants.Refused, Entry.Entry}
+use Rattle.csv.specs.Reading.{part, Split, fields, malformed, recordAt, fieldCount, Read, formed, broken}
+
+-- side `L` or `S`; kind `B` `C` `R`; issuer `CA` or a province code, in the order of the issuers' numbers
+abbrev pub sides : List (List ℕ)
+sides = map ascii ("L" ∷ "S" ∷ [])
+
+abbrev pub kinds : List (List ℕ)
+kinds = map ascii ("B" ∷ "C" ∷ "R" ∷ [])
+
+abbrev pub issuers : List (List ℕ)
+issuers = map ascii ("CA" ∷ "AB" ∷ "BC" ∷ "MB" ∷ "NB" ∷ "NL" ∷ "NS" ∷ "ON" ∷ "PE" ∷ "QC" ∷ "SK" ∷ [])
+
+-- the numeral of v, in at most so many digits
+abbrev pub Numbered : ℕ → List ℕ → ℕ → Type 0
+Numbered most t v = (t ≡ digits v) × (length t ≤ most)
+
+-- a text is a value of its sort: "value and amount have 1 to 12 digits, others 1 to 6"
+abbrev pub IsValue : Sort → List ℕ → ℕ → Type 0
+IsValue Side t v = Named t sides v
+IsValue Kind t v = Named t kinds v
+IsValue Issuer t v = Named t issuers v
+IsValue Six t v = Numbered 6 t v
+IsValue Twelve t v = Numbered 12 t v
+IsValue Empty t v = (t ≡ []) × (v ≡ 0)
+
+-- texts are values of their sorts, one each
+pub data AreValues : List Sort → List (List ℕ) → List ℕ → Type 0 where
+  no-values : AreValues [] [] []
+  value-and : {s : Sort} {t : List ℕ} {v : ℕ} {ss : List Sort} {ts : List (List ℕ)} {vs : List ℕ} → IsValue s t v → AreValues ss ts vs → AreValues (s ∷ ss) (t ∷ ts) (v ∷ vs)
+
+-- a place among named texts is a value, and so is a numeral's number
+abbrev pub byPlace : Place → Value
+byPlace (At n) = Of n
+byPlace Nowhere = Wrong
+
+abbrev pub byNumeral : Numeral → Value
+byNumeral (Number n) = Of n
+byNumeral NotANumeral = Wrong
+
+-- the value that a text is of its sort
+unfoldable pub valueOf : Sort → List ℕ → Value
+valueOf Side t = byPlace (placeOf t sides)
+valueOf Kind t = byPlace (placeOf t kinds)
+valueOf Issuer t = byPlace (placeOf t issuers)
+valueOf Six t = byNumeral (numeralOf 6 t)
+valueOf Twelve t = byNumeral (numeralOf 12 t)
+valueOf Empty t = cond (eqb (length t) 0) (Of 0) Wrong
 
 -- one for each field of a record after its letter: those given, and x for the rest
 abbrev pub padded : {A : Type 0} → A → List A → List A

@@ -5,8 +5,7 @@ use numerals::Numeral;
 ghost use mathlib.Core.Path.{_≡_};
 ghost use lib.ListN.{drop, getD};
 ghost use Rattle.csv.specs.Reading.{fieldCount, textsIn};
-ghost use Rattle.layout.specs.Sorts.{byPlace, byNumeral, valueOf};
-ghost use Rattle.layout.specs.Layout.{sortsBy, valuesOf, Found, mayFollow, entry, EntryAt};
+ghost use Rattle.layout.specs.Layout.{byPlace, byNumeral, valueOf, sortsBy, valuesOf, Found, mayFollow, entry, EntryAt};
 
 // The number of values in a record: one for each field after its letter.
 pub const VALUES: usize = csv::FIELDS - 1;

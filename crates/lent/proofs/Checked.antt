@@ -15,8 +15,7 @@ use Rattle.columns.specs.Columns.{Columns, countIn, rowsIn, submission, holding
 use Rattle.columns.proofs.Columns.{column-entries}
 use Rattle.sizes.specs.Sizes.{Room}
 use Rattle.sizes.proofs.Sizes.{room-exactly, lengths-exactly}
-use Rattle.proposal.specs.Submission.{bookOf, priced}
-use Rattle.proposal.specs.Figures.{remaindersOf, ranked}
+use Rattle.proposal.specs.Submission.{bookOf, priced, remaindersOf, ranked}
 use Rattle.verdict.specs.Judges.{verdictOf, written, columnsDiffer, outcomeIn, Scratch, Judges}
 use Rattle.verdict.specs.declared.Verdict.{Verdict}
 use Rattle.verdict.specs.declared.Verdict.the-variants.{Accepted, Refused}

@@ -1,17 +1,11 @@
 -- THE PAGE OF THE EXPORTED CHECK. Document 01, "At the host's boundary a column or list is a byte slice of eight-byte little-endian
 -- numbers": the lists to be written, and what the exported check promises of what is lent. Assumes nothing.
-use mathlib.Core.Path.{_≡_}
-use mathlib.Core.Logic.{_↔_}
-use mathlib.Core.Bool.{Bool, cond}
-use mathlib.Core.List.{List, [], _∷_}
+use mathlib.Core.{Path._≡_, Logic._↔_, Bool.Bool, Bool.cond, List.List, List.[], List._∷_}
 use Prim.Native.Nat.{ℕ, _≤_, _<_}
-use lib.Dec.{ltb}
-use lib.ListN.{length}
+use lib.{Dec.ltb, ListN.length}
 use Rattle.lists.specs.Tables.{front}
 use Rattle.article.specs.Answer.{Answer, makeAnswer}
-use Rattle.proposal.specs.Submission.{priced}
-use Rattle.proposal.specs.Figures.{remaindersOf, ranked, InRankingOrder}
-use Rattle.proposal.specs.Demands.{Acceptable, Demands}
+use Rattle.proposal.specs.{Submission.priced, Submission.remaindersOf, Submission.ranked, Submission.InRankingOrder, Demands.Acceptable, Demands.Demands}
 use Rattle.verdict.specs.Judges.{written, columnsDiffer, outcomeIn}
 use Rattle.words.specs.Words.{wordAt, encode}
 use Rattle.columns.specs.Columns.{Columns, countIn, submission, holdingSizes, lineSizes, ColumnEntries}

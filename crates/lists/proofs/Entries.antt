@@ -9,7 +9,7 @@ use lib.Dec.{leb, eqb}
 use lib.ListN.{length, getD}
 use borrow.Author.Tests.{leb-true, eq-eqb, eqb-true}
 use Rattle.lists.specs.Choice.{same, some}
-use Rattle.lists.specs.Each.{Each}
+use Rattle.lists.specs.Tables.{Each}
 use Rattle.lists.proofs.Tests.{neither, either-way}
 
 abbrev pub every : {A : Type 0} → (A → Bool) → List A → Bool

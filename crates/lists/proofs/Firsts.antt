@@ -7,8 +7,7 @@ use native.Mathlib.Nat.{eq-or-lt-of-le}
 use native.Mathlib.Omega.{arith}
 use mathlib.Core.Logic.{⊎-elim}
 use Rattle.lists.specs.Choice.{firstOf}
-use Rattle.lists.specs.Each.{Each}
-use Rattle.lists.specs.Tables.{turns, inTurn}
+use Rattle.lists.specs.Tables.{Each, turns, inTurn}
 use Rattle.lists.proofs.Entries.{each-append}
 
 -- what holds of each entry of lists in turn holds of each entry of them all

@@ -6,7 +6,7 @@ use native.Mathlib.Nat.{le-refl, mul-le-mul}
 use native.Mathlib.Numerals.{add-one}
 use native.Mathlib.Omega.{arith}
 use borrow.Author.Tests.{eq-eqb, ne-eqb}
-use Rattle.lists.specs.Sums.{sumTo, sumOf, only}
+use Rattle.lists.specs.Tables.{sumTo, sumOf, only}
 use Rattle.lists.proofs.Tests.{same-or-not}
 
 pub only-same : (i x : ℕ) → only i x i ≡ x

@@ -1,7 +1,6 @@
 -- Tests on numbers and on lists of them, and lists of tests. Assumes nothing.
 use Prim.Native.Nat.{ℕ, _+_}
-use mathlib.Core.Bool.{Bool, true, false, cond, _&&_, _||_}
-use mathlib.Core.List.{List, [], _∷_}
+use mathlib.Core.{Bool.Bool, Bool.true, Bool.false, Bool.cond, Bool._&&_, Bool._||_, List.List, List.[], List._∷_}
 use lib.Dec.{leb, eqb}
 
 -- low to high, both ends inside

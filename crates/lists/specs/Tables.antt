@@ -1,7 +1,11 @@
--- Lists by index, lists one after another, and a list written into another. Assumes nothing.
-use mathlib.Core.List.{List, [], _∷_, _++_}
-use Prim.Native.Nat.{ℕ, zero, suc}
-use lib.ListN.{length, take, drop, replicate}
+-- Lists: what holds of each entry, lists by index, one after another, and written into another; sums; a quoted text as its bytes. Assumes nothing.
+use mathlib.Core.{List.List, List.[], List._∷_, List._++_, Bool.cond}
+use Prim.Native.{Nat.ℕ, Nat.zero, Nat.suc, Nat._+_, Char.code, String.String, String.[] as end, String._∷_ as _then_}
+use lib.{ListN.length, ListN.take, ListN.drop, ListN.replicate, Dec.eqb}
+
+abbrev pub Each : {A : Type 0} → (A → Type 0) → List A → Type 0
+Each P [] = Unit {0}
+Each P (x ∷ xs) = P x × Each P xs
 
 -- f 0, f 1, .. , f (n - 1)
 unfoldable pub listTo : {A : Type 0} → ℕ → (ℕ → A) → List A
@@ -28,3 +32,22 @@ overwrite at xs old = take at old ++ front xs (drop at old)
 -- n zeros
 unfoldable pub zeros : ℕ → List ℕ
 zeros n = replicate n 0
+
+-- f 0 + f 1 + .. + f (n - 1)
+unfoldable pub sumTo : ℕ → (ℕ → ℕ) → ℕ
+sumTo zero f = 0
+sumTo (suc n) f = sumTo n f + f n
+
+-- f over the entries of a list, added up
+unfoldable pub sumOf : {A : Type 0} → List A → (A → ℕ) → ℕ
+sumOf [] f = 0
+sumOf (x ∷ xs) f = f x + sumOf xs f
+
+-- x at the place i, 0 at every other
+unfoldable pub only : ℕ → ℕ → ℕ → ℕ
+only i x k = cond (eqb i k) x 0
+
+-- the bytes of a text of ASCII characters
+abbrev pub ascii : String → List ℕ
+ascii end = []
+ascii (c then rest) = code c ∷ ascii rest

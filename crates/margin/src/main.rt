@@ -4,7 +4,7 @@ ghost use mathlib.Core.Path.{_≡_};
 ghost use Prim.Native.Nat.{_+_};
 ghost use lib.ListN.{length};
 ghost use Rattle.reader.specs.File.{fileLimit};
-ghost use Rattle.report.specs.Written.{reportRoom};
+ghost use Rattle.report.specs.Report.{reportRoom};
 ghost use Rattle.margin.specs.Input.{ReadInto};
 
 // What the input is: a file of so many bytes, or none, where a read failed.

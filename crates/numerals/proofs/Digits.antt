@@ -6,7 +6,7 @@ use native.Mathlib.Nat.{pow-suc}
 use native.Mathlib.Numerals.{add-one}
 use native.Mathlib.Omega.{arith}
 use lib.ListN.{length, getD, length-append, List·getD-append}
-use Rattle.lists.specs.Each.{Each}
+use Rattle.lists.specs.Tables.{Each}
 use Rattle.lists.proofs.Entries.{each-append}
 use Rattle.lists.proofs.Tests.{by-end}
 use Rattle.numerals.specs.Numerals.{lead, digits, valueFrom}

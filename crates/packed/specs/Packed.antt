@@ -1,7 +1,6 @@
 -- A leg as one number, 16 bits for its rate, 8 each for its period, side and kind, 16 for its issuer, and 8 above them for what a leg may come to
 -- have; and a book in lent lists: the packed legs of its holdings, their values and their prices. Assumes nothing.
-use mathlib.Core.Path.{_≡_}
-use mathlib.Core.List.{List}
+use mathlib.Core.{Path._≡_, List.List}
 use Prim.Native.Nat.{ℕ, _/_, _%_, _<_, _≤_}
 use lib.ListN.{length, getD}
 use Rattle.article.specs.declared.pair.Leg.{Leg}

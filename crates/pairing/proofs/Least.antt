@@ -5,8 +5,7 @@ use mathlib.Core.List.{List, [], _∷_}
 use Prim.Native.Nat.{ℕ, _+_, _-_, _*_, _≤_, _<_}
 use native.Mathlib.Nat.{le-refl, mul-add, mul-le-mul-left, mul-le-mul-right, not-le-of-lt}
 use native.Mathlib.Omega.{arith}
-use Rattle.lists.specs.Each.{Each}
-use Rattle.lists.specs.Sums.{sumTo, sumOf, only}
+use Rattle.lists.specs.Tables.{Each, sumTo, sumOf, only}
 use Rattle.lists.proofs.Sums.{sumTo-le, sumTo-eq, sumTo-add, sumTo-times, sumTo-none, sumTo-only, sumTo-product-bound}
 use Rattle.pairing.specs.Pairing.{Terms, used, inParts, savingRate, AllowedPair, IsPairing, pairUnits, restUnits, sumAt, saving, Covers, pricedTotal, Fair, Least}
 use Rattle.pairing.specs.declared.Line.{Line}

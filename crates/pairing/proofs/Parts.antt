@@ -6,8 +6,7 @@ use Prim.Native.Nat.{ℕ, _*_}
 use native.Mathlib.Nat.{mul-le-mul-left}
 use native.Mathlib.Omega.{arith}
 use lib.Dec.{eqb}
-use Rattle.lists.specs.Each.{Each}
-use Rattle.lists.specs.Sums.{sumOf, only}
+use Rattle.lists.specs.Tables.{Each, sumOf, only}
 use Rattle.pairing.specs.Pairing.{Terms, used, inParts, savingRate, AllowedPair, IsPairing, saving}
 use Rattle.pairing.specs.declared.Line.{Line}
 

@@ -4,7 +4,7 @@ use mathlib.Core.List.{List, [], _∷_, _++_}
 use Prim.Native.Nat.{ℕ, _+_, _≤_}
 use native.Mathlib.Omega.{arith}
 use lib.ListN.{take, drop, take-append-drop}
-use Rattle.lists.specs.Sums.{sumOf}
+use Rattle.lists.specs.Tables.{sumOf}
 use Rattle.lists.proofs.Sums.{only-same, only-other, sumOf-append}
 use Rattle.pairing.specs.Pairing.{used}
 use Rattle.pairing.specs.declared.Line.{Line}

@@ -1,11 +1,8 @@
 -- Document 01, "A proposal and its check": pairings, their sums, and prices that cover. A book is its terms here, by the numbers of its
 -- holdings, and no definition knows what a holding is. Assumes nothing.
-use mathlib.Core.Path.{_≡_}
-use mathlib.Core.Bool.{Bool, true}
-use mathlib.Core.List.{List, [], _∷_}
+use mathlib.Core.{Path._≡_, Bool.Bool, Bool.true, List.List, List.[], List._∷_}
 use Prim.Native.Nat.{ℕ, _+_, _-_, _*_, _≤_, _<_}
-use Rattle.lists.specs.Each.{Each}
-use Rattle.lists.specs.Sums.{sumTo, sumOf, only}
+use Rattle.lists.specs.{Tables.Each, Tables.sumTo, Tables.sumOf, Tables.only}
 use Rattle.pairing.specs.declared.Line.{Line}
 
 -- a book: how many holdings, each one's value and rate, which pairs are allowed, and each pair's rate

@@ -24,8 +24,7 @@ use Rattle.article.specs.Pair.{legOf}
 use Rattle.article.specs.declared.pair.Leg.{Leg}
 use Rattle.words.specs.Words.{wordAt, entries, decode}
 use Rattle.columns.specs.Columns.{countIn, numbersAt, rowsIn}
-use Rattle.proposal.specs.Submission.{Submission, bookOf, priced, holdingAt, noRow}
-use Rattle.proposal.specs.Figures.{priceLimit}
+use Rattle.proposal.specs.Submission.{Submission, bookOf, priced, holdingAt, noRow, priceLimit}
 use Rattle.proposal.specs.Outcome.{makeFault, faultAnswer, holdingFaults, atHolding, bookFaults}
 use Rattle.proposal.specs.Demands.{Limits}
 use Rattle.proposal.specs.declared.Fault.{Fault}

@@ -1,17 +1,13 @@
 -- What opening a book promises. Assumes nothing.
-use mathlib.Core.Path.{_≡_}
-use mathlib.Core.List.{List, map}
+use mathlib.Core.{Path._≡_, List.List, List.map}
 use Prim.Native.Nat.{ℕ, _*_, _≤_}
 use lib.ListN.{length}
-use Rattle.lists.specs.Each.{Each}
-use Rattle.lists.specs.Tables.{front}
+use Rattle.lists.specs.{Tables.Each, Tables.front}
 use Rattle.holding.specs.Holding.{valueLimit}
 use Rattle.holding.specs.declared.Row.{Row}
 use Rattle.words.specs.Words.{decode}
 use Rattle.columns.specs.Columns.{countIn, rowsIn}
-use Rattle.proposal.specs.Submission.{bookOf}
-use Rattle.proposal.specs.Figures.{priceLimit}
-use Rattle.proposal.specs.Outcome.{faultAnswer, bookFaults, firstFault}
+use Rattle.proposal.specs.{Submission.bookOf, Submission.priceLimit, Outcome.faultAnswer, Outcome.bookFaults, Outcome.firstFault}
 use Rattle.proposal.specs.declared.Fault.{Fault}
 use Rattle.packed.specs.Packed.{Legs, LegsOf, AtMost}
 

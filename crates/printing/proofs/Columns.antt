@@ -6,8 +6,7 @@ use Prim.Native.Nat.{ℕ, _*_, _/_, _≤_, _<_}
 use native.Mathlib.Omega.{arith}
 use lib.ListN.{length}
 use lib.Seq.{drop-nil}
-use Rattle.lists.specs.Each.{Each}
-use Rattle.lists.specs.Tables.{front}
+use Rattle.lists.specs.Tables.{Each, front}
 use Rattle.lists.proofs.Entries.{each-map}
 use Rattle.holding.specs.Holding.{numbersOf, rowBy}
 use Rattle.proposal.specs.Submission.{Submission, lineBy}
@@ -20,8 +19,7 @@ use Rattle.sizes.specs.Sizes.{entriesOf, Equal, differ}
 use Rattle.sizes.proofs.Sizes.{differ-exactly}
 use Rattle.verdict.specs.Judges.{columnsDiffer, Scratch, Judges}
 use Rattle.verdict.specs.declared.Verdict.{Verdict}
-use Rattle.report.specs.Report.{reportOf}
-use Rattle.report.specs.Written.{reportRoom, Prints}
+use Rattle.report.specs.Report.{reportOf, reportRoom, Prints}
 use Rattle.report.specs.declared.Printed.{Printed}
 use Rattle.report.proofs.Judged.{report-judged}
 use Rattle.printing.specs.Printed.{PrintsColumns, columnsOf, TablesHold}

@@ -7,12 +7,11 @@ use Prim.Native.Nat.{ℕ, _*_, _≤_, _<_}
 use native.Mathlib.Omega.{arith}
 use lib.ListN.{length, getD, take}
 use borrow.Author.Tests.{eq-eqb, ne-eqb}
-use Rattle.lists.specs.Texts.{ascii}
+use Rattle.lists.specs.Tables.{ascii}
 use Rattle.lists.proofs.Tables.{getD-to}
 use Rattle.lists.proofs.Tests.{same-or-not}
 use Rattle.article.specs.Answer.{Answer, makeAnswer}
-use Rattle.proposal.specs.Submission.{Submission, priced}
-use Rattle.proposal.specs.Figures.{remainder, remaindersOf}
+use Rattle.proposal.specs.Submission.{Submission, priced, remainder, remaindersOf}
 use Rattle.proposal.specs.Outcome.{outcome}
 use Rattle.proposal.specs.Demands.{Acceptable}
 use Rattle.proposal.proofs.Clear.{number}
@@ -27,8 +26,7 @@ use Rattle.readable.proofs.Fitting.{file-fits}
 use Rattle.readable.proofs.Answered.{contents-refused, was-read, no-fault, holdings-held, lines-held, few-holdings, few-lines}
 use Rattle.verdict.specs.Judges.{outcomeIn}
 use Rattle.verdict.proofs.Judged.{all-ranked}
-use Rattle.report.specs.Report.{lineOf, refusalLine, marginLine, remainderLine, printedLines, bookLine, printedOf}
-use Rattle.report.specs.Written.{reportRoom, Prints}
+use Rattle.report.specs.Report.{lineOf, refusalLine, marginLine, remainderLine, printedLines, bookLine, printedOf, reportRoom, Prints}
 use Rattle.report.specs.declared.Printed.{Printed}
 use Rattle.report.proofs.Judged.{ranked-texts}
 use Rattle.report.proofs.Prints.{prints-written, prints-too-short}

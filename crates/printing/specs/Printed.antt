@@ -1,25 +1,17 @@
 -- THE PAGE OF THE PROGRAM. Document 01, "The program `margin` reads a file on standard input": what it prints, from the bytes of the
 -- file to the bytes that are printed. Assumes nothing.
-use mathlib.Core.Path.{_≡_}
-use mathlib.Core.Logic.{_↔_}
-use mathlib.Core.Bool.{cond, false}
-use mathlib.Core.List.{List, [], _∷_, _++_, flatMap}
+use mathlib.Core.{Path._≡_, Logic._↔_, Bool.cond, Bool.false, List.List, List.[], List._∷_, List._++_, List.flatMap}
 use Prim.Native.Nat.{ℕ, _*_, _≤_, _<_}
-use lib.Dec.{eqb}
-use lib.ListN.{length, getD, take}
-use Rattle.lists.specs.Tables.{listTo, front}
-use Rattle.lists.specs.Texts.{ascii}
+use lib.{Dec.eqb, ListN.length, ListN.getD, ListN.take}
+use Rattle.lists.specs.{Tables.listTo, Tables.front, Tables.ascii}
 use Rattle.article.specs.Answer.{Answer, makeAnswer}
-use Rattle.proposal.specs.Submission.{Submission, priced}
-use Rattle.proposal.specs.Figures.{margin, remaindersOf, ranked, InRankingOrder}
-use Rattle.proposal.specs.Outcome.{outcome}
-use Rattle.proposal.specs.Demands.{Acceptable, Demands}
+use Rattle.proposal.specs.{Submission.Submission, Submission.priced, Submission.margin, Submission.remaindersOf, Submission.ranked, Submission.InRankingOrder, Outcome.outcome, Demands.Acceptable}
+use Rattle.proposal.specs.{Demands.Demands}
 use Rattle.reader.specs.File.{submissionIn, fileFault}
 use Rattle.readable.specs.Readable.{Submits}
 use Rattle.columns.specs.Columns.{Columns, makeColumns, submission, columnIn}
 use Rattle.verdict.specs.Judges.{outcomeIn}
-use Rattle.report.specs.Report.{lineOf, printedOf}
-use Rattle.report.specs.Written.{reportRoom, Prints, printedAnswer}
+use Rattle.report.specs.Report.{lineOf, printedOf, reportRoom, Prints, printedAnswer}
 use Rattle.report.specs.declared.Printed.{Printed}
 
 -- what is printed of columns: the lines of what they submit, by its outcome, where nothing else is lent; they are no longer than a report can be

@@ -5,8 +5,7 @@ use Rattle.holding.specs.Holding.{valueLimit}
 use Rattle.article.specs.Pair.{rateLimit}
 use Rattle.pairing.specs.Pairing.{pricedTotal}
 use Rattle.pairing.proofs.Least.{units-high, priced-high}
-use Rattle.proposal.specs.Submission.{Submission, bookOf, termsOf, priced}
-use Rattle.proposal.specs.Figures.{priceLimit, marginLimit, savedLimit, unitsOf}
+use Rattle.proposal.specs.Submission.{Submission, bookOf, termsOf, priced, priceLimit, marginLimit, savedLimit, unitsOf}
 use Rattle.proposal.specs.Demands.{Limits, Acceptable}
 use Rattle.proposal.proofs.PricedBooks.{fair, rate-at, value-at, in-book}
 use Rattle.proposal.proofs.Figures.{units-sum}

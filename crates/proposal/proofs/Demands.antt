@@ -16,8 +16,7 @@ use Rattle.article.specs.Pair.{legOf, allowed}
 use Rattle.article.specs.declared.pair.Leg.{Leg}
 use Rattle.pairing.specs.Pairing.{AllowedPair, IsPairing, Covers, Least}
 use Rattle.pairing.proofs.Least.{least}
-use Rattle.proposal.specs.Submission.{Submission, PricedBook, bookOf, termsOf, priced, noLine, holdingAt}
-use Rattle.proposal.specs.Figures.{remainder, margin, unitsOf, remaindersOf}
+use Rattle.proposal.specs.Submission.{Submission, PricedBook, bookOf, termsOf, priced, noLine, holdingAt, remainder, margin, unitsOf, remaindersOf}
 use Rattle.proposal.specs.Outcome.{uncovered, totalsDiffer, faults, accepted, outcome}
 use Rattle.proposal.specs.Demands.{Limits, Acceptable, PairTerms, RemainderOf, Demands}
 use Rattle.proposal.proofs.PricedBooks.{leg-at, value-at, book-in, holding-in-range, fair}

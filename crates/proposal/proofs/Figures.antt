@@ -6,8 +6,7 @@ use native.Mathlib.Omega.{arith}
 use Rattle.lists.proofs.Sums.{sumTo-eq}
 use Rattle.pairing.specs.Pairing.{used, restUnits, sumAt}
 use Rattle.pairing.specs.declared.Line.{Line}
-use Rattle.proposal.specs.Submission.{PricedBook, termsOf}
-use Rattle.proposal.specs.Figures.{remainder, margin, unitsOf, centsOf, RoundedUp}
+use Rattle.proposal.specs.Submission.{PricedBook, termsOf, remainder, margin, unitsOf, centsOf, RoundedUp}
 
 pub units-sum : (b : PricedBook) (lines : List Line) → sumAt (termsOf b) 1 lines ≡ unitsOf b lines
 unfolding sumAt restUnits unitsOf margin remainder termsOf

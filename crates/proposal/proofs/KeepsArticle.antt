@@ -10,7 +10,7 @@ use lib.Dec.{ltb}
 use lib.ListN.{length, getD, take}
 use lib.Seq.{take-suc, take-length}
 use borrow.Author.Tests.{ltb-true, ltb-false, lt-ltb, le-ltb, eqb-false, eq-eqb, ne-eqb, not-false}
-use Rattle.lists.specs.Sums.{sumOf}
+use Rattle.lists.specs.Tables.{sumOf}
 use Rattle.lists.proofs.Tests.{neither, same-or-not}
 use Rattle.lists.proofs.Firsts.{None}
 use Rattle.article.specs.Pair.{isLong, isShort, allowed}
@@ -20,8 +20,7 @@ use Rattle.article.proofs.Legs.{allowed-meets}
 use Rattle.pairing.specs.Pairing.{used}
 use Rattle.pairing.specs.declared.Line.{Line}
 use Rattle.pairing.proofs.Used.{used-append, used-take-le, used-one-long, used-one-short, used-one-other}
-use Rattle.proposal.specs.Submission.{Submission, PricedBook, priced, noLine, holdingAt}
-use Rattle.proposal.specs.Figures.{remainder}
+use Rattle.proposal.specs.Submission.{Submission, PricedBook, priced, noLine, holdingAt, remainder}
 use Rattle.proposal.specs.Outcome.{pairFaults, lineFaults}
 use Rattle.proposal.specs.Demands.{Limits, KeepsLine, KeepsArticle}
 use Rattle.proposal.proofs.PricedBooks.{leg-at, value-at, holding-in-range, in-book, book-in}

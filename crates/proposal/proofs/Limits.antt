@@ -10,8 +10,7 @@ use Rattle.lists.proofs.Firsts.{None, none-append, append-none, first-append, f
 use Rattle.holding.specs.Holding.{Ranges, rowFaults, faultOf}
 use Rattle.holding.specs.declared.Row.{Row}
 use Rattle.holding.proofs.Ranges.{none-of-row, fault-none, none-fault}
-use Rattle.proposal.specs.Submission.{Submission}
-use Rattle.proposal.specs.Figures.{priceLimit}
+use Rattle.proposal.specs.Submission.{Submission, priceLimit}
 use Rattle.proposal.specs.Outcome.{holdingFaults}
 use Rattle.proposal.specs.Demands.{Limits}
 use Rattle.proposal.proofs.Clear.{Clear}

@@ -1,20 +1,15 @@
 -- THE PAGE TO READ FIRST: what document 01 demands of the check's answer, in its own words, over the definitions beside it.
 -- `demands` of proofs/Demands.antt proves it of the outcome. Assumes nothing.
-use mathlib.Core.Path.{_≡_}
-use mathlib.Core.Bool.{Bool, true, false}
-use mathlib.Core.Logic.{_↔_}
+use mathlib.Core.{Path._≡_, Bool.Bool, Bool.true, Bool.false, Logic._↔_}
 use Prim.Native.Nat.{ℕ, _-_, _*_, _≤_, _<_}
 use lib.ListN.{length, getD}
-use Rattle.lists.specs.Each.{Each}
+use Rattle.lists.specs.Tables.{Each}
 use Rattle.holding.specs.Holding.{Ranges, rowOf}
-use Rattle.article.specs.Answer.{Answer}
-use Rattle.article.specs.Rate.{rateOf}
-use Rattle.article.specs.Pair.{legOf, pairRateOf}
-use Rattle.article.specs.Article.{MayPair, Pairing}
+use Rattle.article.specs.{Answer.Answer, Rate.rateOf, Pair.legOf, Pair.pairRateOf, Article.MayPair, Article.Pairing}
 use Rattle.pairing.specs.Pairing.{used, saving, Covers, pricedTotal, Least}
 use Rattle.pairing.specs.declared.Line.{Line}
-use Rattle.proposal.specs.Submission.{Submission, termsOf, priced, noRow, holdingAt}
-use Rattle.proposal.specs.Figures.{margin, remaindersOf, RoundedUp}
+use Rattle.proposal.specs.{Submission.Submission, Submission.termsOf, Submission.priced, Submission.noRow, Submission.holdingAt, Submission.margin, Submission.remaindersOf}
+use Rattle.proposal.specs.{Submission.RoundedUp}
 
 module _ (s : Submission) where
   -- the limits: none of 3 to 10 holds

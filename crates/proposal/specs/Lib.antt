@@ -1,4 +1,3 @@
 pub mod Submission
-pub mod Figures
 pub mod Outcome
 pub mod Demands

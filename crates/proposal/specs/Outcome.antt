@@ -1,22 +1,18 @@
 -- Document 01, "Who can be refused, and for what": the outcome is the first that holds of one list of refusals in the check's order, or,
 -- where none holds, the figures. Assumes nothing.
-use mathlib.Core.Bool.{Bool, not, _&&_, _||_}
-use mathlib.Core.List.{List, [], _∷_, _++_, map}
+use mathlib.Core.{Bool.Bool, Bool.not, Bool._&&_, Bool._||_, List.List, List.[], List._∷_, List._++_, List.map}
 use Prim.Native.Nat.{ℕ, _+_}
-use lib.Dec.{ltb, eqb}
-use lib.ListN.{length, getD, take}
-use Rattle.lists.specs.Choice.{firstOf}
-use Rattle.lists.specs.Tables.{inTurn}
+use lib.{Dec.ltb, Dec.eqb, ListN.length, ListN.getD, ListN.take}
+use Rattle.lists.specs.{Choice.firstOf, Tables.inTurn}
 use Rattle.holding.specs.Holding.{rowFaults}
 use Rattle.holding.specs.declared.Row.{Row}
-use Rattle.article.specs.Answer.{Answer, makeAnswer}
-use Rattle.article.specs.Pair.{isLong, isShort, allowed}
+use Rattle.article.specs.{Answer.Answer, Answer.makeAnswer, Pair.isLong, Pair.isShort, Pair.allowed}
 use Rattle.article.specs.declared.pair.Leg.{Leg}
 use Rattle.pairing.specs.Pairing.{savingRate, saving, pricedTotal}
 use Rattle.pairing.specs.declared.Line.{Line}
-use Rattle.proposal.specs.Submission.{Submission, PricedBook, termsOf, priced, noRow, noLine}
+use Rattle.proposal.specs.{Submission.Submission, Submission.PricedBook, Submission.termsOf, Submission.priced, Submission.noRow, Submission.noLine, Submission.priceLimit}
+use Rattle.proposal.specs.{Submission.remainder, Submission.unitsOf, Submission.centsOf}
 use Rattle.proposal.specs.declared.Fault.{Fault}
-use Rattle.proposal.specs.Figures.{priceLimit, remainder, unitsOf, centsOf}
 
 abbrev pub makeFault : ℕ → ℕ → ℕ → Fault
 makeFault number place second = record { number = number; place = place; second = second }

@@ -2,9 +2,9 @@
 use mathlib.Core.List.{List}
 use Prim.Native.Nat.{ℕ, _^_, _<_}
 use native.Mathlib.Omega.{arith}
-use Rattle.lists.specs.Each.{Each}
+use Rattle.lists.specs.Tables.{Each}
 use Rattle.numerals.proofs.Exactly.{numeral-exactly, numeral-below}
-use Rattle.layout.specs.Sorts.{IsValue, AreValues, no-values, value-and}
+use Rattle.layout.specs.Layout.{IsValue, AreValues, no-values, value-and}
 use Rattle.layout.specs.declared.Sort.{Sort}
 use Rattle.layout.specs.declared.Sort.the-variants.{Side, Kind, Issuer, Six, Twelve, Empty}
 

@@ -4,7 +4,7 @@ use mathlib.Core.List.{List, [], _∷_}
 use Prim.Native.Nat.{ℕ, suc, _^_, _≤_, _<_}
 use native.Mathlib.Omega.{arith}
 use lib.ListN.{length}
-use Rattle.lists.specs.Each.{Each}
+use Rattle.lists.specs.Tables.{Each}
 use Rattle.lists.proofs.Entries.{each-so, each-parts}
 use Rattle.holding.specs.Holding.{numbersOf}
 use Rattle.holding.specs.declared.Row.{Row}

@@ -16,8 +16,7 @@ use Rattle.codes.specs.Codes.{placeOf, Named}
 use Rattle.codes.specs.declared.Place.{Place}
 use Rattle.codes.specs.declared.Place.the-variants.{At, Nowhere}
 use Rattle.codes.proofs.Places.{distinct-exactly}
-use Rattle.layout.specs.Sorts.{AreValues, no-values, value-and}
-use Rattle.layout.specs.Layout.{padded, letters, sortsBy, IsRecord, Values, values, wrong, valuesOf, Meaning, good, refused, meant, afterLetter, parsedOf, parse}
+use Rattle.layout.specs.Layout.{AreValues, no-values, value-and, padded, letters, sortsBy, IsRecord, Values, values, wrong, valuesOf, Meaning, good, refused, meant, afterLetter, parsedOf, parse}
 use Rattle.layout.specs.declared.Sort.{Sort}
 use Rattle.layout.specs.declared.Sort.the-variants.{Empty}
 use Rattle.layout.proofs.Letters.{listed, length-sorts, good-length}

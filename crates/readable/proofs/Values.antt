@@ -15,8 +15,7 @@ use Rattle.numerals.specs.Numerals.{numeralOf}
 use Rattle.numerals.specs.declared.Numeral.{Numeral}
 use Rattle.numerals.specs.declared.Numeral.the-variants.{Number, NotANumeral}
 use Rattle.numerals.proofs.Exactly.{numeral-exactly}
-use Rattle.layout.specs.Sorts.{IsValue, AreValues, no-values, value-and, sides, kinds, issuers, byPlace, byNumeral, valueOf}
-use Rattle.layout.specs.Layout.{Values, values, wrong, andValue, valuesOf}
+use Rattle.layout.specs.Layout.{IsValue, AreValues, no-values, value-and, sides, kinds, issuers, byPlace, byNumeral, valueOf, Values, values, wrong, andValue, valuesOf}
 use Rattle.layout.specs.declared.Sort.{Sort}
 use Rattle.layout.specs.declared.Sort.the-variants.{Side, Kind, Issuer, Six, Twelve, Empty}
 use Rattle.layout.specs.declared.Value.{Value}

@@ -1,7 +1,5 @@
 -- Document 01, "The file": a file that is read, in the words of the paper and of RFC 4180's grammar. Assumes nothing.
-use mathlib.Core.Path.{_≡_}
-use mathlib.Core.Logic.{_↔_}
-use mathlib.Core.List.{List, [], _∷_, _++_}
+use mathlib.Core.{Path._≡_, Logic._↔_, List.List, List.[], List._∷_, List._++_}
 use Prim.Native.Nat.{ℕ, _≤_}
 use lib.ListN.{length}
 use Rattle.holding.specs.Holding.{numbersOf}

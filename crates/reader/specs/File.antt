@@ -1,23 +1,17 @@
 -- Document 01, "Reader order: 18; each record in turn 19 to 22, then 3 or 9 if it is one too many; after all records 2": what a file submits,
 -- and its refusals as one list in that order. Assumes nothing.
-use mathlib.Core.Path.{_≡_}
-use mathlib.Core.Bool.{Bool, true, false, cond, not}
-use mathlib.Core.List.{List, [], _∷_, _++_, map}
+use mathlib.Core.{Path._≡_, Bool.Bool, Bool.true, Bool.false, Bool.cond, Bool.not, List.List, List.[], List._∷_, List._++_, List.map}
 use Prim.Native.Nat.{ℕ, zero, suc, _-_, _*_, _≤_, _<_}
-use lib.Dec.{ltb, eqb}
-use lib.ListN.{length, getD, take}
-use Rattle.lists.specs.Choice.{firstOf}
-use Rattle.lists.specs.Tables.{inTurn}
+use lib.{Dec.ltb, Dec.eqb, ListN.length, ListN.getD, ListN.take}
+use Rattle.lists.specs.{Choice.firstOf, Tables.inTurn}
 use Rattle.holding.specs.Holding.{rowBy}
 use Rattle.article.specs.Answer.{Answer, makeAnswer}
 use Rattle.proposal.specs.Submission.{Submission, lineBy}
-use Rattle.codes.specs.declared.Place.{Place}
-use Rattle.codes.specs.declared.Place.the-variants.{At, Nowhere}
+use Rattle.codes.specs.declared.{Place.Place, Place.the-variants.At, Place.the-variants.Nowhere}
 use Rattle.csv.specs.Reading.{fieldCount, recordsOf}
 use Rattle.layout.specs.Layout.{Meaning, good, refused, parse, mayFollow}
 use Rattle.columns.specs.Columns.{Entered}
-use Rattle.reader.specs.declared.Contents.{Contents}
-use Rattle.reader.specs.declared.Contents.the-variants.{Read, Refused}
+use Rattle.reader.specs.declared.{Contents.Contents, Contents.the-variants.Read, Contents.the-variants.Refused}
 
 -- the records of a text, parsed, up to the first that is outside the grammar
 unfoldable pub parsedIn : List ℕ → List Meaning

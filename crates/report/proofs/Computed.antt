@@ -1,8 +1,7 @@
 -- Lines that are computed from the definitions. Assumes nothing.
 use mathlib.Core.Path.{_≡_, refl}
 use mathlib.Core.List.{[], _∷_, flatMap}
-use Rattle.lists.specs.Tables.{listTo}
-use Rattle.lists.specs.Texts.{ascii}
+use Rattle.lists.specs.Tables.{listTo, ascii}
 use Rattle.article.specs.Answer.{makeAnswer}
 use Rattle.numerals.specs.Numerals.{lead, digits}
 use Rattle.verdict.specs.declared.Verdict.the-variants.{Accepted}

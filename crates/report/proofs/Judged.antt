@@ -6,17 +6,15 @@ use Prim.Native.Nat.{ℕ, _≤_, _<_}
 use lib.Dec.{eqb}
 use lib.ListN.{length, getD, take}
 use borrow.Author.Tests.{eqb-true}
-use Rattle.lists.specs.Each.{Each}
+use Rattle.lists.specs.Tables.{Each, listTo, front}
 use Rattle.lists.specs.Order.{ordered}
-use Rattle.lists.specs.Tables.{listTo, front}
 use Rattle.lists.proofs.Entries.{each-so}
 use Rattle.lists.proofs.Order.{ordered-below}
 use Rattle.lists.proofs.Tables.{length-to, getD-to, to-eq, to-back, take-to, front-at}
 use Rattle.article.specs.Answer.{Answer}
 use Rattle.columns.specs.Columns.{Columns, submission}
 use Rattle.ranking.specs.Ranking.{ranksBefore, rankingOf}
-use Rattle.proposal.specs.Submission.{Submission, bookOf, priced}
-use Rattle.proposal.specs.Figures.{remainder, margin, remaindersOf, marginsOf, ranked}
+use Rattle.proposal.specs.Submission.{Submission, bookOf, priced, remainder, margin, remaindersOf, marginsOf, ranked}
 use Rattle.verdict.specs.Judges.{answerOf, outcomeIn, Scratch, Worked, Judges}
 use Rattle.verdict.specs.declared.Verdict.{Verdict}
 use Rattle.verdict.proofs.Judged.{ranked-length}

@@ -6,15 +6,13 @@ use native.Mathlib.Omega.{arith}
 use lib.ListN.{length, getD, take}
 use lib.Seq.{take-all}
 use borrow.Author.Tests.{eq-eqb, ne-eqb}
-use Rattle.lists.specs.Tables.{listTo}
-use Rattle.lists.specs.Texts.{ascii}
+use Rattle.lists.specs.Tables.{listTo, ascii}
 use Rattle.lists.proofs.Tables.{length-to, getD-to}
 use Rattle.numerals.specs.Numerals.{Put}
 use Rattle.numerals.proofs.Digits.{digits-word}
 use Rattle.verdict.specs.Judges.{answerOf}
 use Rattle.verdict.specs.declared.Verdict.{Verdict}
-use Rattle.report.specs.Written.{Written}
-use Rattle.report.specs.Report.{afterComma, lineOf, answerNumbers, refusalLine, marginLine, remainderLine, printedLines, judgedLine, reportOf}
+use Rattle.report.specs.Report.{Written, afterComma, lineOf, answerNumbers, refusalLine, marginLine, remainderLine, printedLines, judgedLine, reportOf}
 use Rattle.report.proofs.Written.{written-then}
 
 -- a comma and a numeral: at most 21 bytes

@@ -10,7 +10,7 @@ use Rattle.lists.specs.Tables.{front}
 use Rattle.lists.proofs.Overwrite.{overwrite-front}
 use Rattle.lists.proofs.Tests.{either-way}
 use Rattle.article.specs.Answer.{makeAnswer}
-use Rattle.report.specs.Written.{Written, printedAnswer, Prints}
+use Rattle.report.specs.Report.{Written, printedAnswer, Prints}
 use Rattle.report.specs.declared.Printed.{Printed}
 use Rattle.report.specs.declared.Printed.the-variants.{Written as Put, Refused}
 use Rattle.report.proofs.Written.{written-part, written-counted, written-few}

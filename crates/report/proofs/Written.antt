@@ -8,7 +8,7 @@ use lib.ListN.{length, getD, take, drop, set, length-append}
 use lib.Seq.{take-suc, take-at}
 use Rattle.lists.specs.Tables.{front}
 use Rattle.lists.proofs.Overwrite.{overwrite-front, overwrite-none, overwrite-one, overwrite-overwrite}
-use Rattle.report.specs.Written.{Written}
+use Rattle.report.specs.Report.{Written}
 
 flat-append : (f : ℕ → List ℕ) (xs : List ℕ) (x : ℕ) → flatMap f (xs ++ (x ∷ [])) ≡ flatMap f xs ++ f x
 unfolding flatMap

@@ -1,18 +1,35 @@
 -- Document 01, "The file": the lines that are printed, as bytes. Assumes nothing.
-use mathlib.Core.Bool.{cond}
-use mathlib.Core.List.{List, [], _∷_, _++_, flatMap}
-use Prim.Native.Nat.{ℕ}
-use lib.Dec.{eqb}
-use lib.ListN.{getD, take}
-use Rattle.lists.specs.Tables.{listTo}
-use Rattle.lists.specs.Texts.{ascii}
+use mathlib.Core.{Path._≡_, Bool.cond, List.List, List.[], List._∷_, List._++_, List.flatMap}
+use Prim.Native.Nat.{ℕ, _+_, _*_}
+use lib.{Dec.ltb, Dec.eqb, ListN.length, ListN.getD, ListN.take}
+use Rattle.lists.specs.{Tables.front, Tables.overwrite, Tables.listTo, Tables.ascii}
+use Rattle.article.specs.Answer.{Answer, makeAnswer}
+use Rattle.report.specs.declared.{Printed.Printed, Printed.the-variants.Written as Put, Printed.the-variants.Refused}
 use Rattle.numerals.specs.Numerals.{digits}
-use Rattle.article.specs.Answer.{Answer}
 use Rattle.pairing.specs.declared.Line.{Line}
-use Rattle.proposal.specs.Submission.{Submission, PricedBook, priced}
-use Rattle.proposal.specs.Figures.{remainder, margin, ranked}
+use Rattle.proposal.specs.{Submission.Submission, Submission.PricedBook, Submission.priced, Submission.remainder, Submission.margin, Submission.ranked}
 use Rattle.verdict.specs.Judges.{answerOf}
 use Rattle.verdict.specs.declared.Verdict.{Verdict}
+
+-- a text stands from a place on, and the next place is after it
+pub record Written (text : List ℕ) (at next : ℕ) (old now : List ℕ) : Type 0 where
+  pub ends : next ≡ at + length text
+  pub bytes : now ≡ overwrite at text old
+
+-- 257 lines of at most 66 bytes
+abbrev pub reportRoom : ℕ
+reportRoom = 257 * 66
+
+-- the paper's number and values of each case: 0 with how many bytes were written, or the refusal's number
+abbrev pub printedAnswer : Printed → Answer
+printedAnswer (Put bytes) = makeAnswer 0 bytes 0
+printedAnswer (Refused number) = makeAnswer number 0 0
+
+-- a text printed into a list: 2 where the list is shorter than the text, and it is left alone; else the text is at its front, all other bytes
+-- are kept, and its own are counted
+pub record Prints (text old now : List ℕ) (r : Printed) : Type 0 where
+  pub case : r ≡ cond (ltb (length old) (length text)) (Refused 2) (Put (length text))
+  pub bytes : now ≡ cond (ltb (length old) (length text)) old (front text old)
 
 -- a number after a comma
 unfoldable pub afterComma : ℕ → List ℕ

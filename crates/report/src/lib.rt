@@ -7,8 +7,7 @@ ghost use lib.ListN.{length, getD, take};
 ghost use Rattle.lists.specs.Tables.{listTo};
 ghost use Rattle.article.specs.Answer.{makeAnswer};
 ghost use Rattle.verdict.specs.Judges.{answerOf};
-ghost use Rattle.report.specs.Written.{Written, reportRoom, Prints};
-ghost use Rattle.report.specs.Report.{afterComma, lineOf, answerNumbers, refusalLine, judgedLine, reportOf};
+ghost use Rattle.report.specs.Report.{Written, reportRoom, Prints, afterComma, lineOf, answerNumbers, refusalLine, judgedLine, reportOf};
 
 // Room for 257 lines of at most 66 bytes.
 pub const ROOM: usize = 257 * 66;

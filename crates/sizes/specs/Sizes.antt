@@ -1,12 +1,8 @@
 -- Document 01, "The lengths: neither 1 nor 2 below holds of what is lent": the byte lengths of what is lent. Assumes nothing.
-use mathlib.Core.Path.{_≡_}
-use mathlib.Core.Bool.{Bool, not, _||_}
-use mathlib.Core.List.{List}
+use mathlib.Core.{Path._≡_, Bool.Bool, Bool.not, Bool._||_, List.List}
 use Prim.Native.Nat.{ℕ, _*_, _/_, _≤_}
-use lib.Dec.{ltb, eqb}
-use lib.ListN.{getD}
-use Rattle.lists.specs.Choice.{firstOf, some}
-use Rattle.lists.specs.Each.{Each}
+use lib.{Dec.ltb, Dec.eqb, ListN.getD}
+use Rattle.lists.specs.{Choice.firstOf, Choice.some, Tables.Each}
 use Rattle.proposal.specs.Outcome.{sizeFaults}
 
 -- as many entries as the first of several columns has whole eight bytes

@@ -15,7 +15,7 @@ use Rattle.article.specs.Pair.{allowed, pairRateOf, savingRateOf, rateLimit, sa
 use Rattle.article.specs.declared.pair.Leg.{Leg}
 use Rattle.article.proofs.Legs.{allowed-meets, allowed-high}
 use Rattle.article.proofs.PairRates.{saving-high}
-use Rattle.proposal.specs.Figures.{marginLimit, savedLimit}
+use Rattle.proposal.specs.Submission.{marginLimit, savedLimit}
 use Rattle.proposal.specs.Outcome.{pairFaults}
 use Rattle.proposal.proofs.Places.{pair-listed}
 use Rattle.tally.specs.Lines.{refusals, taken, appliedOf, Ready, Applies}

@@ -8,8 +8,7 @@ use native.Mathlib.Omega.{arith}
 use lib.ListN.{length, getD, set}
 use borrow.Author.Tests.{lt-ltb, ne-eqb}
 use Rattle.lists.specs.Choice.{firstOf}
-use Rattle.lists.specs.Sums.{sumOf}
-use Rattle.lists.specs.Tables.{listTo, front}
+use Rattle.lists.specs.Tables.{sumOf, listTo, front}
 use Rattle.lists.proofs.Tests.{tests}
 use Rattle.lists.proofs.Sums.{sumOf-more}
 use Rattle.lists.proofs.Tables.{length-to, getD-to, take-to, in-front}
@@ -21,8 +20,7 @@ use Rattle.article.specs.declared.pair.Leg.{Leg}
 use Rattle.pairing.specs.Pairing as pairing
 use Rattle.pairing.specs.declared.Line.{Line}
 use Rattle.pairing.proofs.Used.{used-append}
-use Rattle.proposal.specs.Submission.{PricedBook, termsOf, noLine}
-use Rattle.proposal.specs.Figures.{marginLimit, savedLimit, remainder, remaindersOf}
+use Rattle.proposal.specs.Submission.{PricedBook, termsOf, noLine, marginLimit, savedLimit, remainder, remaindersOf}
 use Rattle.proposal.specs.Outcome.{faultAnswer, atPlace, pairFaults, lineFaults, atLine, linesFaults}
 use Rattle.proposal.proofs.Places.{zero-at, first-at, line-listed}
 use Rattle.proposal.proofs.PricedBooks.{saving-rate}

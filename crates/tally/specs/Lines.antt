@@ -1,28 +1,19 @@
 -- Document 01, "Each pair line takes the tally of unpaired values in and hands it back", "each line in turn": what one line does to the tally of its two
 -- holdings, and what taking the lines of three columns off the first entries of a list promises. Assumes nothing.
-use mathlib.Core.Path.{_≡_}
-use mathlib.Core.Bool.{Bool, cond}
-use mathlib.Core.List.{List, map}
+use mathlib.Core.{Path._≡_, Bool.Bool, Bool.cond, List.List, List.map}
 use Prim.Native.Nat.{ℕ, _+_, _-_, _*_, _≤_}
-use Rattle.lists.specs.Choice.{firstOf}
+use Rattle.lists.specs.{Choice.firstOf, Tables.Each, Tables.front}
 use Rattle.holding.specs.Holding.{valueLimit}
 use Rattle.article.specs.Pair.{pairRateOf, savingRateOf, RateInRange}
 use Rattle.article.specs.declared.pair.Leg.{Leg}
-use Rattle.proposal.specs.Figures.{marginLimit, savedLimit, remaindersOf}
-use Rattle.proposal.specs.Outcome.{pairFaults, makeFault, faultAnswer, linesFaults, firstFault}
-use Rattle.tally.specs.declared.Tally.{Tally}
-use Rattle.tally.specs.declared.Applied.{Applied}
-use Rattle.tally.specs.declared.Applied.the-variants.{Taken, Refused}
-use lib.Dec.{eqb}
-use lib.ListN.{length, take}
-use Rattle.lists.specs.Each.{Each}
-use Rattle.lists.specs.Tables.{front}
+use Rattle.proposal.specs.{Submission.marginLimit, Submission.savedLimit, Submission.remaindersOf, Outcome.pairFaults, Outcome.makeFault, Outcome.faultAnswer, Outcome.linesFaults, Outcome.firstFault}
+use Rattle.proposal.specs.{Submission.PricedBook, Submission.termsOf}
+use Rattle.tally.specs.declared.{Tally.Tally, Applied.Applied, Applied.the-variants.Taken, Applied.the-variants.Refused, Walked.Walked}
+use lib.{Dec.eqb, ListN.length, ListN.take}
 use Rattle.pairing.specs.Pairing as pairing
 use Rattle.pairing.specs.declared.Line.{Line}
 use Rattle.columns.specs.Columns.{countIn}
-use Rattle.proposal.specs.Submission.{PricedBook, termsOf}
 use Rattle.packed.specs.Packed.{Legs, LegsOf, Same, AtMost, entry}
-use Rattle.tally.specs.declared.Walked.{Walked}
 
 -- refusals, each with its test, as answers on a line
 unfoldable pub refusals : List (Bool × ℕ) → List (Bool × Applied)

@@ -7,9 +7,7 @@ use native.Mathlib.Omega.{arith}
 use lib.ListN.{length, getD, length-map}
 use borrow.Author.Tests.{eq-eqb}
 use Rattle.lists.specs.Choice.{firstOf}
-use Rattle.lists.specs.Each.{Each}
-use Rattle.lists.specs.Tables.{listTo, front}
-use Rattle.lists.specs.Sums.{sumTo}
+use Rattle.lists.specs.Tables.{Each, listTo, front, sumTo}
 use Rattle.lists.proofs.Entries.{each-so, each-parts, each-back}
 use Rattle.lists.proofs.Sums.{sumTo-eq}
 use Rattle.lists.proofs.Tables.{length-to, getD-to, to-eq, front-at, front-long, front-again}
@@ -25,8 +23,7 @@ use Rattle.columns.proofs.Columns.{column-entries}
 use Rattle.sizes.specs.Sizes.{entriesOf, differ, lengthFault}
 use Rattle.sizes.proofs.Sizes as sizes
 use Rattle.packed.specs.Packed.{Legs, LegsOf, Same, entry}
-use Rattle.proposal.specs.Submission.{Submission, PricedBook, bookOf, termsOf, priced}
-use Rattle.proposal.specs.Figures.{remainder, margin, remaindersOf, marginsOf, unitsOf, ranked, RoundedUp}
+use Rattle.proposal.specs.Submission.{Submission, PricedBook, bookOf, termsOf, priced, remainder, margin, remaindersOf, marginsOf, unitsOf, ranked, RoundedUp}
 use Rattle.proposal.specs.Outcome.{makeFault, faultAnswer, bookFaults, linesFaults, uncoveredPairs, totalsFaults, fromPairs, fromLines, fromBook, firstFault, accepted, outcome}
 use Rattle.proposal.specs.declared.Fault.{Fault}
 use Rattle.proposal.proofs.PricedBooks.{value-at}

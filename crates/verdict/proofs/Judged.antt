@@ -9,8 +9,7 @@ use Rattle.ranking.proofs.Ranking.{ranking, ranking-length}
 use Rattle.article.specs.Answer.{Answer, makeAnswer}
 use Rattle.columns.specs.Columns.{Columns, submission, holdingSizes, lineSizes}
 use Rattle.sizes.specs.Sizes.{differ}
-use Rattle.proposal.specs.Submission.{Submission, priced}
-use Rattle.proposal.specs.Figures.{margin, unitsOf, ranked, InRankingOrder, centsOf, RoundedUp}
+use Rattle.proposal.specs.Submission.{Submission, priced, margin, unitsOf, ranked, InRankingOrder, centsOf, RoundedUp}
 use Rattle.proposal.specs.Outcome.{faultAnswer, accepted}
 use Rattle.proposal.specs.declared.Fault.{Fault}
 use Rattle.proposal.proofs.Demands.{demands}

@@ -1,21 +1,14 @@
 -- Document 01, "An answer is either accepted with its figures or refused with number and places": what the check promises of columns. Assumes nothing.
-use mathlib.Core.Path.{_≡_}
-use mathlib.Core.Bool.{Bool, cond}
-use mathlib.Core.List.{List, []}
+use mathlib.Core.{Path._≡_, Bool.Bool, Bool.cond, List.List, List.[]}
 use Prim.Native.Nat.{ℕ, _≤_}
-use lib.Dec.{eqb}
-use lib.ListN.{length}
+use lib.{Dec.eqb, ListN.length}
 use Rattle.lists.specs.Tables.{front}
 use Rattle.article.specs.Answer.{Answer, makeAnswer}
 use Rattle.columns.specs.Columns.{Columns, submission, holdingSizes, lineSizes}
 use Rattle.sizes.specs.Sizes.{differ}
-use Rattle.proposal.specs.Submission.{priced}
-use Rattle.proposal.specs.Figures.{remaindersOf, marginsOf, ranked, InRankingOrder}
-use Rattle.proposal.specs.Outcome.{outcome}
-use Rattle.proposal.specs.Demands.{Demands}
+use Rattle.proposal.specs.{Submission.priced, Submission.remaindersOf, Submission.marginsOf, Submission.ranked, Submission.InRankingOrder, Outcome.outcome, Demands.Demands}
 use Rattle.proposal.specs.declared.Fault.{Fault}
-use Rattle.verdict.specs.declared.Verdict.{Verdict}
-use Rattle.verdict.specs.declared.Verdict.the-variants.{Accepted, Refused}
+use Rattle.verdict.specs.declared.{Verdict.Verdict, Verdict.the-variants.Accepted, Verdict.the-variants.Refused}
 
 -- the paper's number and values of each answer: 0 with total units and cents, or the refusal's number with its two places
 abbrev pub answerOf : Verdict → Answer

@@ -5,8 +5,7 @@ use Prim.Native.Nat.{ℕ, zero, suc, _+_, _*_, _/_, _≤_, _<_, _^_}
 use native.Mathlib.Omega.{arith}
 use lib.ListN.{length, getD, take, drop}
 use lib.Seq.{ext-getD, drop-nil, take-at, drop-append-add, length-take-le, drop-at}
-use Rattle.lists.specs.Each.{Each}
-use Rattle.lists.specs.Tables.{listTo, front}
+use Rattle.lists.specs.Tables.{Each, listTo, front}
 use Rattle.lists.proofs.Entries.{each-at}
 use Rattle.lists.proofs.Tables.{length-to, getD-to}
 use Rattle.words.specs.Words.{number, littleEndian, wordAt, withWord, entries, decode, encode}

@@ -1,7 +1,7 @@
 -- `quotable` decides what may stand in quotes beside doubled quotes. Assumes nothing.
 use borrow.Author.Needs.{needs}
 use Rattle.lists.proofs.Tests.{tests}
-use Rattle.csv.specs.Bytes.{isQuotable}
+use Rattle.csv.specs.Grammar.{isQuotable}
 use Rattle.csv.proofs.quotable.Statement.{statement}
 use Rattle.csv.proofs.quotable.Tie as tie
 

@@ -6,12 +6,11 @@ use native.Mathlib.Nat.{mul-le-mul}
 use native.Mathlib.Omega.{arith}
 use lib.ListN.{length, set}
 use borrow.Author.Needs.{needs}
-use Rattle.lists.specs.Sums.{sumTo}
-use Rattle.lists.specs.Tables.{listTo, front}
+use Rattle.lists.specs.Tables.{sumTo, listTo, front}
 use Rattle.lists.proofs.Overwrite.{front-more}
 use Rattle.lists.proofs.Sums.{sumTo-more}
 use Rattle.article.specs.declared.pair.Leg.{Leg}
-use Rattle.proposal.specs.Figures.{marginLimit}
+use Rattle.proposal.specs.Submission.{marginLimit}
 use Rattle.packed.specs.Packed.{legAt, entry}
 use Rattle.figures.specs.Margins.{MarginsLent, leftMargin, Margins}
 use Rattle.figures.proofs.margins_of.Statement.{statement}

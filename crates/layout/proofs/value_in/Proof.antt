@@ -3,7 +3,7 @@ use mathlib.Core.Path.{ap, _∙_}
 use borrow.Author.Needs.{needs}
 use borrow.Author.Tests.{eq-eqb, ne-eqb}
 use Rattle.codes.specs.Codes.{cells}
-use Rattle.layout.specs.Sorts.{byPlace, byNumeral, valueOf}
+use Rattle.layout.specs.Layout.{byPlace, byNumeral, valueOf}
 use Rattle.layout.proofs.value_in.Statement.{statement}
 use Rattle.layout.proofs.value_in.Tie as tie
 

@@ -6,8 +6,7 @@ use native.Mathlib.Omega.{arith}
 use lib.ListN.{getD, drop}
 use borrow.Author.Needs.{needs}
 use Rattle.csv.specs.Reading.{fieldCount, textsIn}
-use Rattle.layout.specs.Sorts.{valueOf}
-use Rattle.layout.specs.Layout.{sortsBy}
+use Rattle.layout.specs.Layout.{valueOf, sortsBy}
 use Rattle.layout.specs.declared.Sort.the-variants.{Empty}
 use Rattle.layout.proofs.Found.{Finding, finding-none, finding-more, finding-wrong, finding-all, texts-after, value-after}
 use Rattle.layout.proofs.values_after.Statement.{statement}

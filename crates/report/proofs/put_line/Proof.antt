@@ -4,8 +4,7 @@ use mathlib.Core.List.{flatMap}
 use Prim.Native.Nat.{_+_, _-_, _*_, _≤_}
 use lib.ListN.{length, take}
 use borrow.Author.Needs.{needs}
-use Rattle.report.specs.Written.{Written}
-use Rattle.report.specs.Report.{afterComma}
+use Rattle.report.specs.Report.{Written, afterComma}
 use Rattle.report.proofs.Written.{written-none, written-more}
 use Rattle.report.proofs.Lines.{line-written}
 use Rattle.report.proofs.put_line.Statement.{statement}

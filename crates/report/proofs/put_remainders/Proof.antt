@@ -7,8 +7,7 @@ use lib.ListN.{length, getD, take}
 use borrow.Author.Needs.{needs}
 use Rattle.lists.specs.Tables.{listTo}
 use Rattle.lists.proofs.Tables.{length-to}
-use Rattle.report.specs.Written.{Written}
-use Rattle.report.specs.Report.{judgedLine}
+use Rattle.report.specs.Report.{Written, judgedLine}
 use Rattle.report.proofs.Written.{written-none, written-more}
 use Rattle.report.proofs.Lines.{remainder-written, whole}
 use Rattle.report.proofs.put_remainders.Statement.{statement}

@@ -6,7 +6,7 @@ use Prim.Native.Nat.{ℕ, _+_, _-_, _*_, _/_, _≤_, _<_}
 use native.Mathlib.Omega.{arith}
 use lib.ListN.{length, length-set}
 use borrow.Author.Needs.{needs}
-use Rattle.lists.specs.Each.{Each}
+use Rattle.lists.specs.Tables.{Each}
 use Rattle.lists.proofs.Entries.{each-so}
 use Rattle.pairing.specs.declared.Line.{Line}
 use Rattle.words.specs.Words.{entries}
