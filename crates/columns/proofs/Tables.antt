@@ -12,11 +12,11 @@ use Rattle.holding.specs.Holding.{numbersOf, rowBy}
 use Rattle.proposal.specs.Submission.{lineNumbers, lineBy}
 use Rattle.words.specs.Words.{encode}
 use Rattle.words.proofs.Encoded.{word-more}
-use Rattle.columns.specs.Columns.{Columns, makeColumns, column, filledFrom, filled, columnIn, ColumnThere, Entered, EntryPut, copied}
+use Rattle.columns.specs.Columns.{Columns, makeColumns, column, filledFrom, filled, columnIn, Entered, EntryPut, copied}
 use Rattle.columns.proofs.ReadBack.{nth, cut-numbers}
 
 -- the first entries of a column have eight bytes each
-pub column-long : (rows n j : ℕ) (table : List ℕ) → ColumnThere rows n j table → length (columnIn rows n table j) ≡ 8 * n
+pub column-long : (rows n j : ℕ) (table : List ℕ) → 8 * (rows * j + n) ≤ length table → length (columnIn rows n table j) ≡ 8 * n
 unfolding columnIn
 column-long rows n j table h = length-take-le (8 * n) (drop (8 * (rows * j)) table) (omega (arith, length-drop (8 * (rows * j)) table))
 

@@ -1,5 +1,4 @@
--- Document 01, "A book or proposal has as many holdings or lines as its columns have entries": columns of bytes, what they hold, and those columns
--- filled by the reader. Assumes nothing.
+-- Document 01, "A book or proposal has as many holdings or lines as its columns have entries": columns, held and filled. Assumes nothing.
 use mathlib.Core.{Path._≡_, List.List, List.[], List._∷_, List._++_, List.map}
 use Prim.Native.Nat.{ℕ, suc, _+_, _*_, _/_, _≤_, _<_}
 use lib.ListN.{length, getD, take, drop}
@@ -92,10 +91,6 @@ filled s old = record {
 -- a table: columns of so many rows that stand one after another in a list of bytes; the first n entries of column j
 unfoldable pub columnIn : ℕ → ℕ → List ℕ → ℕ → List ℕ
 columnIn rows n table j = take (8 * n) (drop (8 * (rows * j)) table)
-
--- they are there
-abbrev pub ColumnThere : ℕ → ℕ → ℕ → List ℕ → Type 0
-ColumnThere rows n j table = 8 * (rows * j + n) ≤ length table
 
 -- entries in a table, no more than it has rows: number j of each in column j, for as many columns as are counted, and all else as it was
 pub record Entered (count rows : ℕ) (numbers : List (List ℕ)) (old now : List ℕ) : Type 0 where

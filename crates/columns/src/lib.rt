@@ -1,7 +1,9 @@
 // Columns of bytes that stand one after another in a list, which is a table: written an entry at a time, and handed out.
 ghost use mathlib.Core.Path.{_≡_};
 ghost use mathlib.Core.List.{[], _∷_};
-ghost use Rattle.columns.specs.Columns.{columnIn, ColumnThere, EntryRoom, EntryPut, CopyRoom, copied};
+ghost use Prim.Native.Nat.{_+_, _*_, _≤_};
+ghost use lib.ListN.{length};
+ghost use Rattle.columns.specs.Columns.{columnIn, EntryRoom, EntryPut, CopyRoom, copied};
 
 // Writes entry k of a table, each of whose columns has `rows` entries: value j into column j, for as many columns as are counted.
 pub fn put_entry(values: &[u64], count: usize, rows: usize, k: usize, table: &mut [u8])
@@ -17,7 +19,7 @@ pub fn put_entry(values: &[u64], count: usize, rows: usize, k: usize, table: &mu
 
 // The first n entries of column j of a table.
 pub fn column(table: &[u8], rows: usize, n: usize, j: usize) -> &[u8]
-    requires { ⌜ ColumnThere rows n j (now table) ⌝ }
+    requires { ⌜ 8 * (rows * j + n) ≤ length (now table) ⌝ }
     ensures { λ r. ⌜ now r ≡ columnIn rows n (now (table .entry)) j ⌝ }
 {
     let start = 8 * (rows * j);

@@ -1,5 +1,4 @@
--- Document 01, "16 an allowed pair not covered, lowest long, then lowest short", over packed legs and a column of prices: what the search and the
--- priced total promise of every book that the lists hold. Assumes nothing.
+-- Document 01, "16 an allowed pair not covered, lowest long, then lowest short", over packed legs and a column of prices. Assumes nothing.
 use mathlib.Core.{Path._≡_, Bool.cond, List.List}
 use Prim.Native.Nat.{ℕ, _+_, _*_, _/_, _%_, _≤_, _<_}
 use lib.ListN.{length, getD}

@@ -1,5 +1,4 @@
--- RFC 4180's grammar over the bytes of a text, line by line beside its ABNF. A field has, beside its own text, the text that is handed back:
--- enclosing quotes dropped, doubled quotes left doubled. A record has the texts of its fields, a file its records. Assumes nothing.
+-- RFC 4180's grammar line by line beside its ABNF. A field also has the text that is handed back: enclosing quotes dropped. Assumes nothing.
 use mathlib.Core.{Bool.Bool, Bool._||_, Bool.true, Path._≡_, List.List, List.[], List._∷_, List._++_}
 use Prim.Native.Nat.{ℕ}
 use lib.Dec.{eqb}

@@ -1,12 +1,11 @@
--- Records read from a text by places, which is what the code promises. That they are those of `Grammar` is shown in the crate `grammar`.
--- Assumes nothing.
+-- Records read from a text by places, which the code promises; the crate `grammar` shows that they are those of `Grammar`. Assumes nothing.
 use mathlib.Core.{Path._≡_, Bool.Bool, Bool.true, Bool.false, Bool.cond, Bool._&&_, List.List, List.[], List._∷_, List.map}
 use Prim.Native.Nat.{ℕ, zero, suc, _+_, _-_}
 use lib.{Dec.ltb, Dec.eqb, ListN.length, ListN.getD, ListN.take, ListN.drop}
 use Rattle.lists.specs.Tables.{listTo, front}
 use Rattle.csv.specs.Grammar.{isText, isQuotable}
-use Rattle.csv.specs.declared.{Span.Span, Found.Found, Found.the-variants.At, Found.the-variants.Nothing, Piece.Piece, Piece.the-variants.Field, Piece.the-variants.Broken}
-use Rattle.csv.specs.declared.{Scanned.Scanned, Scanned.the-variants.Fields, Scanned.the-variants.Malformed}
+use Rattle.csv.specs.declared.{Span.Span, Found.Found, Found.the-variants.At, Found.the-variants.Nothing, Piece.Piece, Piece.the-variants.Field, Piece.the-variants.Broken, Scanned.Scanned}
+use Rattle.csv.specs.declared.{Scanned.the-variants.Fields, Scanned.the-variants.Malformed}
 
 -- from a place to another
 abbrev pub span : ℕ → ℕ → Span
@@ -97,8 +96,7 @@ recordAt text i = fieldsFrom text (suc (length text)) i
 abbrev pub fieldCount : ℕ
 fieldCount = 7
 
--- what is said of a record that was looked at: the count of all its fields, and where the next one starts, with the places of the first
--- fieldCount fields at the front of two lists; of a record outside the grammar what the lists hold is free
+-- a record that was looked at: counted, with the places of its first fields at the front of two lists; outside the grammar, what they hold is free
 abbrev pub Scans : Split → List ℕ → List ℕ → List ℕ → List ℕ → Scanned → Type 0
 Scans (fields ss next) starts ends starts′ ends′ r =
     (r ≡ Fields (length ss) next)
@@ -115,8 +113,7 @@ textsOf text malformed = []
 unfoldable pub textsIn : List ℕ → ℕ → List ℕ → List ℕ → List (List ℕ)
 textsIn text count starts ends = take count (listTo fieldCount (λ k. part text (span (getD starts k 0) (getD ends k 0))))
 
--- field k of a record that was read: the part of the text between its separators, enclosing quotes dropped; a k that the record does not have
--- gives the empty part
+-- field k of a record that was read: the part of the text between its separators, enclosing quotes dropped; empty for a k that it does not have
 pub record HandsBack (text : List ℕ) (count : ℕ) (starts ends : List ℕ) (k : ℕ) (r : List ℕ) : Type 0 where
   -- by the places in the lists
   pub by-places : r ≡ getD (textsIn text count starts ends) k []

@@ -6,7 +6,7 @@ use Prim.Native.Nat.{ℕ, _-_}
 use Prim.Native.String.{String}
 use lib.Dec.{eqb}
 use lib.ListN.{length, getD, take, drop, replicate}
-use Rattle.lists.specs.Tables.{zeros, ascii}
+use Rattle.lists.specs.Tables.{ascii}
 use Rattle.lists.specs.Choice.{same, firstOf}
 use Rattle.words.specs.Words.{decode, encode}
 use Rattle.holding.specs.Holding.{faultOf, holdingOf}
@@ -131,6 +131,9 @@ decodes name bytes numbers = record { name = name; computed = decode bytes; stat
 
 abbrev pub encodes : String → List ℕ → List ℕ → Case
 encodes name numbers bytes = record { name = name; computed = encode numbers; stated = bytes }
+
+abbrev zeros : ℕ → List ℕ
+zeros n = replicate n 0
 
 -- columns of so many zero bytes each: five of holdings, the prices, three of lines
 abbrev blank : List ℕ → Columns

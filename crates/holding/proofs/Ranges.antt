@@ -8,7 +8,7 @@ use borrow.Author.Tests.{not-false, ne-eqb}
 use Rattle.lists.proofs.Tests.{within-true, true-within}
 use Rattle.lists.proofs.Firsts.{None, Listed, none-first}
 use Rattle.lists.specs.Choice.{firstOf, within}
-use Rattle.holding.specs.Holding.{Ranges, InRange, Kept, identityFaults, termFaults, worthFaults, rowFaults, faultOf, sideNumber, kindNumber, noIssuer, issuerNumber, sideOf, kindOf, issuerOf, rowOf, holdingOf}
+use Rattle.holding.specs.Holding.{Ranges, InRange, identityFaults, termFaults, worthFaults, rowFaults, faultOf, sideNumber, kindNumber, noIssuer, issuerNumber, sideOf, kindOf, issuerOf, rowOf, holdingOf}
 use Rattle.holding.specs.declared.Side.{Side}
 use Rattle.holding.specs.declared.Side.the-variants.{Long, Short}
 use Rattle.holding.specs.declared.Kind.{Kind}
@@ -87,11 +87,11 @@ pub row-kept : (r : Row) → Ranges r → rowOf (holdingOf r) ≡ r
 unfolding rowOf holdingOf
 row-kept r g = rw (side-number (r .side) (g .side), kind-number (r .kind) (g .kind), issuer-number (r .issuer) (g .issuer))
 
--- what the record of a row without fault is good for
-pub kept : (r : Row) → faultOf r ≡ 0 → Kept r (holdingOf r)
-kept r e =
+-- the record of a row without fault is within the ranges
+pub in-range : (r : Row) → faultOf r ≡ 0 → InRange (holdingOf r)
+in-range r e =
     let g : Ranges r = fault-none r e in
-    record { numbers = row-kept r g; ranges = rw (row-kept r g) g }
+    rw (row-kept r g) g
 
 side-back : (s : Side) → sideOf (sideNumber s) ≡ s
 unfolding sideOf

@@ -1,5 +1,5 @@
 -- A row and the list of its numbers give each other back; and what a row made, by the promise of its builder: the record of a row without fault, or the number of its fault. Assumes nothing.
-use mathlib.Core.Path.{_≡_, refl, sym, ap, subst, _∙_}
+use mathlib.Core.Path.{_≡_, refl, sym, ap, _∙_}
 use mathlib.Core.List.{List}
 use Prim.Native.Nat.{ℕ}
 use native.Mathlib.Omega.{arith}
@@ -7,7 +7,8 @@ use lib.ListN.{length}
 use Rattle.lists.specs.Tables.{listTo}
 use Rattle.lists.proofs.Tables.{to-back}
 use borrow.Author.Tests.{eq-eqb}
-use Rattle.holding.specs.Holding.{numbersOf, rowBy, faultOf, holdingOf, numberOf, builtOf, InRange, Sound, Builds}
+use Rattle.holding.specs.Holding.{numbersOf, rowBy, faultOf, holdingOf, numberOf, builtOf, InRange, Builds}
+use Rattle.holding.proofs.Ranges.{in-range}
 use Rattle.holding.specs.declared.Row.{Row}
 use Rattle.holding.specs.declared.Holding.{Holding}
 use Rattle.holding.specs.declared.Built.{Built}
@@ -29,10 +30,10 @@ module _ {r : Row} {b : Built} (p : Builds r b) where
   -- its record: it has no fault
   pub made-row : {h : Holding} → b ≡ Made h → InRange h × (faultOf r ≡ 0) × (h ≡ holdingOf r)
   made-row {h} e =
-      let kept : Sound r (Made h) = subst (Sound r) e (p .sound) in
       let none : faultOf r ≡ 0 = sym (p .number) ∙ ap numberOf e in
       let made = made-of-none none in
-      (kept .ranges, none, cc)
+      let same : h ≡ holdingOf r = cc in
+      (rw same (in-range r none), none, same)
 
   -- the number of its fault
   pub refused-row : {n : ℕ} → b ≡ Refused n → (n ≡ faultOf r) × (n ≡ 0 → ⊥)

@@ -112,20 +112,10 @@ numberOf (Refused n) = n
 unfoldable pub builtOf : Row → Built
 builtOf r = cond (eqb (faultOf r) 0) (Made (holdingOf r)) (Refused (faultOf r))
 
--- a record that was made has the row's numbers, which are within the ranges
-pub record Kept (row : Row) (h : Holding) : Type 0 where
-  pub numbers : rowOf h ≡ row
-  pub ranges : InRange h
-
-abbrev pub Sound : Row → Built → Type 0
-Sound row (Made h) = Kept row h
-Sound row (Refused n) = Unit {0}
-
 -- what making a record of a row promises
 pub record Builds (row : Row) (r : Built) : Type 0 where
   pub number : numberOf r ≡ faultOf row
   pub built : r ≡ builtOf row
-  pub sound : Sound row r
 
 -- the numbers of a record. Side: 0 long, 1 short. Kind: 0 bond or debenture, 1 stripped coupon, 2 residual. Issuer: 0 Canada, 1 to 10 a province
 pub record Numbers (h : Holding) : Type 0 where

@@ -1,5 +1,4 @@
--- THE PAGE OF THE EXPORTED READER. Document 01, "The reader fills lent columns, or leaves them untouched": what it promises of a text and of what is lent.
--- Assumes nothing.
+-- THE PAGE OF THE EXPORTED READER. Document 01, "The reader fills lent columns, or leaves them untouched". Assumes nothing.
 use mathlib.Core.{Path._≡_, Logic._↔_, Bool.cond, List.List, List.[]}
 use Prim.Native.Nat.{ℕ, _<_}
 use lib.{Dec.eqb, ListN.length, ListN.getD}

@@ -7,9 +7,8 @@ use Rattle.numerals.specs.Numerals.{digits, numeralOf}
 use Rattle.numerals.specs.declared.{Numeral.Numeral, Numeral.the-variants.Number, Numeral.the-variants.NotANumeral}
 use Rattle.codes.specs.Codes.{placeOf, Named}
 use Rattle.codes.specs.declared.{Place.Place, Place.the-variants.At, Place.the-variants.Nowhere}
-use Rattle.layout.specs.declared.{Sort.Sort, Sort.the-variants.Side, Sort.the-variants.Kind, Sort.the-variants.Issuer, Sort.the-variants.Six, Sort.the-variants.Twelve}
-use Rattle.layout.specs.declared.{Sort.the-variants.Empty, Value.Value, Value.the-variants.Of, Value.the-variants.Wrong, Parsed.Parsed, Parsed.the-variants.Good}
-use Rattle.layout.specs.declared.{Parsed.the-variants.Refused, Entry.Entry}
+use Rattle.layout.specs.declared.{Sort.Sort, Sort.the-variants.Side, Sort.the-variants.Kind, Sort.the-variants.Issuer, Sort.the-variants.Six, Sort.the-variants.Twelve, Sort.the-variants.Empty}
+use Rattle.layout.specs.declared.{Value.Value, Value.the-variants.Of, Value.the-variants.Wrong, Parsed.Parsed, Parsed.the-variants.Good, Parsed.the-variants.Refused, Entry.Entry}
 use Rattle.csv.specs.Reading.{part, Split, fields, malformed, recordAt, fieldCount, Read, formed, broken}
 
 -- side `L` or `S`; kind `B` `C` `R`; issuer `CA` or a province code, in the order of the issuers' numbers

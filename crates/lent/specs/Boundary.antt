@@ -1,5 +1,4 @@
--- THE PAGE OF THE EXPORTED CHECK. Document 01, "At the host's boundary a column or list is a byte slice of eight-byte little-endian
--- numbers": the lists to be written, and what the exported check promises of what is lent. Assumes nothing.
+-- THE PAGE OF THE EXPORTED CHECK: the lists to be written, and what it promises of the bytes that a host lends. Assumes nothing.
 use mathlib.Core.{Path._≡_, Logic._↔_, Bool.Bool, Bool.cond, List.List, List.[], List._∷_}
 use Prim.Native.Nat.{ℕ, _≤_, _<_}
 use lib.{Dec.ltb, ListN.length}
@@ -28,8 +27,7 @@ answered a old = cond (ltb (length old) 16) old (front (encode (a .first ∷ a .
 abbrev pub answerIn : ℕ → List ℕ → Answer
 answerIn r bytes = makeAnswer r (wordAt bytes 0) (wordAt bytes 1)
 
--- a number and two more are the answer: the number is returned, and the two stand in the answer slice, where the host reads them;
--- a slice below 16 bytes stays unwritten
+-- an answer: its number is returned, and its two values stand in the answer slice, where the host reads them; below 16 bytes that stays unwritten
 pub record Answers (a : Answer) (before after : List ℕ) (r : ℕ) : Type 0 where
   pub number : r ≡ a .number
   pub slice : after ≡ answered a before

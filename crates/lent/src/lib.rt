@@ -40,7 +40,12 @@ pub fn judge(
     ranks: &mut [u64],
 ) -> u64
     requires { ⌜ ScratchRoom (entries (now side)) (now legs) (now left) (now margins) (now ranks) ⌝ }
-    ensures { λ r. ⌜ Checks (makeColumns (now (side .entry) ∷ now (kind .entry) ∷ now (issuer .entry) ∷ now (days .entry) ∷ now (value .entry) ∷ []) (now (price .entry)) (now (long .entry) ∷ now (short .entry) ∷ now (amount .entry) ∷ [])) (makeLent (now (remainder .entry)) (now (ranking .entry)) (now (answer .entry))) (makeLent (now (remainder .exit)) (now (ranking .exit)) (now (answer .exit))) r ⌝ }
+    ensures { λ r. ⌜ Checks (makeColumns
+        (now (side .entry) ∷ now (kind .entry) ∷ now (issuer .entry) ∷ now (days .entry) ∷ now (value .entry) ∷ [])
+        (now (price .entry))
+        (now (long .entry) ∷ now (short .entry) ∷ now (amount .entry) ∷ []))
+        (makeLent (now (remainder .entry)) (now (ranking .entry)) (now (answer .entry)))
+        (makeLent (now (remainder .exit)) (now (ranking .exit)) (now (answer .exit))) r ⌝ }
 {
     let n = side.len() / 8;
     let two = sizes::lists_too_short(n, remainder.len(), ranking.len(), answer.len());

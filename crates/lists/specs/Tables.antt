@@ -1,7 +1,7 @@
 -- Lists: what holds of each entry, lists by index, one after another, and written into another; sums; a quoted text as its bytes. Assumes nothing.
 use mathlib.Core.{List.List, List.[], List._∷_, List._++_, Bool.cond}
 use Prim.Native.{Nat.ℕ, Nat.zero, Nat.suc, Nat._+_, Char.code, String.String, String.[] as end, String._∷_ as _then_}
-use lib.{ListN.length, ListN.take, ListN.drop, ListN.replicate, Dec.eqb}
+use lib.{ListN.length, ListN.take, ListN.drop, Dec.eqb}
 
 abbrev pub Each : {A : Type 0} → (A → Type 0) → List A → Type 0
 Each P [] = Unit {0}
@@ -28,10 +28,6 @@ front xs old = xs ++ drop (length xs) old
 -- written into a list from a place on, the others kept
 unfoldable pub overwrite : {A : Type 0} → ℕ → List A → List A → List A
 overwrite at xs old = take at old ++ front xs (drop at old)
-
--- n zeros
-unfoldable pub zeros : ℕ → List ℕ
-zeros n = replicate n 0
 
 -- f 0 + f 1 + .. + f (n - 1)
 unfoldable pub sumTo : ℕ → (ℕ → ℕ) → ℕ

@@ -1,12 +1,12 @@
 // Lists and tests, in specs/ and proofs/: they know nothing of margin. One list is made here, and one written into another.
 ghost use mathlib.Core.Path.{_≡_};
 ghost use Prim.Native.Nat.{_≤_};
-ghost use lib.ListN.{length};
-ghost use Rattle.lists.specs.Tables.{zeros, front};
+ghost use lib.ListN.{length, replicate};
+ghost use Rattle.lists.specs.Tables.{front};
 
 // 256 zeros.
 pub fn zeros() -> [u64; 256]
-    ensures { λ r. ⌜ r ≡ zeros 256 ⌝ }
+    ensures { λ r. ⌜ r ≡ replicate 256 0 ⌝ }
 {
     [0; 256]
 }

@@ -1,5 +1,4 @@
--- A leg as one number, 16 bits for its rate, 8 each for its period, side and kind, 16 for its issuer, and 8 above them for what a leg may come to
--- have; and a book in lent lists: the packed legs of its holdings, their values and their prices. Assumes nothing.
+-- A leg as one number, and a book in lent lists: the packed legs of its holdings, their values and their prices. Assumes nothing.
 use mathlib.Core.{Path._≡_, List.List}
 use Prim.Native.Nat.{ℕ, _/_, _%_, _<_, _≤_}
 use lib.ListN.{length, getD}
@@ -7,7 +6,7 @@ use Rattle.article.specs.declared.pair.Leg.{Leg}
 use Rattle.article.specs.Pair.{RateInRange}
 use Rattle.proposal.specs.Submission.{PricedBook}
 
--- the leg that a number is the code of
+-- the leg that a number is the code of: 16 bits for its rate, 8 each for period, side and kind, 16 for its issuer; 8 are left
 unfoldable pub legIn : ℕ → Leg
 legIn c = record {
   side = (c / 16777216) % 256;

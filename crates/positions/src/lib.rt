@@ -18,7 +18,9 @@ pub fn open(
     left: &mut [u64],
 ) -> Fault
     requires { ⌜ OpenRoom (now side ∷ now kind ∷ now issuer ∷ now days ∷ now value ∷ []) (now price) (now legs) (now left) ⌝ }
-    ensures { λ r. ⌜ Opens (now (side .entry) ∷ now (kind .entry) ∷ now (issuer .entry) ∷ now (days .entry) ∷ now (value .entry) ∷ []) (now (price .entry)) (now (left .entry)) (now (legs .exit)) (now (left .exit)) r ⌝ }
+    ensures { λ r. ⌜ Opens
+        (now (side .entry) ∷ now (kind .entry) ∷ now (issuer .entry) ∷ now (days .entry) ∷ now (value .entry) ∷ [])
+        (now (price .entry)) (now (left .entry)) (now (legs .exit)) (now (left .exit)) r ⌝ }
 {
     let n = side.len() / 8;
     let mut i: usize = 0;

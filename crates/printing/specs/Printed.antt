@@ -1,5 +1,4 @@
--- THE PAGE OF THE PROGRAM. Document 01, "The program `margin` reads a file on standard input": what it prints, from the bytes of the
--- file to the bytes that are printed. Assumes nothing.
+-- THE PAGE OF THE PROGRAM: what `margin` prints, from the bytes of the file to the bytes that are printed. Assumes nothing.
 use mathlib.Core.{Path._≡_, Logic._↔_, Bool.cond, Bool.false, List.List, List.[], List._∷_, List._++_, List.flatMap}
 use Prim.Native.Nat.{ℕ, _*_, _≤_, _<_}
 use lib.{Dec.eqb, ListN.length, ListN.getD, ListN.take}

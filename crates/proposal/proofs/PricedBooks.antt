@@ -5,7 +5,7 @@ use lib.ListN.{length, getD, List·getD-map}
 use Rattle.lists.proofs.Tables.{getD-map-in}
 use Rattle.holding.specs.Holding.{InRange, holdingOf}
 use Rattle.holding.specs.declared.Row.{Row}
-use Rattle.holding.proofs.Ranges.{none-fault, kept}
+use Rattle.holding.proofs.Ranges.{none-fault, in-range}
 use Rattle.article.specs.Pair.{legOf, ruleOf, pairRateOf, RateInRange}
 use Rattle.article.proofs.PairRates.{rule-rate-le}
 use Rattle.article.proofs.Rates.{rate-high}
@@ -27,7 +27,7 @@ module _ (s : Submission) where
 
   pub holding-in-range : Limits s → (k : ℕ) → k < length (s .rows) → InRange (holdingAt s k)
   unfolding holdingAt
-  holding-in-range l k h = kept _ (none-fault _ (l .each-row k h)) .ranges
+  holding-in-range l k h = in-range _ (none-fault _ (l .each-row k h))
 
   pub leg-at : (k : ℕ) → k < length (s .rows) → priced s .leg k ≡ legOf (holdingAt s k)
   unfolding priced bookOf holdingAt

@@ -1,5 +1,4 @@
--- THE PAGE TO READ FIRST: what document 01 demands of the check's answer, in its own words, over the definitions beside it.
--- `demands` of proofs/Demands.antt proves it of the outcome. Assumes nothing.
+-- THE PAGE TO READ FIRST: what document 01 demands of the check's answer, in its own words; proofs/Demands.antt proves it. Assumes nothing.
 use mathlib.Core.{Path._≡_, Bool.Bool, Bool.true, Bool.false, Logic._↔_}
 use Prim.Native.Nat.{ℕ, _-_, _*_, _≤_, _<_}
 use lib.ListN.{length, getD}

@@ -1,5 +1,4 @@
--- Document 01, "Who can be refused, and for what": the outcome is the first that holds of one list of refusals in the check's order, or,
--- where none holds, the figures. Assumes nothing.
+-- Document 01, "Who can be refused, and for what": the first that holds of one list of refusals, or the figures. Assumes nothing.
 use mathlib.Core.{Bool.Bool, Bool.not, Bool._&&_, Bool._||_, List.List, List.[], List._∷_, List._++_, List.map}
 use Prim.Native.Nat.{ℕ, _+_}
 use lib.{Dec.ltb, Dec.eqb, ListN.length, ListN.getD, ListN.take}
@@ -29,8 +28,7 @@ atPlace place faults = map (λ f. (f .0, makeAnswer (f .1) place 0)) faults
 unfoldable pub holdingFaults : Row → ℕ → List (Bool × ℕ)
 holdingFaults row price = rowFaults row ++ ((ltb priceLimit price, 10) ∷ [])
 
--- of a line on two legs of the book with so much left of each: 12 the first leg not long or the second not short, 13 pair not allowed,
--- 14 amount zero, 15 amount above what remains of either leg
+-- of a line: 12 the first leg not long or the second not short, 13 pair not allowed, 14 amount zero, 15 amount above what remains of either leg
 unfoldable pub pairFaults : Leg → Leg → ℕ → ℕ → ℕ → List (Bool × ℕ)
 pairFaults long short amount left-long left-short =
     (not (isLong long && isShort short), 12)

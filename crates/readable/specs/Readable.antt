@@ -10,25 +10,18 @@ use Rattle.csv.specs.Grammar.{File}
 use Rattle.layout.specs.Layout.{IsRecord}
 use Rattle.reader.specs.File.{parsedIn, submissionOf, fileFault}
 
--- a good H, with the row and the price of its holding; a good P, with its line
-abbrev pub IsHolding : List (List ℕ) → Row → ℕ → Type 0
-IsHolding texts row price = IsRecord 0 texts (numbersOf row ++ (price ∷ []))
-
-abbrev pub IsLine : List (List ℕ) → Line → Type 0
-IsLine texts line = IsRecord 1 texts (lineNumbers line)
-
--- records each a good H, with their rows and prices
+-- records each a good H, with the row and the price of its holding
 pub data AreHoldings : List (List (List ℕ)) → List Row → List ℕ → Type 0 where
   no-holdings : AreHoldings [] [] []
-  holding-and : {r : List (List ℕ)} {row : Row} {price : ℕ} {rs : List (List (List ℕ))} {rows : List Row} {prices : List ℕ} → IsHolding r row price → AreHoldings rs rows prices → AreHoldings (r ∷ rs) (row ∷ rows) (price ∷ prices)
+  holding-and : {r : List (List ℕ)} {row : Row} {price : ℕ} {rs : List (List (List ℕ))} {rows : List Row} {prices : List ℕ}
+      → IsRecord 0 r (numbersOf row ++ (price ∷ [])) → AreHoldings rs rows prices → AreHoldings (r ∷ rs) (row ∷ rows) (price ∷ prices)
 
--- records each a good P, with their lines
+-- records each a good P, with its line
 pub data AreLines : List (List (List ℕ)) → List Line → Type 0 where
   no-lines : AreLines [] []
-  line-and : {r : List (List ℕ)} {line : Line} {rs : List (List (List ℕ))} {lines : List Line} → IsLine r line → AreLines rs lines → AreLines (r ∷ rs) (line ∷ lines)
+  line-and : {r : List (List ℕ)} {line : Line} {rs : List (List (List ℕ))} {lines : List Line} → IsRecord 1 r (lineNumbers line) → AreLines rs lines → AreLines (r ∷ rs) (line ∷ lines)
 
--- a text that submits these rows, prices and lines: up to 65,536 bytes of RFC 4180 records, each a good H or P, all H before all P, at most
--- 256 and 512
+-- a text that submits these: up to 65,536 bytes of RFC 4180 records, each a good H or P, all H before all P, at most 256 and 512
 pub record Submits (text : List ℕ) (s : Submission) : Type 0 where
   pub holdings : List (List (List ℕ))
   pub lines : List (List (List ℕ))

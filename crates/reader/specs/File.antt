@@ -1,5 +1,4 @@
--- Document 01, "Reader order: 18; each record in turn 19 to 22, then 3 or 9 if it is one too many; after all records 2": what a file submits,
--- and its refusals as one list in that order. Assumes nothing.
+-- Document 01, "Reader order: 18; each record in turn 19 to 22, then 3 or 9 if it is one too many; after all records 2". Assumes nothing.
 use mathlib.Core.{Path._≡_, Bool.Bool, Bool.true, Bool.false, Bool.cond, Bool.not, List.List, List.[], List._∷_, List._++_, List.map}
 use Prim.Native.Nat.{ℕ, zero, suc, _-_, _*_, _≤_, _<_}
 use lib.{Dec.ltb, Dec.eqb, ListN.length, ListN.getD, ListN.take}
@@ -74,8 +73,7 @@ fileFaults text = (ltb fileLimit (length text), makeAnswer 18 0 0) ∷ inTurn (l
 unfoldable pub fileFault : List ℕ → Answer
 fileFault text = firstOf (fileFaults text) (makeAnswer 0 0 0)
 
--- what the reader answers: the first refusal, 2 in its turn, or the number of holdings and of lines; `two` says whether a lent list is
--- shorter than what must be written
+-- what the reader answers: the first refusal, 2 in its turn if `two`, a lent list is too short, or the number of holdings and of lines
 unfoldable pub readAnswer : Bool → List ℕ → Answer
 readAnswer two text =
     firstOf

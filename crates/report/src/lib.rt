@@ -86,7 +86,9 @@ fn put_remainders(
     out: &mut [u8],
 ) -> usize
     requires { ⌜ at + 66 * 256 ≤ length (now out) ⌝ }
-    ensures { λ r. ⌜ Written (flatMap (judgedLine (now (left .entry)) (now (margins .entry))) (take count (listTo 256 (λ k. getD (now (ranks .entry)) k 0)))) at r (now (out .entry)) (now (out .exit)) ⌝ }
+    ensures { λ r. ⌜ Written
+        (flatMap (judgedLine (now (left .entry)) (now (margins .entry))) (take count (listTo 256 (λ k. getD (now (ranks .entry)) k 0))))
+        at r (now (out .entry)) (now (out .exit)) ⌝ }
 {
     let mut next = at;
     let mut i = 0;

@@ -68,7 +68,8 @@ pub fn columns_too_short(
     amount: usize,
     answer: usize,
 ) -> bool
-    ensures { λ r. ⌜ r ≡ tooShort ((holdings, side) ∷ (holdings, kind) ∷ (holdings, issuer) ∷ (holdings, days) ∷ (holdings, value) ∷ (holdings, price) ∷ (lines, long) ∷ (lines, short) ∷ (lines, amount) ∷ []) answer ⌝ }
+    ensures { λ r. ⌜ r ≡ tooShort ((holdings, side) ∷ (holdings, kind) ∷ (holdings, issuer) ∷ (holdings, days) ∷ (holdings, value) ∷ (holdings, price)
+        ∷ (lines, long) ∷ (lines, short) ∷ (lines, amount) ∷ []) answer ⌝ }
 {
     (side / 8 < holdings)
         | (kind / 8 < holdings)

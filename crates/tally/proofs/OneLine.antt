@@ -18,7 +18,7 @@ use Rattle.article.proofs.PairRates.{saving-high}
 use Rattle.proposal.specs.Submission.{marginLimit, savedLimit}
 use Rattle.proposal.specs.Outcome.{pairFaults}
 use Rattle.proposal.proofs.Places.{pair-listed}
-use Rattle.tally.specs.Lines.{refusals, taken, appliedOf, Ready, Applies}
+use Rattle.tally.specs.Lines.{refusals, taken, appliedOf, Ready}
 use Rattle.tally.specs.declared.Tally.{Tally}
 use Rattle.tally.specs.declared.Applied.{Applied}
 use Rattle.tally.specs.declared.Applied.the-variants.{Taken, Refused}
@@ -65,15 +65,15 @@ pub record Took (t : Tally) (amount : ℕ) (long short : Leg) (after : Tally) : 
   pub apart : long ≡ short → ⊥
   pub high : High amount (pairRateOf long short) (savingRateOf long short)
 
-module _ {t : Tally} {amount : ℕ} {long short : Leg} {r : Applied} (applies : Applies t amount long short r) where
+module _ (t : Tally) (amount : ℕ) (long short : Leg) {r : Applied} (applies : r ≡ appliedOf t amount long short) where
   pub refused : {n : ℕ} → r ≡ Refused n → (n ≡ firstOf (pairFaults long short amount (t .long) (t .short)) 0) × (1 ≤ n)
   unfolding appliedOf
-  refused {n} e = first-refused _ (taken t amount long short) n (rw e at (applies .answer)) (pair-listed _ _ _ _ _)
+  refused {n} e = first-refused _ (taken t amount long short) n (rw e at applies) (pair-listed _ _ _ _ _)
 
   pub took : {after : Tally} → Ready t long short → r ≡ Taken after → Took t amount long short after
   unfolding appliedOf
   took {after} ready e =
-      let (none, is) = first-taken (pairFaults long short amount (t .long) (t .short)) (taken t amount long short) after (rw e at (applies .answer)) in
+      let (none, is) = first-taken (pairFaults long short amount (t .long) (t .short)) (taken t amount long short) after (rw e at applies) in
       let (may, within) = passed long short amount _ _ none in
       let meets = allowed-meets long short may in
       record {

@@ -25,7 +25,7 @@ use Rattle.proposal.specs.Outcome.{faultAnswer, atPlace, pairFaults, lineFaults
 use Rattle.proposal.proofs.Places.{zero-at, first-at, line-listed}
 use Rattle.proposal.proofs.PricedBooks.{saving-rate}
 use Rattle.packed.specs.Packed.{Legs, LegsOf, Same, AtMost, entry, legAt}
-use Rattle.tally.specs.Lines.{taken, Ready, Applies, stoppedAt, takenLines, Takes}
+use Rattle.tally.specs.Lines.{taken, appliedOf, Ready, stoppedAt, takenLines, Takes}
 use Rattle.tally.specs.declared.Tally.{Tally}
 use Rattle.tally.specs.declared.Applied.{Applied}
 use Rattle.tally.specs.declared.Applied.the-variants.{Taken, Refused}
@@ -181,11 +181,11 @@ module _ {n : ℕ} {legs before : List ℕ} {line : ℕ → Line} {m : ℕ} {lef
           let q : l .short < b .count = omega (arith, holds .0 .count, read .second) in
           rw (read .is, lt-ltb (l .long) (b .count) p, lt-ltb (l .short) (b .count) q, first-leg, second-leg, ← remains (l .long) p, ← remains (l .short) q)
 
-    module _ {r : Applied} (applies : Applies (tallyAt left l u s) (l .amount) long short r) where
+    module _ {r : Applied} (applies : r ≡ appliedOf (tallyAt left l u s) (l .amount) long short) where
       -- the line is refused
       pub refuses : {number : ℕ} {w : Walked} → r ≡ Refused number → w ≡ stoppedAt number i u s → Takes n legs before (listTo m line) left w
       refuses e f =
-          let (first, some) = refused applies e in
+          let (first, some) = refused (tallyAt left l u s) (l .amount) long short applies e in
           stops (λ b holds. first ∙ sym (line-faults b holds)) (λ z. omega (arith, some)) f
 
       -- the line is taken off
@@ -193,7 +193,7 @@ module _ {n : ℕ} {legs before : List ℕ} {line : ℕ → Line} {m : ℕ} {lef
           → Walk n legs before line m (set (set left (l .long) (after .long)) (l .short) (after .short)) (after .units) (after .saving) (i + 1)
       unfolding taken listTo
       goes e =
-          let done = took applies ready e in
+          let done = took (tallyAt left l u s) (l .amount) long short applies ready e in
           let going = turn .walk .going in
           let apart : l .long ≡ l .short → ⊥ = λ same. done .apart (read .long-leg ∙ ap (legAt legs) same ∙ sym (read .short-leg)) in
           let p : l .long < length left = omega (arith, going .long, turn .room, read .first) in

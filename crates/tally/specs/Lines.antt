@@ -1,13 +1,12 @@
--- Document 01, "Each pair line takes the tally of unpaired values in and hands it back", "each line in turn": what one line does to the tally of its two
--- holdings, and what taking the lines of three columns off the first entries of a list promises. Assumes nothing.
+-- Document 01, "Each pair line takes the tally of unpaired values in and hands it back": one line, and the lines in turn. Assumes nothing.
 use mathlib.Core.{Path._≡_, Bool.Bool, Bool.cond, List.List, List.map}
 use Prim.Native.Nat.{ℕ, _+_, _-_, _*_, _≤_}
 use Rattle.lists.specs.{Choice.firstOf, Tables.Each, Tables.front}
 use Rattle.holding.specs.Holding.{valueLimit}
 use Rattle.article.specs.Pair.{pairRateOf, savingRateOf, RateInRange}
 use Rattle.article.specs.declared.pair.Leg.{Leg}
-use Rattle.proposal.specs.{Submission.marginLimit, Submission.savedLimit, Submission.remaindersOf, Outcome.pairFaults, Outcome.makeFault, Outcome.faultAnswer, Outcome.linesFaults, Outcome.firstFault}
-use Rattle.proposal.specs.{Submission.PricedBook, Submission.termsOf}
+use Rattle.proposal.specs.{Submission.marginLimit, Submission.savedLimit, Submission.remaindersOf, Outcome.pairFaults, Outcome.makeFault, Outcome.faultAnswer, Outcome.linesFaults}
+use Rattle.proposal.specs.{Outcome.firstFault, Submission.PricedBook, Submission.termsOf}
 use Rattle.tally.specs.declared.{Tally.Tally, Applied.Applied, Applied.the-variants.Taken, Applied.the-variants.Refused, Walked.Walked}
 use lib.{Dec.eqb, ListN.length, ListN.take}
 use Rattle.pairing.specs.Pairing as pairing
@@ -40,10 +39,6 @@ pub record Ready (t : Tally) (long short : Leg) : Type 0 where
   pub units : t .units ≤ 511 * marginLimit
   pub saving : t .saving ≤ 511 * savedLimit
 
--- what applying one line promises
-pub record Applies (t : Tally) (amount : ℕ) (long short : Leg) (r : Applied) : Type 0 where
-  pub answer : r ≡ appliedOf t amount long short
-
 -- what is lent: packed legs and values of n holdings within the limits, and columns of at most 512 lines
 pub record LinesLent (n : ℕ) (legs left : List ℕ) (columns : List (List ℕ)) : Type 0 where
   pub bounded : Legs n legs
@@ -60,8 +55,7 @@ stoppedAt number place units saving = record { fault = makeFault number place 0;
 unfoldable pub takenLines : Walked → List Line → List Line
 takenLines r lines = cond (eqb (r .fault .number) 0) lines (take (r .fault .place) lines)
 
--- what the walk over a book's lines finds: the first fault; the units and the saving of the lines taken off; and what they leave of each holding,
--- its value less the sums of the lines before, all other entries kept
+-- what the walk over a book's lines finds: the first fault; units and saving of the lines taken off; and what they leave of each holding
 pub record Walks (b : PricedBook) (lines : List Line) (before after : List ℕ) (r : Walked) : Type 0 where
   pub fault : faultAnswer (r .fault) ≡ firstFault (linesFaults b lines)
   pub units : r .units ≡ pairing.pairUnits (termsOf b) (takenLines r lines)

@@ -6,7 +6,7 @@ use proposal::Fault;
 ghost use mathlib.Core.Path.{_≡_};
 ghost use mathlib.Core.List.{[], _∷_};
 ghost use Rattle.columns.specs.Columns.{linesIn};
-ghost use Rattle.tally.specs.Lines.{Ready, Applies, LinesLent, stoppedAt, Takes};
+ghost use Rattle.tally.specs.Lines.{Ready, appliedOf, LinesLent, stoppedAt, Takes};
 
 // What is unpaired of the two holdings of a line, and the units and the saving of the lines taken off.
 pub struct Tally {
@@ -33,7 +33,7 @@ impl Tally {
     // One pair line of an amount on its two legs.
     pub fn apply(self, amount: u64, long: Leg, short: Leg) -> Applied
         requires { ⌜ Ready self long short ⌝ }
-        ensures { λ r. ⌜ Applies self amount long short r ⌝ }
+        ensures { λ r. ⌜ r ≡ appliedOf self amount long short ⌝ }
     {
         if long.side != 0 {
             return Applied::Refused(12);

@@ -48,7 +48,12 @@ pub fn check(
     ranks: &mut [u64],
 ) -> Verdict
     requires { ⌜ ScratchRoom (entries (now side)) (now legs) (now left) (now margins) (now ranks) ⌝ }
-    ensures { λ r. ⌜ Judges two (makeColumns (now (side .entry) ∷ now (kind .entry) ∷ now (issuer .entry) ∷ now (days .entry) ∷ now (value .entry) ∷ []) (now (price .entry)) (now (long .entry) ∷ now (short .entry) ∷ now (amount .entry) ∷ [])) (makeScratch (now (left .entry)) (now (margins .entry)) (now (ranks .entry))) (makeScratch (now (left .exit)) (now (margins .exit)) (now (ranks .exit))) r ⌝ }
+    ensures { λ r. ⌜ Judges two (makeColumns
+        (now (side .entry) ∷ now (kind .entry) ∷ now (issuer .entry) ∷ now (days .entry) ∷ now (value .entry) ∷ [])
+        (now (price .entry))
+        (now (long .entry) ∷ now (short .entry) ∷ now (amount .entry) ∷ []))
+        (makeScratch (now (left .entry)) (now (margins .entry)) (now (ranks .entry)))
+        (makeScratch (now (left .exit)) (now (margins .exit)) (now (ranks .exit))) r ⌝ }
 {
     let number = sizes::lengths(
         side.len(),

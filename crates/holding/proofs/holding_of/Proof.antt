@@ -1,7 +1,6 @@
 -- `holding_of` builds what `Builds` says: a row without fault makes its record, any other is refused with its fault. Assumes nothing.
 use mathlib.Core.Path.{sym, _∙_}
 use borrow.Author.Tests.{eq-eqb, ne-eqb}
-use Rattle.holding.proofs.Ranges.{kept}
 use Rattle.holding.specs.Holding.{builtOf, holdingOf}
 use borrow.Author.Needs.{needs}
 use Rattle.holding.proofs.holding_of.Statement.{statement}
@@ -12,7 +11,6 @@ unfolding builtOf
 returns c = record {
   number = c .before .fault .ensures;
   built = rw (← c .before .fault .ensures, ne-eqb _ 0 (c .if1 .taken));
-  sound = tt;
 }
 
 returns-2 : tie.Need-returns-2
@@ -21,7 +19,7 @@ returns-2 c =
     let passed = c .before .before .before in
     let none = sym (passed .before .fault .ensures) ∙ passed .if1 .left in
     rw (c .before .before .side-of .ensures, c .before .kind-of .ensures, c .issuer-of .ensures)
-    (record { number = sym none; built = rw (eq-eqb _ 0 none); sound = kept _ none })
+    (record { number = sym none; built = rw (eq-eqb _ 0 none) })
 
 pub holding-of-spec : {M : Type 1} → statement M
 holding-of-spec =

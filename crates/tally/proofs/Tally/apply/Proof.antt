@@ -32,21 +32,21 @@ returns-7 : tie.Need-returns-7
 unfolding appliedOf refusals pairFaults firstOf isLong isShort taken
 returns-7 c =
     let found = rates (paired (c .before .before .before .before)) in
-    record { answer = rw (← found .pair-rate, ← found .saving-rate) (search (tests, found .may)) }
+    rw (← found .pair-rate, ← found .saving-rate) (search (tests, found .may))
 
 pub apply-spec : {M : Type 1} → statement M
 apply-spec =
     tie.close
     (tie.spec
-    (λ c. unfold appliedOf refusals pairFaults firstOf isLong isShort in record { answer = search tests })
-    (λ c. unfold appliedOf refusals pairFaults firstOf isLong isShort in record { answer = search tests })
+    (λ c. unfold appliedOf refusals pairFaults firstOf isLong isShort in search tests)
+    (λ c. unfold appliedOf refusals pairFaults firstOf isLong isShort in search tests)
     (λ c κs. search needs)
     (λ c. search needs)
-    (λ c. unfold appliedOf refusals pairFaults firstOf isLong isShort in record { answer = search (tests, answered-refused (c .before .before .pair-legs .ensures) (c .enum-told .given .1)) })
+    (λ c. unfold appliedOf refusals pairFaults firstOf isLong isShort in search (tests, answered-refused (c .before .before .pair-legs .ensures) (c .enum-told .given .1)))
     (λ c. search needs)
-    (λ c. unfold appliedOf refusals pairFaults firstOf isLong isShort in record { answer = search (tests, rates (c .before .before) .may) })
-    (λ c. unfold appliedOf refusals pairFaults firstOf isLong isShort in record { answer = search (tests, rates (c .before .before .before .before) .may) })
-    (λ c. unfold appliedOf refusals pairFaults firstOf isLong isShort in record { answer = search (tests, rates (c .before .before .before .before .before .before) .may) })
+    (λ c. unfold appliedOf refusals pairFaults firstOf isLong isShort in search (tests, rates (c .before .before) .may))
+    (λ c. unfold appliedOf refusals pairFaults firstOf isLong isShort in search (tests, rates (c .before .before .before .before) .may))
+    (λ c. unfold appliedOf refusals pairFaults firstOf isLong isShort in search (tests, rates (c .before .before .before .before .before .before) .may))
     (λ c. omega (arith, adds (c .before .before)))
     (λ c. omega (arith, adds (c .before .before .before), entry (paired (c .before .before .before)) .pre))
     (λ c. omega (arith, adds (c .before .before .before)))
