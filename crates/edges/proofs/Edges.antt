@@ -6,7 +6,7 @@ use Prim.Native.String.{String}
 use native.Mathlib.Omega.{arith}
 use lib.ListN.{length}
 use Rattle.lists.specs.Choice.{within, firstOf, some, count, same}
-use Rattle.lists.specs.Tables.{Each, listTo, turns, inTurn, front, zeros, sumTo, sumOf, only}
+use Rattle.lists.specs.Tables.{Each, listTo, turns, inTurn, front, sumTo, sumOf, only}
 use Rattle.lists.specs.Order.{insert, ordered}
 use Rattle.lists.proofs.Entries.{each-so, same-true}
 use Rattle.words.specs.Words.{number, littleEndian, wordAt, entries, decode, encode}
