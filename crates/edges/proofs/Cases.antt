@@ -1,6 +1,6 @@
 -- A worked case, and the kinds of them: from raw numbers, from lines, from the bytes of a file to the bytes that are printed. Assumes nothing.
 use mathlib.Core.Path.{_≡_}
-use mathlib.Core.Bool.{Bool, true, false, cond, not}
+use mathlib.Core.Bool.{Bool, false, cond, not}
 use mathlib.Core.List.{List, [], _∷_, _++_, map, flatMap}
 use Prim.Native.Nat.{ℕ, _-_}
 use Prim.Native.String.{String}

@@ -1,7 +1,7 @@
 -- Document 01's worked cases in one table, and that each agrees: one test, computed from the definitions over each group. Assumes nothing.
 use mathlib.Core.Path.{_≡_, refl, ap}
 use mathlib.Core.Bool.{Bool, true, false, cond}
-use mathlib.Core.List.{List, [], _∷_, map, flatMap}
+use mathlib.Core.List.{List, [], _∷_, flatMap}
 use Prim.Native.String.{String}
 use native.Mathlib.Omega.{arith}
 use lib.ListN.{length}
@@ -17,7 +17,7 @@ use Rattle.article.specs.Pair.{legOf, isLong, isShort, isBond, isStrip, isCanad
 use Rattle.pairing.specs.Pairing as theory
 use Rattle.pairing.specs.Pairing.{used, saving, pairUnits, pricedTotal}
 use Rattle.ranking.specs.Ranking.{ranksBefore, rankingOf}
-use Rattle.proposal.specs.Submission.{lineNumbers, lineBy, bookOf, termsOf, priced, remainder, margin, unitsOf, remaindersOf, ranked, centsOf}
+use Rattle.proposal.specs.Submission.{lineNumbers, bookOf, termsOf, priced, remainder, margin, unitsOf, remaindersOf, ranked, centsOf}
 use Rattle.proposal.specs.Outcome.{atPlace, holdingFaults, pairFaults, lineFaults, atHolding, bookFaults, atLine, linesFaults, uncovered, atPair, atLong, uncoveredPairs, totalsDiffer, totalsFaults, sizeFaults, faults, accepted, outcome}
 use Rattle.numerals.specs.Numerals.{lead, digits, valueFrom, numeralOf}
 use Rattle.codes.specs.Codes.{placeFrom, placeOf}

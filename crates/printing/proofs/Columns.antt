@@ -1,21 +1,19 @@
 -- Columns that are checked are printed as their outcome, and those of tables that a file was read into hold what it submits. Assumes nothing.
-use mathlib.Core.Path.{_≡_, refl, sym, ap, _∙_}
+use mathlib.Core.Path.{_≡_, refl, sym, _∙_}
 use mathlib.Core.Bool.{false}
-use mathlib.Core.List.{List, [], _∷_, _++_, map, append-nil}
+use mathlib.Core.List.{List, [], _∷_, map}
 use Prim.Native.Nat.{ℕ, _*_, _/_, _≤_, _<_}
 use native.Mathlib.Omega.{arith}
 use lib.ListN.{length}
-use lib.Seq.{drop-nil}
-use Rattle.lists.specs.Tables.{Each, front}
+use Rattle.lists.specs.Tables.{Each}
 use Rattle.lists.proofs.Entries.{each-map}
-use Rattle.holding.specs.Holding.{numbersOf, rowBy}
+use Rattle.holding.specs.Holding.{rowBy}
 use Rattle.proposal.specs.Submission.{Submission, lineBy}
-use Rattle.words.specs.Words.{encode}
-use Rattle.columns.specs.Columns.{Columns, makeColumns, columnAt, submission, holdingSizes, lineSizes, column, filledFrom, filled, columnIn, Entered}
+use Rattle.columns.specs.Columns.{Columns, makeColumns, columnAt, submission, holdingSizes, lineSizes, column, filledFrom, columnIn, Entered}
 use Rattle.columns.proofs.Columns.{column-entries}
 use Rattle.columns.proofs.Tables.{column-long, entered-column, filled-values, pricesOf}
 use Rattle.columns.proofs.ReadBack.{SubmissionFits, nth, bare, bare-column, submission-filled}
-use Rattle.sizes.specs.Sizes.{entriesOf, Equal, differ}
+use Rattle.sizes.specs.Sizes.{entriesOf, Equal}
 use Rattle.sizes.proofs.Sizes.{differ-exactly}
 use Rattle.verdict.specs.Judges.{columnsDiffer, Scratch, Judges}
 use Rattle.verdict.specs.declared.Verdict.{Verdict}

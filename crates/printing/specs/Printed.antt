@@ -2,7 +2,7 @@
 use mathlib.Core.{Path._≡_, Logic._↔_, Bool.cond, Bool.false, List.List, List.[], List._∷_, List._++_, List.flatMap}
 use Prim.Native.Nat.{ℕ, _*_, _≤_, _<_}
 use lib.{Dec.eqb, ListN.length, ListN.getD, ListN.take}
-use Rattle.lists.specs.{Tables.listTo, Tables.front, Tables.ascii}
+use Rattle.lists.specs.{Tables.ascii}
 use Rattle.article.specs.Answer.{Answer, makeAnswer}
 use Rattle.proposal.specs.{Submission.Submission, Submission.priced, Submission.margin, Submission.remaindersOf, Submission.ranked, Submission.InRankingOrder, Outcome.outcome, Demands.Acceptable}
 use Rattle.proposal.specs.{Demands.Demands}

@@ -24,7 +24,7 @@ use Rattle.sizes.specs.Sizes.{entriesOf, differ, lengthFault}
 use Rattle.sizes.proofs.Sizes as sizes
 use Rattle.packed.specs.Packed.{Legs, LegsOf, Same, entry}
 use Rattle.proposal.specs.Submission.{Submission, PricedBook, bookOf, termsOf, priced, remainder, margin, remaindersOf, marginsOf, unitsOf, ranked, RoundedUp}
-use Rattle.proposal.specs.Outcome.{makeFault, faultAnswer, bookFaults, linesFaults, uncoveredPairs, totalsFaults, fromPairs, fromLines, fromBook, firstFault, accepted, outcome}
+use Rattle.proposal.specs.Outcome.{makeFault, faultAnswer, bookFaults, linesFaults, uncoveredPairs, totalsFaults, fromPairs, fromLines, fromBook, firstFault, accepted}
 use Rattle.proposal.specs.declared.Fault.{Fault}
 use Rattle.proposal.proofs.PricedBooks.{value-at}
 use Rattle.proposal.proofs.Clear.{book-numbered, lines-numbered, uncovered-numbered}
