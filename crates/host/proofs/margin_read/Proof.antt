@@ -1,37 +1,49 @@
 -- `margin_read` makes tables for the records, and reads a text into what is lent. Assumes nothing.
+use mathlib.Core.Path.{refl}
+use native.Mathlib.Omega.{arith}
 use borrow.Author.Needs.{needs}
 use Rattle.host.proofs.margin_read.Statement.{statement}
 use Rattle.host.proofs.margin_read.Tie as tie
 
+-- from the end of each way back to where the text was read
+abbrev read-small : tie.After-slice-known20 → tie.After-read-into
+read-small c = c .before .before .before .before .before .before .before .before .before .before .before .before .before .before .before .before .before .before .before .before .before .before
+
+abbrev read-large : tie.After-slice-known30 → tie.After-read-into2
+read-large c = c .before .before .before .before .before .before .before .before .before .before .before .before .before .before .before .before .before .before .before .before .before .before
+
+-- up to 64 bytes are up to 64 records
 pub margin-read-spec : {M : Type 1} → statement M
 margin-read-spec =
     tie.close
     (tie.spec
     (λ c. search needs)
     (λ c. search needs)
-    (λ c κs. ?)
-    (λ c. ?)
-    (λ c. ?)
-    (λ c. ?)
-    (λ c. ?)
-    (λ c. ?)
-    (λ c. ?)
-    (λ c. ?)
-    (λ c. ?)
-    (λ c. ?)
-    (λ c. ?)
-    (λ c. ?)
+    (λ c κs.
+    let few = c .before .before .before .before .before .before .before .before .before .before .before .before .if1 .taken in
+    record { whole-book = refl; whole-lines = refl; enough = λ _. few })
+    (λ c. read-small c .read-into .kept .1 .1 .1 .1 .0)
+    (λ c. read-small c .read-into .kept .1 .1 .1 .1 .1 .0)
+    (λ c. read-small c .read-into .kept .1 .1 .1 .1 .1 .1 .0)
+    (λ c. read-small c .read-into .kept .1 .1 .1 .1 .1 .1 .1 .0)
+    (λ c. read-small c .read-into .kept .1 .1 .1 .1 .1 .1 .1 .1 .0)
+    (λ c. read-small c .read-into .kept .1 .1 .1 .1 .1 .1 .1 .1 .1 .0)
+    (λ c. read-small c .read-into .kept .1 .1 .1 .1 .1 .1 .1 .1 .1 .1 .0)
+    (λ c. read-small c .read-into .kept .1 .1 .1 .1 .1 .1 .1 .1 .1 .1 .1 .0)
+    (λ c. read-small c .read-into .kept .1 .1 .1 .1 .1 .1 .1 .1 .1 .1 .1 .1 .0)
+    (λ c. read-small c .read-into .kept .1 .1 .1 .1 .1 .1 .1 .1 .1 .1 .1 .1 .1 .0)
+    (λ c. read-small c .read-into .ensures)
     (λ c. search needs)
     (λ c. search needs)
-    (λ c κs. ?)
-    (λ c. ?)
-    (λ c. ?)
-    (λ c. ?)
-    (λ c. ?)
-    (λ c. ?)
-    (λ c. ?)
-    (λ c. ?)
-    (λ c. ?)
-    (λ c. ?)
-    (λ c. ?)
-    (λ c. ?))
+    (λ c κs. record { whole-book = refl; whole-lines = refl; enough = λ h. omega arith })
+    (λ c. read-large c .read-into2 .kept .1 .1 .1 .1 .0)
+    (λ c. read-large c .read-into2 .kept .1 .1 .1 .1 .1 .0)
+    (λ c. read-large c .read-into2 .kept .1 .1 .1 .1 .1 .1 .0)
+    (λ c. read-large c .read-into2 .kept .1 .1 .1 .1 .1 .1 .1 .0)
+    (λ c. read-large c .read-into2 .kept .1 .1 .1 .1 .1 .1 .1 .1 .0)
+    (λ c. read-large c .read-into2 .kept .1 .1 .1 .1 .1 .1 .1 .1 .1 .0)
+    (λ c. read-large c .read-into2 .kept .1 .1 .1 .1 .1 .1 .1 .1 .1 .1 .0)
+    (λ c. read-large c .read-into2 .kept .1 .1 .1 .1 .1 .1 .1 .1 .1 .1 .1 .0)
+    (λ c. read-large c .read-into2 .kept .1 .1 .1 .1 .1 .1 .1 .1 .1 .1 .1 .1 .0)
+    (λ c. read-large c .read-into2 .kept .1 .1 .1 .1 .1 .1 .1 .1 .1 .1 .1 .1 .1 .0)
+    (λ c. read-large c .read-into2 .ensures))
