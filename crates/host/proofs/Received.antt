@@ -13,7 +13,7 @@ use Rattle.lists.specs.Each.{Each}
 use Rattle.lists.specs.Tables.{front}
 use Rattle.lists.proofs.Entries.{each-so, each-parts, each-back}
 use Rattle.article.specs.Answer.{Answer, makeAnswer}
-use Rattle.proposal.specs.Submission.{Submission, lineNumbers, lineBy}
+use Rattle.proposal.specs.Submission.{Submission, lineNumbers}
 use Rattle.proposal.proofs.Clear.{number}
 use Rattle.holding.specs.Holding.{numbersOf, rowBy}
 use Rattle.words.specs.Words.{encode}
@@ -51,12 +51,13 @@ with-room n lists h =
     each-so (λ (c : List ℕ). Holds (n, length c)) (λ c. 8 * n ≤ length c) (λ c l. omega arith) lists
     (each-back (λ (size : ℕ). Holds (n, size)) length lists (each-back Holds (λ (size : ℕ). (n, size)) (map length lists) h))
 
--- lists that are equal with one more at their ends are equal, and so are those
+-- filling keeps the number of columns
 filled-length : (j : ℕ) (numbers olds : List (List ℕ)) → length (filledFrom j numbers olds) ≡ length olds
 unfolding filledFrom
 filled-length j numbers [] = refl
 filled-length j numbers (old ∷ olds) = ap suc (filled-length (suc j) numbers olds)
 
+-- lists with one more at their ends are equal, and so are those, where the whole lists are
 parted : (n : ℕ) (xs ys : List (List ℕ)) {x y : List ℕ} → length xs ≡ n → length ys ≡ n → xs ++ (x ∷ []) ≡ ys ++ (y ∷ []) → (xs ≡ ys) × (x ≡ y)
 parted n xs ys {x} {y} l m e =
     let ends : x ∷ [] ≡ y ∷ [] = sym (drop-at xs (x ∷ []) n l) ∙ ap (drop n) e ∙ drop-at ys (y ∷ []) n m in
@@ -174,7 +175,7 @@ module _ (text : List ℕ) (before : Columns) (out : List ℕ) where
           let whole : readingAnswer text before out ≡ makeAnswer 0 n m = answer-none text short (no-fault from-file e) ∙ rw (sym same ∙ fits, holdings-counted from-file e, lines-counted from-file e) in
           let zero : filling text before out ≡ s = filling-by {t = true} (rw whole) in
           let fit = file-fits text (no-fault from-file e) in
-          let as-many : length (s .prices) ≡ length (s .rows) = unfold submissionOf in rw (length-map, length-map) in
+          let as-many : length (s .prices) ≡ length (s .rows) = unfold submissionOf in simp length-map in
           record {
             returned = rw whole answered;
             columns = rw zero (λ i. makeColumns (held-in i) (prices-in i) (lined-in i));

@@ -19,9 +19,7 @@ margin-read-spec =
     (tie.spec
     (λ c. search needs)
     (λ c. search needs)
-    (λ c κs.
-    let few = c .before .before .before .before .before .before .before .before .before .before .before .before .if1 .taken in
-    record { whole-book = refl; whole-lines = refl; enough = λ _. few })
+    (λ c κs. record { whole-book = refl; whole-lines = refl; enough = λ _. c .before .before .before .before .before .before .before .before .before .before .before .before .if1 .taken })
     (λ c. read-small c .read-into .kept .1 .1 .1 .1 .0)
     (λ c. read-small c .read-into .kept .1 .1 .1 .1 .1 .0)
     (λ c. read-small c .read-into .kept .1 .1 .1 .1 .1 .1 .0)
