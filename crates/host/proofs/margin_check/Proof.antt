@@ -15,7 +15,8 @@ many : {scratch : List ℕ} → scratch ≡ zeros 256 → length scratch ≡ 256
 unfolding zeros
 many e = rw e
 
-room : {n : ℕ} {legs left margins ranks : List ℕ} → legs ≡ zeros 256 → left ≡ zeros 256 → margins ≡ zeros 256 → ranks ≡ zeros 256 → ScratchRoom n legs left margins ranks
+room : {n : ℕ} {legs left margins ranks : List ℕ} → legs ≡ zeros 256 → left ≡ zeros 256 → margins ≡ zeros 256 → ranks ≡ zeros 256
+    → ScratchRoom n legs left margins ranks
 room a b c d = record { legs-held = λ h. rw (many a) h; left-held = λ h. rw (many b) h; margins-held = λ h. rw (many c) h; ranks-held = λ h. rw (many d) h }
 
 -- from the end of each way back to where the proposal was judged

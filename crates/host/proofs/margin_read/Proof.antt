@@ -19,7 +19,8 @@ margin-read-spec =
     (tie.spec
     (λ c. search needs)
     (λ c. search needs)
-    (λ c κs. record { whole-book = refl; whole-lines = refl; enough = λ _. c .before .before .before .before .before .before .before .before .before .before .before .before .if1 .taken })
+    (λ c κs.
+    record { whole-book = refl; whole-lines = refl; enough = λ _. c .before .before .before .before .before .before .before .before .before .before .before .before .if1 .taken })
     (λ c. read-small c .read-into .kept .1 .1 .1 .1 .0)
     (λ c. read-small c .read-into .kept .1 .1 .1 .1 .1 .0)
     (λ c. read-small c .read-into .kept .1 .1 .1 .1 .1 .1 .0)
