@@ -6,17 +6,18 @@ use mathlib.Core.List.{List, [], _∷_, _++_, map}
 use Prim.Native.Nat.{ℕ, suc, _*_, _/_, _≤_}
 use native.Mathlib.Omega.{arith}
 use lib.Dec.{eqb}
-use lib.ListN.{length, getD, take, length-map, length-append}
+use lib.ListN.{length, take, drop, length-map, length-append}
+use lib.Seq.{take-at, drop-at}
 use borrow.Author.Tests.{ne-eqb}
 use Rattle.lists.specs.Tables.{Each, front}
 use Rattle.lists.proofs.Entries.{each-so, each-parts, each-back}
 use Rattle.article.specs.Answer.{Answer, makeAnswer}
-use Rattle.proposal.specs.Submission.{Submission, lineNumbers, lineBy}
+use Rattle.proposal.specs.Submission.{Submission, lineNumbers}
 use Rattle.proposal.proofs.Clear.{number}
 use Rattle.holding.specs.Holding.{numbersOf, rowBy}
 use Rattle.words.specs.Words.{encode}
 use Rattle.columns.specs.Columns.{Columns, makeColumns, holdingSizes, lineSizes, listsOf, column, filledFrom, filled, copied, CopyRoom}
-use Rattle.columns.proofs.Tables.{pricesOf, entered-copied, values-filled, line-values-filled}
+use Rattle.columns.proofs.Tables.{entered-copied, values-filled, line-values-filled}
 use Rattle.columns.proofs.ReadBack.{price-read, rows-read, lines-read}
 use Rattle.sizes.specs.Sizes.{Room, tooShort}
 use Rattle.sizes.proofs.Sizes.{room-exactly}
@@ -49,13 +50,17 @@ with-room n lists h =
     each-so (λ (c : List ℕ). Holds (n, length c)) (λ c. 8 * n ≤ length c) (λ c l. omega arith) lists
     (each-back (λ (size : ℕ). Holds (n, size)) length lists (each-back Holds (λ (size : ℕ). (n, size)) (map length lists) h))
 
--- lists that were filled with values of holdings are five columns and the prices
-book-filled : (hs : List (List ℕ)) {s k i d v p s′ k′ i′ d′ v′ p′ : List ℕ} → (s′ ∷ k′ ∷ i′ ∷ d′ ∷ v′ ∷ p′ ∷ []) ≡ filledFrom 0 hs (s ∷ k ∷ i ∷ d ∷ v ∷ p ∷ [])
-    → ((s′ ∷ k′ ∷ i′ ∷ d′ ∷ v′ ∷ []) ≡ filledFrom 0 (map numbersOf (map rowBy hs)) (s ∷ k ∷ i ∷ d ∷ v ∷ [])) × (p′ ≡ column (pricesOf hs) p)
+-- filling keeps the number of columns
+filled-length : (j : ℕ) (numbers olds : List (List ℕ)) → length (filledFrom j numbers olds) ≡ length olds
 unfolding filledFrom
-book-filled hs {s} {k} {i} {d} {v} {p} e =
-    let both = e ∙ values-filled hs (s ∷ k ∷ i ∷ d ∷ v ∷ []) p refl in
-    (ap (take 5) both, ap (λ (l : List (List ℕ)). getD l 5 []) both)
+filled-length j numbers [] = refl
+filled-length j numbers (old ∷ olds) = ap suc (filled-length (suc j) numbers olds)
+
+-- lists with one more at their ends are equal, and so are those, where the whole lists are
+parted : (n : ℕ) (xs ys : List (List ℕ)) {x y : List ℕ} → length xs ≡ n → length ys ≡ n → xs ++ (x ∷ []) ≡ ys ++ (y ∷ []) → (xs ≡ ys) × (x ≡ y)
+parted n xs ys {x} {y} l m e =
+    let ends : x ∷ [] ≡ y ∷ [] = sym (drop-at xs (x ∷ []) n l) ∙ ap (drop n) e ∙ drop-at ys (y ∷ []) n m in
+    (sym (take-at xs (x ∷ []) n l) ∙ ap (take n) e ∙ take-at ys (y ∷ []) n m, cc)
 
 -- a text, and what is lent
 module _ (text : List ℕ) (before : Columns) (out : List ℕ) where
@@ -140,29 +145,36 @@ module _ (text : List ℕ) (before : Columns) (out : List ℕ) where
           }
 
       -- copied, the tables are what is submitted
-      pub book-copied : {s k i d v p s′ k′ i′ d′ v′ p′ : List ℕ} → (s′ ∷ k′ ∷ i′ ∷ d′ ∷ v′ ∷ p′ ∷ []) ≡ copied rows n book′ 0 (s ∷ k ∷ i ∷ d ∷ v ∷ p ∷ [])
-          → ((s′ ∷ k′ ∷ i′ ∷ d′ ∷ v′ ∷ []) ≡ filledFrom 0 (map numbersOf (submissionIn text .rows)) (s ∷ k ∷ i ∷ d ∷ v ∷ [])) × (p′ ≡ column (submissionIn text .prices) p)
-      unfolding submissionOf
-      book-copied c =
-          book-filled (valuesBy 0 (parsedIn text)) (c ∙ entered-copied (from-file .each-holding (was-read from-file e)) (holdings-held from-file e) 0 _ (omega arith))
-
-      pub lines-copied : {l s a l′ s′ a′ : List ℕ} → (l′ ∷ s′ ∷ a′ ∷ []) ≡ copied rows m lines′ 0 (l ∷ s ∷ a ∷ [])
-          → (l′ ∷ s′ ∷ a′ ∷ []) ≡ filledFrom 0 (map lineNumbers (submissionIn text .lines)) (l ∷ s ∷ a ∷ [])
-      unfolding submissionOf
-      lines-copied {l} {s} {a} c =
-          c ∙ entered-copied (from-file .each-line (was-read from-file e)) (lines-held from-file e) 0 _ (omega arith) ∙ line-values-filled (valuesBy 1 (parsedIn text)) (l ∷ s ∷ a ∷ []) refl
-
-      pub all-read : {two : Bool} {holdings′ lines′ : List (List ℕ)} {price′ : List ℕ} (out′ : List ℕ) (r : ℕ) → two ≡ short → two ≡ false
-          → length (before .holdings) ≡ 5 → length (before .lines) ≡ 3
+      book-copied : {holdings′ : List (List ℕ)} {price′ : List ℕ} → length (before .holdings) ≡ 5 → length holdings′ ≡ 5
+          → holdings′ ++ (price′ ∷ []) ≡ copied rows n book′ 0 (before .holdings ++ (before .price ∷ []))
           → (holdings′ ≡ filledFrom 0 (map numbersOf (s .rows)) (before .holdings)) × (price′ ≡ column (s .prices) (before .price))
-          → lines′ ≡ filledFrom 0 (map lineNumbers (s .lines)) (before .lines)
-          → Answers (makeAnswer 0 n m) out out′ r → Reads text before (makeColumns holdings′ price′ lines′) out out′ r
+      unfolding submissionOf
+      book-copied {holdings′} five five′ c =
+          let values = valuesBy 0 (parsedIn text) in
+          let entered = entered-copied (from-file .each-holding (was-read from-file e)) (holdings-held from-file e) 0 (before .holdings ++ (before .price ∷ []))
+          (omega (arith, length-append (before .holdings) (before .price ∷ []), five)) in
+          parted 5 holdings′ _ five′ (filled-length 0 (map numbersOf (map rowBy values)) (before .holdings) ∙ five) (c ∙ entered ∙ values-filled values (before .holdings) (before .price) five)
+
+      lines-copied : {news : List (List ℕ)} → length (before .lines) ≡ 3 → news ≡ copied rows m lines′ 0 (before .lines)
+          → news ≡ filledFrom 0 (map lineNumbers (s .lines)) (before .lines)
+      unfolding submissionOf
+      lines-copied three c =
+          let entered = entered-copied (from-file .each-line (was-read from-file e)) (lines-held from-file e) 0 (before .lines) (omega (arith, three)) in
+          c ∙ entered ∙ line-values-filled (valuesBy 1 (parsedIn text)) (before .lines) three
+
+      pub all-read : {two : Bool} {holdings′ news : List (List ℕ)} {price′ : List ℕ} (out′ : List ℕ) (r : ℕ) → two ≡ short → two ≡ false
+          → length (before .holdings) ≡ 5 → length holdings′ ≡ 5 → length (before .lines) ≡ 3
+          → holdings′ ++ (price′ ∷ []) ≡ copied rows n book′ 0 (before .holdings ++ (before .price ∷ []))
+          → news ≡ copied rows m lines′ 0 (before .lines)
+          → Answers (makeAnswer 0 n m) out out′ r → Reads text before (makeColumns holdings′ price′ news) out out′ r
       unfolding readingAnswer filled
-      all-read out′ r same fits five three (held-in, prices-in) lined-in answered =
+      all-read out′ r same fits five five′ three book lined answered =
+          let (held-in, prices-in) = book-copied five five′ book in
+          let lined-in = lines-copied three lined in
           let whole : readingAnswer text before out ≡ makeAnswer 0 n m = answer-none text short (no-fault from-file e) ∙ rw (sym same ∙ fits, holdings-counted from-file e, lines-counted from-file e) in
           let zero : filling text before out ≡ s = filling-by {t = true} (rw whole) in
           let fit = file-fits text (no-fault from-file e) in
-          let as-many : length (s .prices) ≡ length (s .rows) = unfold submissionOf in rw (length-map, length-map) in
+          let as-many : length (s .prices) ≡ length (s .rows) = unfold submissionOf in simp length-map in
           record {
             returned = rw whole answered;
             columns = rw zero (λ i. makeColumns (held-in i) (prices-in i) (lined-in i));
