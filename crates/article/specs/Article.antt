@@ -3,7 +3,7 @@ use mathlib.Core.{Path._≡_, Bool.true, Bool.false, Logic._↔_}
 use Prim.Native.Nat.{ℕ, _*_, _≤_, _<_, _+_, min, max}
 use Rattle.article.specs.{Rate.rateOf, Rate.periodOf, Pair.legOf, Pair.allowed, Pair.pairRateOf, Pair.savingRateOf}
 use Rattle.holding.specs.declared.{Kind.the-variants.Bond, Issuer.the-variants.Canada, Issuer.the-variants.Province, Holding.Holding, Side.the-variants.Long, Side.the-variants.Short, Issuer.Issuer}
-use Rattle.holding.specs.declared.{Row.Row}
+use Rattle.holding.specs.declared.Row.{Row}
 use Rattle.lists.specs.Choice.{within}
 use Rattle.holding.specs.Holding.{Ranges, InRange, faultOf, rowOf, holdingOf, Numbers}
 

@@ -6,7 +6,7 @@ use Rattle.lists.specs.Choice.{firstOf, within}
 use Rattle.article.specs.{Answer.Answer, Answer.makeAnswer, Rate.periodOf, Rate.rateOf}
 use Rattle.holding.specs.Holding.{rowOf}
 use Rattle.holding.specs.declared.Holding.{Holding}
-use Rattle.article.specs.declared.{pair.Rule.Rule, pair.Rule.the-variants.Difference, pair.Rule.the-variants.HalfSum, pair.Rule.the-variants.NotAllowed, pair.Leg.Leg, pair.Pair.Pair}
+use Rattle.article.specs.declared.pair.{Rule.Rule, Rule.the-variants.Difference, Rule.the-variants.HalfSum, Rule.the-variants.NotAllowed, Leg.Leg, Pair.Pair}
 use Rattle.article.specs.declared.pair.Pair.the-variants as pairs
 
 -- what a pair asks of a holding: the numbers of its side, kind and issuer, its period, and its rate alone

@@ -4,7 +4,7 @@ use Prim.Native.Nat.{ℕ, _+_, _-_, _*_, _/_}
 use lib.{Dec.ltb, Dec.leb, ListN.getD}
 use Rattle.lists.specs.Choice.{count}
 use Rattle.holding.specs.declared.{Kind.Kind, Kind.the-variants.Bond, Kind.the-variants.Coupon, Kind.the-variants.Residual, Issuer.Issuer, Issuer.the-variants.Canada, Issuer.the-variants.Province}
-use Rattle.holding.specs.declared.{Holding.Holding}
+use Rattle.holding.specs.declared.Holding.{Holding}
 
 -- a term of more than so many years. A year is 365 days here
 unfoldable pub longerThan : ℕ → ℕ → Bool

@@ -3,7 +3,7 @@ use mathlib.Core.{Path._≡_, Bool.cond, List.List, List.[], List._∷_}
 use Prim.Native.Nat.{ℕ, zero, suc, _<_}
 use lib.ListN.{length, getD, take, drop}
 use Rattle.lists.specs.Choice.{same}
-use Rattle.codes.specs.declared.{Place.Place, Place.the-variants.At, Place.the-variants.Nowhere}
+use Rattle.codes.specs.declared.Place.{Place, the-variants.At, the-variants.Nowhere}
 
 -- the first place of a text in a list of texts, whose places go from n on
 unfoldable pub placeFrom : ℕ → List ℕ → List (List ℕ) → Place

@@ -2,7 +2,7 @@
 use mathlib.Core.{Path._≡_, List.List, List.[], List._∷_, List._++_, List.map}
 use Prim.Native.Nat.{ℕ, suc, _+_, _*_, _/_, _≤_, _<_}
 use lib.ListN.{length, getD, take, drop}
-use Rattle.lists.specs.{Tables.Each, Tables.listTo, Tables.front}
+use Rattle.lists.specs.Tables.{Each, listTo, front}
 use Rattle.holding.specs.Holding.{numbersOf, rowBy}
 use Rattle.holding.specs.declared.Row.{Row}
 use Rattle.pairing.specs.declared.Line.{Line}

@@ -5,7 +5,7 @@ use lib.{Dec.ltb, Dec.eqb, ListN.length, ListN.getD, ListN.take, ListN.drop}
 use Rattle.lists.specs.Tables.{listTo, front}
 use Rattle.csv.specs.Grammar.{isText, isQuotable}
 use Rattle.csv.specs.declared.{Span.Span, Found.Found, Found.the-variants.At, Found.the-variants.Nothing, Piece.Piece, Piece.the-variants.Field, Piece.the-variants.Broken, Scanned.Scanned}
-use Rattle.csv.specs.declared.{Scanned.the-variants.Fields, Scanned.the-variants.Malformed}
+use Rattle.csv.specs.declared.Scanned.{the-variants.Fields, the-variants.Malformed}
 
 -- from a place to another
 abbrev pub span : ℕ → ℕ → Span

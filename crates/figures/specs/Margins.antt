@@ -2,7 +2,7 @@
 use mathlib.Core.{Path._≡_, List.List}
 use Prim.Native.Nat.{ℕ, _*_, _≤_}
 use lib.ListN.{length}
-use Rattle.lists.specs.{Tables.sumTo, Tables.listTo, Tables.front}
+use Rattle.lists.specs.Tables.{sumTo, listTo, front}
 use Rattle.holding.specs.Holding.{valueLimit}
 use Rattle.proposal.specs.Submission.{marginLimit}
 use Rattle.packed.specs.Packed.{legAt, Legs, AtMost, entry}

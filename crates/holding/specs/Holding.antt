@@ -5,7 +5,7 @@ use lib.{Dec.eqb, ListN.getD}
 use Rattle.lists.specs.Choice.{firstOf, within}
 use Rattle.holding.specs.declared.{Side.Side, Side.the-variants.Long, Side.the-variants.Short, Kind.Kind, Kind.the-variants.Bond, Kind.the-variants.Coupon, Kind.the-variants.Residual}
 use Rattle.holding.specs.declared.{Issuer.Issuer, Issuer.the-variants.Canada, Issuer.the-variants.Province, Holding.Holding, Row.Row, Built.Built, Built.the-variants.Made}
-use Rattle.holding.specs.declared.{Built.the-variants.Refused}
+use Rattle.holding.specs.declared.Built.{the-variants.Refused}
 
 -- the most cents that a market value may be
 abbrev pub valueLimit : ℕ

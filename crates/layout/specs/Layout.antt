@@ -4,10 +4,10 @@ use Prim.Native.Nat.{ℕ, _≤_, suc, _-_}
 use lib.{Dec.eqb, Dec.leb, ListN.length, ListN.getD, ListN.replicate}
 use Rattle.lists.specs.Tables.{ascii}
 use Rattle.numerals.specs.Numerals.{digits, numeralOf}
-use Rattle.numerals.specs.declared.{Numeral.Numeral, Numeral.the-variants.Number, Numeral.the-variants.NotANumeral}
+use Rattle.numerals.specs.declared.Numeral.{Numeral, the-variants.Number, the-variants.NotANumeral}
 use Rattle.codes.specs.Codes.{placeOf, Named}
-use Rattle.codes.specs.declared.{Place.Place, Place.the-variants.At, Place.the-variants.Nowhere}
-use Rattle.layout.specs.declared.{Sort.Sort, Sort.the-variants.Side, Sort.the-variants.Kind, Sort.the-variants.Issuer, Sort.the-variants.Six, Sort.the-variants.Twelve, Sort.the-variants.Empty}
+use Rattle.codes.specs.declared.Place.{Place, the-variants.At, the-variants.Nowhere}
+use Rattle.layout.specs.declared.Sort.{Sort, the-variants.Side, the-variants.Kind, the-variants.Issuer, the-variants.Six, the-variants.Twelve, the-variants.Empty}
 use Rattle.layout.specs.declared.{Value.Value, Value.the-variants.Of, Value.the-variants.Wrong, Parsed.Parsed, Parsed.the-variants.Good, Parsed.the-variants.Refused, Entry.Entry}
 use Rattle.csv.specs.Reading.{part, Split, fields, malformed, recordAt, fieldCount, Read, formed, broken}
 

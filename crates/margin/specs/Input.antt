@@ -2,7 +2,7 @@
 use mathlib.Core.List.{List}
 use Prim.Native.Nat.{ℕ, _≤_}
 use lib.ListN.{length}
-use Rattle.margin.specs.declared.{Input.Input, Input.the-variants.File, Input.the-variants.Failed}
+use Rattle.margin.specs.declared.Input.{Input, the-variants.File, the-variants.Failed}
 
 -- the bytes of a file are the first of the buffer; of a read that failed nothing is promised
 abbrev pub ReadInto : Input → List ℕ → Type 0

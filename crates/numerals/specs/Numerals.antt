@@ -3,7 +3,7 @@ use mathlib.Core.{Path._≡_, Bool.cond, Bool._&&_, List.List, List.[], List._�
 use Prim.Native.Nat.{ℕ, zero, suc, _+_, _-_, _*_, _/_, _%_}
 use lib.{Dec.leb, ListN.length}
 use Rattle.lists.specs.{Choice.same, Tables.overwrite}
-use Rattle.numerals.specs.declared.{Numeral.Numeral, Numeral.the-variants.Number, Numeral.the-variants.NotANumeral}
+use Rattle.numerals.specs.declared.Numeral.{Numeral, the-variants.Number, the-variants.NotANumeral}
 
 -- the digits of x as bytes, none for 0; k is a number that is not below x
 unfoldable pub lead : ℕ → ℕ → List ℕ

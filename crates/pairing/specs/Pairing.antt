@@ -2,7 +2,7 @@
 -- holdings, and no definition knows what a holding is. Assumes nothing.
 use mathlib.Core.{Path._≡_, Bool.Bool, Bool.true, List.List, List.[], List._∷_}
 use Prim.Native.Nat.{ℕ, _+_, _-_, _*_, _≤_, _<_}
-use Rattle.lists.specs.{Tables.Each, Tables.sumTo, Tables.sumOf, Tables.only}
+use Rattle.lists.specs.Tables.{Each, sumTo, sumOf, only}
 use Rattle.pairing.specs.declared.Line.{Line}
 
 -- a book: how many holdings, each one's value and rate, which pairs are allowed, and each pair's rate

@@ -2,7 +2,7 @@
 use mathlib.Core.{Path._≡_, List.List, List.map}
 use Prim.Native.Nat.{ℕ, _*_, _≤_}
 use lib.ListN.{length}
-use Rattle.lists.specs.{Tables.Each, Tables.front}
+use Rattle.lists.specs.Tables.{Each, front}
 use Rattle.holding.specs.Holding.{valueLimit}
 use Rattle.holding.specs.declared.Row.{Row}
 use Rattle.words.specs.Words.{decode}

@@ -1,11 +1,12 @@
 -- THE PAGE OF THE PROGRAM: what `margin` prints, from the bytes of the file to the bytes that are printed. Assumes nothing.
 use mathlib.Core.{Path._≡_, Logic._↔_, Bool.cond, Bool.false, List.List, List.[], List._∷_, List._++_, List.flatMap}
-use Prim.Native.Nat.{ℕ, _*_, _≤_, _<_}
+use Prim.Native.Nat.{ℕ, _-_, _*_, _≤_, _<_}
 use lib.{Dec.eqb, ListN.length, ListN.getD, ListN.take}
-use Rattle.lists.specs.{Tables.ascii}
+use Rattle.lists.specs.Tables.{ascii}
 use Rattle.article.specs.Answer.{Answer, makeAnswer}
 use Rattle.proposal.specs.{Submission.Submission, Submission.priced, Submission.margin, Submission.remaindersOf, Submission.ranked, Submission.InRankingOrder, Outcome.outcome, Demands.Acceptable}
-use Rattle.proposal.specs.{Demands.Demands}
+use Rattle.proposal.specs.Demands.{Demands}
+use Rattle.csv.specs.Reading.{fieldCount}
 use Rattle.reader.specs.File.{submissionIn, fileFault}
 use Rattle.readable.specs.Readable.{Submits}
 use Rattle.columns.specs.Columns.{Columns, makeColumns, submission, columnIn}
@@ -28,7 +29,7 @@ columnsOf n m book lines =
 pub record TablesHold (n m : ℕ) (book lines : List ℕ) : Type 0 where
   pub few-holdings : n ≤ 512
   pub few-lines : m ≤ 512
-  pub whole-book : length book ≡ 8 * (512 * 6)
+  pub whole-book : length book ≡ 8 * (512 * (fieldCount - 1))
   pub whole-lines : length lines ≡ 8 * (512 * 3)
 
 -- the answer to a file: the reader's refusal with its place; or, of what the file submits, the figures or the check's refusal with its places

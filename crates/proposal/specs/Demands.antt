@@ -7,8 +7,8 @@ use Rattle.holding.specs.Holding.{Ranges, rowOf}
 use Rattle.article.specs.{Answer.Answer, Rate.rateOf, Pair.legOf, Pair.pairRateOf, Article.MayPair, Article.Pairing}
 use Rattle.pairing.specs.Pairing.{used, saving, Covers, pricedTotal, Least}
 use Rattle.pairing.specs.declared.Line.{Line}
-use Rattle.proposal.specs.{Submission.Submission, Submission.termsOf, Submission.priced, Submission.noRow, Submission.holdingAt, Submission.margin, Submission.remaindersOf}
-use Rattle.proposal.specs.{Submission.RoundedUp}
+use Rattle.proposal.specs.Submission.{Submission, termsOf, priced, noRow, holdingAt, margin, remaindersOf}
+use Rattle.proposal.specs.Submission.{RoundedUp}
 
 module _ (s : Submission) where
   -- the limits: none of 3 to 10 holds

@@ -9,8 +9,8 @@ use Rattle.article.specs.{Answer.Answer, Answer.makeAnswer, Pair.isLong, Pair.i
 use Rattle.article.specs.declared.pair.Leg.{Leg}
 use Rattle.pairing.specs.Pairing.{savingRate, saving, pricedTotal}
 use Rattle.pairing.specs.declared.Line.{Line}
-use Rattle.proposal.specs.{Submission.Submission, Submission.PricedBook, Submission.termsOf, Submission.priced, Submission.noRow, Submission.noLine, Submission.priceLimit}
-use Rattle.proposal.specs.{Submission.remainder, Submission.unitsOf, Submission.centsOf}
+use Rattle.proposal.specs.Submission.{Submission, PricedBook, termsOf, priced, noRow, noLine, priceLimit}
+use Rattle.proposal.specs.Submission.{remainder, unitsOf, centsOf}
 use Rattle.proposal.specs.declared.Fault.{Fault}
 
 abbrev pub makeFault : ℕ → ℕ → ℕ → Fault

@@ -8,7 +8,7 @@ use Rattle.article.specs.Pair.{legOf, allowed, pairRateOf, rateLimit, savingLim
 use Rattle.article.specs.declared.pair.Leg.{Leg}
 use Rattle.pairing.specs.Pairing.{Terms, used, pairUnits}
 use Rattle.pairing.specs.declared.Line.{Line}
-use Rattle.lists.specs.{Tables.sumTo, Tables.listTo}
+use Rattle.lists.specs.Tables.{sumTo, listTo}
 use Rattle.ranking.specs.Ranking.{rankingOf, Ranks}
 
 -- a book's rows, the prices on its holdings, and the pair lines

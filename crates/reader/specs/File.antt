@@ -6,11 +6,11 @@ use Rattle.lists.specs.{Choice.firstOf, Tables.inTurn}
 use Rattle.holding.specs.Holding.{rowBy}
 use Rattle.article.specs.Answer.{Answer, makeAnswer}
 use Rattle.proposal.specs.Submission.{Submission, lineBy}
-use Rattle.codes.specs.declared.{Place.Place, Place.the-variants.At, Place.the-variants.Nowhere}
+use Rattle.codes.specs.declared.Place.{Place, the-variants.At, the-variants.Nowhere}
 use Rattle.csv.specs.Reading.{fieldCount, recordsOf}
 use Rattle.layout.specs.Layout.{Meaning, good, refused, parse, mayFollow}
 use Rattle.columns.specs.Columns.{Entered}
-use Rattle.reader.specs.declared.{Contents.Contents, Contents.the-variants.Read, Contents.the-variants.Refused}
+use Rattle.reader.specs.declared.Contents.{Contents, the-variants.Read, the-variants.Refused}
 
 -- the records of a text, parsed, up to the first that is outside the grammar
 unfoldable pub parsedIn : List ℕ → List Meaning

@@ -2,12 +2,12 @@
 use mathlib.Core.{Path._≡_, Bool.cond, List.List, List.[], List._∷_, List._++_, List.flatMap}
 use Prim.Native.Nat.{ℕ, _+_, _*_}
 use lib.{Dec.ltb, Dec.eqb, ListN.length, ListN.getD, ListN.take}
-use Rattle.lists.specs.{Tables.front, Tables.overwrite, Tables.listTo, Tables.ascii}
+use Rattle.lists.specs.Tables.{front, overwrite, listTo, ascii}
 use Rattle.article.specs.Answer.{Answer, makeAnswer}
-use Rattle.report.specs.declared.{Printed.Printed, Printed.the-variants.Written as Put, Printed.the-variants.Refused}
+use Rattle.report.specs.declared.Printed.{Printed, the-variants.Written as Put, the-variants.Refused}
 use Rattle.numerals.specs.Numerals.{digits}
 use Rattle.pairing.specs.declared.Line.{Line}
-use Rattle.proposal.specs.{Submission.Submission, Submission.PricedBook, Submission.priced, Submission.remainder, Submission.margin, Submission.ranked}
+use Rattle.proposal.specs.Submission.{Submission, PricedBook, priced, remainder, margin, ranked}
 use Rattle.verdict.specs.Judges.{answerOf}
 use Rattle.verdict.specs.declared.Verdict.{Verdict}
 

@@ -2,7 +2,7 @@
 use mathlib.Core.Bool.{cond}
 use Prim.Native.Nat.{ℕ, _+_, _-_}
 use Rattle.article.specs.Pair.{allowed, ruleRate, savingRateOf}
-use Rattle.article.specs.declared.{pair.Rule.Rule, pair.Leg.Leg}
+use Rattle.article.specs.declared.pair.{Rule.Rule, Leg.Leg}
 
 -- what a rule saves of two rates: their sum less the rate that it makes of them
 unfoldable pub ruleSaving : Rule → ℕ → ℕ → ℕ

@@ -8,7 +8,7 @@ use Rattle.columns.specs.Columns.{Columns, submission, holdingSizes, lineSizes}
 use Rattle.sizes.specs.Sizes.{differ}
 use Rattle.proposal.specs.{Submission.priced, Submission.remaindersOf, Submission.marginsOf, Submission.ranked, Submission.InRankingOrder, Outcome.outcome, Demands.Demands}
 use Rattle.proposal.specs.declared.Fault.{Fault}
-use Rattle.verdict.specs.declared.{Verdict.Verdict, Verdict.the-variants.Accepted, Verdict.the-variants.Refused}
+use Rattle.verdict.specs.declared.Verdict.{Verdict, the-variants.Accepted, the-variants.Refused}
 
 -- the paper's number and values of each answer: 0 with total units and cents, or the refusal's number with its two places
 abbrev pub answerOf : Verdict → Answer

@@ -3,19 +3,17 @@ use mathlib.Core.Path.{_≡_, refl, sym}
 use mathlib.Core.List.{List}
 use Prim.Native.Nat.{ℕ}
 use native.Mathlib.Omega.{arith}
-use lib.ListN.{length}
-use Rattle.lists.specs.Tables.{zeros}
+use lib.ListN.{length, replicate}
 use Rattle.words.specs.Words.{entries}
 use Rattle.verdict.specs.Judges.{ScratchRoom}
 use Rattle.host.proofs.margin_check.Statement.{statement}
 use Rattle.host.proofs.margin_check.Tie as tie
 
 -- 256 zeros are scratch for a book of up to 256 holdings
-many : {scratch : List ℕ} → scratch ≡ zeros 256 → length scratch ≡ 256
-unfolding zeros
+many : {scratch : List ℕ} → scratch ≡ replicate 256 0 → length scratch ≡ 256
 many e = rw e
 
-room : {n : ℕ} {legs left margins ranks : List ℕ} → legs ≡ zeros 256 → left ≡ zeros 256 → margins ≡ zeros 256 → ranks ≡ zeros 256
+room : {n : ℕ} {legs left margins ranks : List ℕ} → legs ≡ replicate 256 0 → left ≡ replicate 256 0 → margins ≡ replicate 256 0 → ranks ≡ replicate 256 0
     → ScratchRoom n legs left margins ranks
 room a b c d = record { legs-held = λ h. rw (many a) h; left-held = λ h. rw (many b) h; margins-held = λ h. rw (many c) h; ranks-held = λ h. rw (many d) h }
 
