@@ -26,7 +26,8 @@ use Rattle.reader.specs.File.{parsedIn, valuesBy, submissionOf, submissionIn, T
 use Rattle.reader.specs.declared.Contents.{Contents}
 use Rattle.reader.specs.declared.Contents.the-variants.{Read, Refused}
 use Rattle.readable.specs.Readable.{Submits}
-use Rattle.readable.proofs.Answered.{answer-refused, answer-none, answer-exactly, contents-refused, was-read, no-fault, holdings-counted, lines-counted, holdings-held, lines-held, few-holdings, few-lines}
+use Rattle.readable.proofs.Answered.{answer-refused, answer-none, answer-exactly, contents-refused, was-read, no-fault}
+use Rattle.readable.proofs.Answered.{holdings-counted, lines-counted, holdings-held, lines-held, few-holdings, few-lines}
 use Rattle.readable.proofs.Exactly.{read-exactly}
 use Rattle.readable.proofs.Fitting.{file-fits}
 use Rattle.host.specs.Reading.{nothing, readingAnswer, filling, Reads}
@@ -56,6 +57,10 @@ unfolding filledFrom
 filled-length j numbers [] = refl
 filled-length j numbers (old ∷ olds) = ap suc (filled-length (suc j) numbers olds)
 
+-- five columns and one are six
+many : (old : List ℕ) (xs : List (List ℕ)) → length xs ≡ 5 → length (xs ++ (old ∷ [])) ≡ 6
+many old xs f = length-append xs (old ∷ []) ∙ omega (arith, f)
+
 -- lists with one more at their ends are equal, and so are those, where the whole lists are
 parted : (n : ℕ) (xs ys : List (List ℕ)) {x y : List ℕ} → length xs ≡ n → length ys ≡ n → xs ++ (x ∷ []) ≡ ys ++ (y ∷ []) → (xs ≡ ys) × (x ≡ y)
 parted n xs ys {x} {y} l m e =
@@ -81,7 +86,7 @@ module _ (text : List ℕ) (before : Columns) (out : List ℕ) where
   -- on a refusal nothing goes into the columns, and they are left untouched
   filling-by : {t : Bool} → eqb (readingAnswer text before out .number) 0 ≡ t → filling text before out ≡ cond t s nothing
   unfolding filling
-  filling-by e = ap (λ (t : Bool). cond t s nothing) e
+  filling-by {t} e = ap (λ (read : Bool). cond read s nothing) e
 
   refused : (a : Answer) (out′ : List ℕ) (r : ℕ) → readingAnswer text before out ≡ a → a .number ≢ 0 → Answers a out out′ r → Reads text before before out out′ r
   refused a out′ r e h t =
@@ -127,9 +132,6 @@ module _ (text : List ℕ) (before : Columns) (out : List ℕ) where
               (room-exactly (listsOf s before) (length out) .0 (sym same ∙ fits) .each) in
               (rw (← holdings-counted from-file e) (with-room _ (before .holdings ++ (before .price ∷ [])) book), rw (← lines-counted from-file e) (with-room _ (before .lines) lines))
 
-          many : (old : List ℕ) (xs : List (List ℕ)) → length xs ≡ 5 → length (xs ++ (old ∷ [])) ≡ 6
-          many old xs f = length-append xs (old ∷ []) ∙ omega (arith, f)
-
           pub book-room : length (before .holdings) ≡ 5 → CopyRoom rows n book′ (before .holdings ++ (before .price ∷ []))
           book-room five = record {
             few = few-holdings from-file e;
@@ -151,9 +153,10 @@ module _ (text : List ℕ) (before : Columns) (out : List ℕ) where
       unfolding submissionOf
       book-copied {holdings′} five five′ c =
           let values = valuesBy 0 (parsedIn text) in
-          let entered = entered-copied (from-file .each-holding (was-read from-file e)) (holdings-held from-file e) 0 (before .holdings ++ (before .price ∷ []))
-          (omega (arith, length-append (before .holdings) (before .price ∷ []), five)) in
-          parted 5 holdings′ _ five′ (filled-length 0 (map numbersOf (map rowBy values)) (before .holdings) ∙ five) (c ∙ entered ∙ values-filled values (before .holdings) (before .price) five)
+          let all = before .holdings ++ (before .price ∷ []) in
+          let entered = entered-copied (from-file .each-holding (was-read from-file e)) (holdings-held from-file e) 0 all (omega (arith, many (before .price) (before .holdings) five)) in
+          parted 5 holdings′ _ five′ (filled-length 0 (map numbersOf (map rowBy values)) (before .holdings) ∙ five)
+          (c ∙ entered ∙ values-filled values (before .holdings) (before .price) five)
 
       lines-copied : {news : List (List ℕ)} → length (before .lines) ≡ 3 → news ≡ copied rows m lines′ 0 (before .lines)
           → news ≡ filledFrom 0 (map lineNumbers (s .lines)) (before .lines)
@@ -171,7 +174,8 @@ module _ (text : List ℕ) (before : Columns) (out : List ℕ) where
       all-read out′ r same fits five five′ three book lined answered =
           let (held-in, prices-in) = book-copied five five′ book in
           let lined-in = lines-copied three lined in
-          let whole : readingAnswer text before out ≡ makeAnswer 0 n m = answer-none text short (no-fault from-file e) ∙ rw (sym same ∙ fits, holdings-counted from-file e, lines-counted from-file e) in
+          let whole : readingAnswer text before out ≡ makeAnswer 0 n m =
+          answer-none text short (no-fault from-file e) ∙ rw (sym same ∙ fits, holdings-counted from-file e, lines-counted from-file e) in
           let zero : filling text before out ≡ s = filling-by {t = true} (rw whole) in
           let fit = file-fits text (no-fault from-file e) in
           let as-many : length (s .prices) ≡ length (s .rows) = unfold submissionOf in simp length-map in
