@@ -30,7 +30,7 @@ use Rattle.readable.proofs.Answered.{answer-refused, answer-none, answer-exactl
 use Rattle.readable.proofs.Answered.{holdings-counted, lines-counted, holdings-held, lines-held, few-holdings, few-lines}
 use Rattle.readable.proofs.Exactly.{read-exactly}
 use Rattle.readable.proofs.Fitting.{file-fits}
-use Rattle.host.specs.Reading.{nothing, readingAnswer, filling, Reads}
+use Rattle.received.specs.Reading.{nothing, readingAnswer, filling, Reads}
 
 -- nothing goes into the columns
 none-from : (j : ℕ) (columns : List (List ℕ)) → columns ≡ filledFrom j [] columns

@@ -4,9 +4,9 @@ use mathlib.Core.List.{List, [], _∷_}
 use Prim.Native.Nat.{ℕ}
 use borrow.Author.Needs.{needs}
 use Rattle.columns.specs.Columns.{Columns, makeColumns, holdingSizes, lineSizes}
-use Rattle.host.proofs.Received.{short, record-refused, measured, list-refused, book-room, lines-room, all-read}
-use Rattle.host.proofs.read_into.Statement.{statement}
-use Rattle.host.proofs.read_into.Tie as tie
+use Rattle.received.proofs.Received.{short, record-refused, measured, list-refused, book-room, lines-room, all-read}
+use Rattle.received.proofs.read_into.Statement.{statement}
+use Rattle.received.proofs.read_into.Tie as tie
 
 -- from where the text was read back to what is lent
 module _ (c : tie.After-read) where
