@@ -23,10 +23,9 @@ use Rattle.layout.specs.Layout.{byPlace, valueOf, letters, Meaning}
 use Rattle.layout.specs.declared.Sort.{Sort}
 use Rattle.layout.specs.declared.Value.{Value}
 use Rattle.layout.specs.declared.Value.the-variants.{Of, Wrong}
-use Rattle.columns.specs.Columns.{Columns, makeColumns, submission, holdingSizes, lineSizes, listsOf, filled}
-use Rattle.sizes.specs.Sizes.{tooShort, lengthFault}
-use Rattle.lent.specs.Boundary.{makeLent, answered}
-use Rattle.lent.specs.Boundary.{two}
+use Rattle.columns.specs.Columns.{Columns, makeColumns, submission, listsOf, filled}
+use Rattle.sizes.specs.Sizes.{tooShort}
+use Rattle.lent.specs.Boundary.{makeLent, answered, outcomeOf}
 use Rattle.reader.specs.File.{submissionIn, atRecord, readAnswer}
 use Rattle.report.specs.Report.{answerNumbers}
 use Rattle.printing.specs.Printed.{printed}
@@ -139,17 +138,18 @@ zeros n = replicate n 0
 abbrev blank : List ℕ → Columns
 blank z = makeColumns (map zeros (take 5 z)) (zeros (getD z 5 0)) (map zeros (take 3 (drop 6 z)))
 
--- the one refusal by each of several lengths of what a host lends: of nine columns, the two lists and the answer
+-- the one number that the check gives to each of several lengths of what a host lends: of nine columns, the two lists and the answer
 abbrev pub lengths : String → List (List ℕ) → ℕ → Case
 lengths name zs n =
-    let short : List ℕ → Bool = λ z. two (blank z) (makeLent (zeros (getD z 9 0)) (zeros (getD z 10 0)) (zeros (getD z 11 0))) in
-    let found : List ℕ → ℕ = λ z. lengthFault (holdingSizes (blank z)) (lineSizes (blank z)) (short z) in
+    let found : List ℕ → ℕ = λ z. outcomeOf (blank z) (makeLent (zeros (getD z 9 0)) (zeros (getD z 10 0)) (zeros (getD z 11 0))) .number in
     record { name = name; computed = map found zs; stated = map (λ _. n) zs }
 
--- what is submitted, written into columns: the numbers of each column in turn, and what the columns then hold, each number by its name
+-- what is submitted, written into columns of two entries, 0 and 10: the numbers of each column in turn, and what the columns then hold, each number by
+-- its name
 abbrev pub columns : String → List Row → List ℕ → List Line → List ℕ → Case
 columns name rows prices lines expected =
-    let c = filled (record { rows = rows; prices = prices; lines = lines }) (makeColumns (replicate 5 []) [] (replicate 3 [])) in
+    let old = encode (0 ∷ 10 ∷ []) in
+    let c = filled (record { rows = rows; prices = prices; lines = lines }) (makeColumns (replicate 5 old) old (replicate 3 old)) in
     let named : Submission → List ℕ = λ s. flatMap (λ r. r .side ∷ r .kind ∷ r .issuer ∷ r .days ∷ r .value ∷ []) (s .rows) ++ s .prices ++ flatMap (λ l. l .long ∷ l .short ∷ l .amount ∷ []) (s .lines) in
     record { name = name; computed = flatMap decode (c .holdings ++ (c .price ∷ c .lines)) ++ named (submission c); stated = expected }
 

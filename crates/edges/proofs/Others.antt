@@ -1,7 +1,7 @@
 -- Document 01, "Edges" without a star, "Shortcuts that cost margin or hide it", each refusal with its place, and each letter, code and byte of
 -- the file. Assumes nothing.
 use mathlib.Core.Bool.{true, false}
-use mathlib.Core.List.{List, [], _∷_, _++_, map}
+use mathlib.Core.List.{List, [], _∷_, _++_, map, flatMap}
 use Prim.Native.Nat.{ℕ}
 use lib.ListN.{take, drop, set, replicate}
 use Rattle.lists.specs.Tables.{ascii}
@@ -35,6 +35,10 @@ pairing = good 1 (0 ∷ 0 ∷ 1 ∷ [])
 -- the byte lengths for two holdings and one line: each column of the holdings, each of the lines, the two lists and the answer
 abbrev right : List ℕ
 right = replicate 6 16 ++ replicate 3 8 ++ replicate 3 16
+
+-- for one holding and two lines
+abbrev moreLines : List ℕ
+moreLines = replicate 6 8 ++ replicate 3 16 ++ (8 ∷ 8 ∷ 16 ∷ [])
 
 -- one holding, one pair
 unfoldable pub single : List Case
@@ -139,29 +143,41 @@ recordFaults =
     ∷ prints "a price of seven digits" (H "L,B,CA,1,1,1000000") "X,21,0,0\r\n"
     ∷ prints "a price of six digits, at holding 1" (H "L,B,CA,1,1,43800" ++ H "L,B,CA,1,1,999999") "X,10,1,0\r\n"
     ∷ prints "an amount of 13 digits" (P "0,0,1000000000000") "X,21,0,0\r\n"
-    ∷ prints "a number of seven digits" (P "0,1000000,1") "X,21,0,0\r\n"
+    ∷ prints "an amount of 12 digits, with no H before" (P "0,0,999999999999") "X,11,0,0\r\n"
+    ∷ prints "a long of seven digits" (P "1000000,0,1") "X,21,0,0\r\n"
+    ∷ prints "a short of seven digits" (P "0,1000000,1") "X,21,0,0\r\n"
     ∷ prints "a fifth field that is filled" (ascii "P,0,0,1,0" ++ drop 1 emptyFields ++ ascii "\r\n") "X,21,0,0\r\n"
     ∷ prints "a record is finished before the next" (H "L,B,CA,01,1,0" ++ unended (H "L,B,CA,1,1,0") ++ ascii "\n") "X,21,0,0\r\n"
     ∷ prints "19 before 20" (unended (H "L,B,CA,1,1,0,,") ++ ascii "\n") "X,19,0,0\r\n"
     ∷ prints "20 before 21" (ascii "Q" ++ drop 1 (H "L,B,CA,1,1")) "X,20,0,0\r\n"
     ∷ []
 
--- what a host lends: 1 for columns that differ or hold no whole numbers, 2 for lists that are too short; what columns hold; the answer slice; what the reader answers
+-- what a host lends: 1 for columns that differ or hold no whole numbers, 2 for lists that are too short, and else 7 for the zeros that the columns hold;
+-- what columns hold; the answer slice
 unfoldable pub lending : List Case
 lending =
-    lengths "all lengths right, or lists of 21 bytes" (right ∷ (take 9 right ++ replicate 3 21) ∷ []) 0
+    lengths "all lengths right, lists of 21 bytes, or more lines than holdings" (right ∷ (take 9 right ++ replicate 3 21) ∷ moreLines ∷ []) 7
+    ∷ lengths "nothing but the answer" ((replicate 11 0 ++ (16 ∷ [])) ∷ []) 0
+    ∷ lengths "1 before 2" (set (set right 5 8) 11 15 ∷ []) 1
     ∷ lengths "one side, kind, issuer, days, value or price" (map (λ j. set right j 8) (0 ∷ 1 ∷ 2 ∷ 3 ∷ 4 ∷ 5 ∷ [])) 1
     ∷ lengths "three prices, two longs, no short, or two amounts" (set right 5 24 ∷ set right 6 16 ∷ set right 7 0 ∷ set right 8 16 ∷ []) 1
     ∷ lengths "holdings of 21 bytes, or lines of 13" ((replicate 6 21 ++ drop 6 right) ∷ (take 6 right ++ replicate 3 13 ++ drop 9 right) ∷ []) 1
     ∷ lengths "one remainder, one rank, or an answer of 15 bytes" (set right 9 15 ∷ set right 10 15 ∷ set right 11 15 ∷ []) 2
-    ∷ columns "the columns, each number by its name" (row 1 2 3 4 5 ∷ []) (6 ∷ []) (line 7 8 9 ∷ []) (1 ∷ 2 ∷ 3 ∷ 4 ∷ 5 ∷ 6 ∷ 7 ∷ 8 ∷ 9 ∷ 1 ∷ 2 ∷ 3 ∷ 4 ∷ 5 ∷ 6 ∷ 7 ∷ 8 ∷ 9 ∷ [])
+    ∷ columns "the columns, each number by its name" (row 1 2 3 4 5 ∷ []) (6 ∷ []) (line 7 8 9 ∷ []) (flatMap (λ n. n ∷ 10 ∷ []) (1 ∷ 2 ∷ 3 ∷ 4 ∷ 5 ∷ 6 ∷ 7 ∷ 8 ∷ 9 ∷ []) ++ (1 ∷ 2 ∷ 3 ∷ 4 ∷ 5 ∷ 10 ∷ 10 ∷ 10 ∷ 10 ∷ 10 ∷ 6 ∷ 10 ∷ 7 ∷ 8 ∷ 9 ∷ 10 ∷ 10 ∷ 10 ∷ []))
     ∷ slice "15 bytes stay as they were" (replicate 15 9) (replicate 15 9)
     ∷ slice "20 bytes keep the last four" (replicate 20 9) (1 ∷ 0 ∷ 0 ∷ 0 ∷ 0 ∷ 0 ∷ 0 ∷ 0 ∷ 2 ∷ 0 ∷ 0 ∷ 0 ∷ 0 ∷ 0 ∷ 0 ∷ 0 ∷ 9 ∷ 9 ∷ 9 ∷ 9 ∷ [])
-    ∷ answers "read: two holdings, one line" right (H "L,B,CA,1,1,0" ++ H "L,B,CA,1,1,0" ++ P "0,0,1") 16 (0 ∷ 2 ∷ 1 ∷ [])
+    ∷ []
+
+-- what the reader answers to a text and to what is lent: the counts, or 2 after all records
+unfoldable pub reading : List Case
+reading =
+    answers "read: two holdings, one line" right (H "L,B,CA,1,1,0" ++ H "L,B,CA,1,1,0" ++ P "0,0,1") 16 (0 ∷ 2 ∷ 1 ∷ [])
+    ∷ answers "read: one holding, two lines" moreLines (H "L,B,CA,1,1,0" ++ P "0,0,1" ++ P "0,0,1") 16 (0 ∷ 1 ∷ 2 ∷ [])
+    ∷ answers "read: an empty file into empty columns" [] [] 16 (0 ∷ 0 ∷ 0 ∷ [])
     ∷ answers "read, and a price column too short" (set right 5 15) (H "L,B,CA,1,1,0" ++ H "L,B,CA,1,1,0") 16 (2 ∷ 0 ∷ 0 ∷ [])
     ∷ answers "read, and a column of amounts too short" (set right 8 15) (H "L,B,CA,1,1,0" ++ P "0,0,1" ++ P "0,0,1") 16 (2 ∷ 0 ∷ 0 ∷ [])
     ∷ answers "read, and an answer of 15 bytes" right (H "L,B,CA,1,1,0") 15 (2 ∷ 0 ∷ 0 ∷ [])
-    ∷ answers "a bad record before a list too short" [] (H "L,B,CA,1,1,0" ++ H "L,B,CA,01,1,0") 16 (21 ∷ 1 ∷ 0 ∷ [])
+    ∷ answers "a bad record before a list and an answer too short" [] (H "L,B,CA,1,1,0" ++ H "L,B,CA,01,1,0") 15 (21 ∷ 1 ∷ 0 ∷ [])
     ∷ []
 
 -- one record too many: the reader's 3 and 9 name no place, and 22 comes before 3
