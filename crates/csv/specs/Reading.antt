@@ -113,7 +113,7 @@ textsOf text malformed = []
 unfoldable pub textsIn : List ℕ → ℕ → List ℕ → List ℕ → List (List ℕ)
 textsIn text count starts ends = take count (listTo fieldCount (λ k. part text (span (getD starts k 0) (getD ends k 0))))
 
--- field k of a record that was read: the part of the text between its separators, enclosing quotes dropped; empty for a k that it does not have
+-- field k of a record that was read, of its first fieldCount: the part of the text between its separators, enclosing quotes dropped; else empty
 pub record HandsBack (text : List ℕ) (count : ℕ) (starts ends : List ℕ) (k : ℕ) (r : List ℕ) : Type 0 where
   -- by the places in the lists
   pub by-places : r ≡ getD (textsIn text count starts ends) k []

@@ -205,7 +205,7 @@ fn part(text: &[u8], start: usize, end: usize) -> &[u8]
 }
 
 // Field k of a record that was read, from the count and the places that `record` gave: the part of the text between its separators, enclosing
-// quotes dropped. A k that the record does not have gives the empty part.
+// quotes dropped. A k that the record does not have, or from FIELDS on, gives the empty part.
 pub fn field<'a, 'b>(
     text: &'a [u8],
     count: usize,

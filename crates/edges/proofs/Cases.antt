@@ -23,10 +23,10 @@ use Rattle.layout.specs.Layout.{byPlace, valueOf, letters, Meaning}
 use Rattle.layout.specs.declared.Sort.{Sort}
 use Rattle.layout.specs.declared.Value.{Value}
 use Rattle.layout.specs.declared.Value.the-variants.{Of, Wrong}
-use Rattle.columns.specs.Columns.{Columns, makeColumns, submission, listsOf, filled}
-use Rattle.sizes.specs.Sizes.{tooShort}
+use Rattle.columns.specs.Columns.{Columns, makeColumns, submission, filled}
 use Rattle.lent.specs.Boundary.{makeLent, answered, outcomeOf}
-use Rattle.reader.specs.File.{submissionIn, atRecord, readAnswer}
+use Rattle.reader.specs.File.{atRecord}
+use Rattle.received.specs.Reading.{readingAnswer}
 use Rattle.report.specs.Report.{answerNumbers}
 use Rattle.printing.specs.Printed.{printed}
 
@@ -160,7 +160,7 @@ slice name old expected = record { name = name; computed = answered (makeAnswer 
 -- what the reader answers to a text and to columns of so many bytes, with an answer slice
 abbrev pub answers : String → List ℕ → List ℕ → ℕ → List ℕ → Case
 answers name sizes text slice expected =
-    record { name = name; computed = answerNumbers (readAnswer (tooShort (listsOf (submissionIn text) (blank sizes)) slice) text); stated = expected }
+    record { name = name; computed = answerNumbers (readingAnswer text (blank sizes) (zeros slice)); stated = expected }
 
 -- an H and a P of the file by the fields that are filled: the empty ones follow, and CRLF
 abbrev pub emptyFields : List ℕ

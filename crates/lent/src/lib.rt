@@ -5,8 +5,7 @@ ghost use Rattle.article.specs.Answer.{makeAnswer};
 ghost use Rattle.words.specs.Words.{entries};
 ghost use Rattle.columns.specs.Columns.{makeColumns};
 ghost use Rattle.verdict.specs.Judges.{ScratchRoom};
-ghost use Rattle.lent.specs.Boundary.{makeLent, Answers};
-ghost use Rattle.lent.specs.Boundary.{Checks};
+ghost use Rattle.lent.specs.Boundary.{makeLent, Answers, Checks};
 
 // Puts two numbers into an answer slice of 16 bytes or more, and returns the number.
 pub fn put_answer(number: u64, first: u64, second: u64, out: &mut [u8]) -> u64

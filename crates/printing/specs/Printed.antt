@@ -2,7 +2,7 @@
 use mathlib.Core.{Path._≡_, Logic._↔_, Bool.cond, Bool.false, List.List, List.[], List._∷_, List._++_, List.flatMap}
 use Prim.Native.Nat.{ℕ, _-_, _*_, _≤_, _<_}
 use lib.{Dec.eqb, ListN.length, ListN.getD, ListN.take}
-use Rattle.lists.specs.Tables.{ascii}
+use Rattle.lists.specs.Tables.{ascii, front}
 use Rattle.article.specs.Answer.{Answer, makeAnswer}
 use Rattle.proposal.specs.{Submission.Submission, Submission.priced, Submission.margin, Submission.remaindersOf, Submission.ranked, Submission.InRankingOrder, Outcome.outcome, Demands.Acceptable}
 use Rattle.proposal.specs.Demands.{Demands}
@@ -19,7 +19,7 @@ pub record PrintsColumns (c : Columns) (before after : List ℕ) (r : Printed) :
   pub prints : Prints (printedOf (submission c) (outcomeIn false c)) before after r
   pub room : length (printedOf (submission c) (outcomeIn false c)) ≤ reportRoom
 
--- the columns of the first n holdings and the first m lines of two tables, and that they are there
+-- the columns of the first n holdings and the first m lines of two tables, and tables that hold them
 abbrev pub columnsOf : ℕ → ℕ → List ℕ → List ℕ → Columns
 columnsOf n m book lines =
     let held : ℕ → List ℕ = columnIn 512 n book in
@@ -56,8 +56,8 @@ module _ (text before after : List ℕ) (r : Printed) where
   pub record PrintsFile : Type 0 where
     -- the bytes stand at the front of the list, all others are kept, and they are counted; or the list is too short
     pub prints : Prints (printed text) before after r
-    -- a list that holds the bytes is written: 0 and how many they are; its first bytes are then those that are printed
-    pub written : length (printed text) ≤ length before → (printedAnswer r ≡ makeAnswer 0 (length (printed text)) 0) × (take (length (printed text)) after ≡ printed text)
+    -- a list that holds the bytes is written: 0 and how many they are, with the bytes at its front and all others kept
+    pub written : length (printed text) ≤ length before → (printedAnswer r ≡ makeAnswer 0 (length (printed text)) 0) × (after ≡ front (printed text) before)
     -- a list that is shorter is refused with 2, and left alone
     pub too-short : length before < length (printed text) → (printedAnswer r ≡ makeAnswer 2 0 0) × (after ≡ before)
     -- 257 lines of at most 66 bytes hold whatever is printed

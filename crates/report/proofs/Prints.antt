@@ -44,10 +44,10 @@ module _ {text old now : List ℕ} {r : Printed} (p : Prints text old now r) whe
       let t = lt-ltb (length old) (length text) h in
       (rw t at (p .case), rw t at (p .bytes))
 
-  pub prints-written : length text ≤ length old → (printedAnswer r ≡ makeAnswer 0 (length text) 0) × (take (length text) now ≡ text)
+  pub prints-written : length text ≤ length old → (printedAnswer r ≡ makeAnswer 0 (length text) 0) × (now ≡ front text old)
   prints-written h =
       let (e, w) = put-case h in
-      (rw e, written-part w)
+      (rw e, w .bytes ∙ overwrite-front text old)
 
   pub prints-too-short : length old < length text → (printedAnswer r ≡ makeAnswer 2 0 0) × (now ≡ old)
   prints-too-short h =

@@ -25,7 +25,7 @@ abbrev pub printedAnswer : Printed → Answer
 printedAnswer (Put bytes) = makeAnswer 0 bytes 0
 printedAnswer (Refused number) = makeAnswer number 0 0
 
--- a text printed into a list: at its front, all other bytes kept, its own counted; a list that is shorter is left alone, and 2 said
+-- a text printed into a list: at its front, all other bytes kept, its own counted; a list that is shorter is left alone, and 2 returned
 pub record Prints (text old now : List ℕ) (r : Printed) : Type 0 where
   pub case : r ≡ cond (ltb (length old) (length text)) (Refused 2) (Put (length text))
   pub bytes : now ≡ cond (ltb (length old) (length text)) old (front text old)
