@@ -23,11 +23,12 @@ accepted c = c .before .before .before .before .before .before .before .before .
 abbrev refused : tie.After-slice-known15 → tie.After-verdict2
 refused c = c .before .before .before .before .before
 
+abbrev begun : tie.After-lists-too-short → tie.Start
+begun c = c .before .before .before .before .before .before .before .before .before .before .before .before .before .before .before .before .before
+
 -- the lists as they were lent
 abbrev lists : tie.After-lists-too-short → Lent
-lists c =
-    let start = c .before .before .before .before .before .before .before .before .before .before .before .before .before .before .before .before .before in
-    makeLent (start .args .remainder .now) (start .args .ranking .now) (start .args .answer .now)
+lists c = makeLent (begun c .args .remainder .now) (begun c .args .ranking .now) (begun c .args .answer .now)
 
 returns : tie.Need-returns
 unfolding countIn entries two writtenLists
@@ -44,7 +45,7 @@ judge-spec =
     tie.close
     (tie.spec
     (λ _ _. tt)
-    (λ c κs. search needs)
+    (λ c _. begun (c .before .before .before .before) .pre)
     (λ c. search needs)
     (λ c κs.
     let v = c .before .before .before in
