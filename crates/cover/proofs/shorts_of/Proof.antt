@@ -1,5 +1,6 @@
 -- `shorts_of` fills the columns of the shorts: each turn passes a holding, or writes one more short. Assumes nothing.
 use mathlib.Core.Logic.{⊎-elim}
+use Prim.{tt}
 use Prim.Native.Nat.{_-_}
 use native.Mathlib.Omega.{arith}
 use borrow.Author.Needs.{needs}
@@ -23,7 +24,7 @@ shared-slice-read-leg-in : tie.Need-shared-slice-read-leg-in Inv-loop μ-loop
 shared-slice-read-leg-in c = search needs
 
 leg-in-requires : tie.Need-leg-in-requires Inv-loop μ-loop
-leg-in-requires c κs = search needs
+leg-in-requires _ _ = tt
 
 mark-of-requires : tie.Need-mark-of-requires Inv-loop μ-loop
 mark-of-requires c κs = rw (c .before .before .leg-in .ensures) (period-low _)
@@ -35,13 +36,13 @@ element-write-marks : tie.Need-element-write-marks Inv-loop μ-loop
 element-write-marks c = search needs
 
 strip-mark-requires : tie.Need-strip-mark-requires Inv-loop μ-loop
-strip-mark-requires c κs = search needs
+strip-mark-requires _ _ = tt
 
 mul-strips : tie.Need-mul-strips Inv-loop μ-loop
-mul-strips c = search needs
+mul-strips c = mul-marks (c .before)
 
 element-write-strips : tie.Need-element-write-strips Inv-loop μ-loop
-element-write-strips c = search needs
+element-write-strips c = element-write-marks (c .before)
 
 cast-rates : tie.Need-cast-rates Inv-loop μ-loop
 cast-rates c =
@@ -50,10 +51,10 @@ cast-rates c =
     omega (arith, rate-low _ (start .pre .0) (turn .loop-test .taken) (c .before .before .before .before .before .leg-in .ensures))
 
 mul-rates : tie.Need-mul-rates Inv-loop μ-loop
-mul-rates c = search needs
+mul-rates c = mul-marks (c .before .before)
 
 element-write-rates : tie.Need-element-write-rates Inv-loop μ-loop
-element-write-rates c = search needs
+element-write-rates c = element-write-marks (c .before .before)
 
 word-requires : tie.Need-word-requires Inv-loop μ-loop
 word-requires c κs = search needs
@@ -65,10 +66,10 @@ cast-prices c =
     omega (arith, c .word .ensures, start .pre .0 .high _ (turn .loop-test .taken))
 
 mul-prices : tie.Need-mul-prices Inv-loop μ-loop
-mul-prices c = search needs
+mul-prices c = mul-marks (c .before .before .before)
 
 element-write-prices : tie.Need-element-write-prices Inv-loop μ-loop
-element-write-prices c = search needs
+element-write-prices c = element-write-marks (c .before .before .before)
 
 add-m : tie.Need-add-m Inv-loop μ-loop
 add-m c = search needs

@@ -1,4 +1,5 @@
 -- `judge` checks what is lent, and writes what is accepted. Assumes nothing.
+use Prim.{tt}
 use borrow.Author.Needs.{needs}
 use Rattle.words.specs.Words.{entries}
 use Rattle.columns.specs.Columns.{countIn}
@@ -15,11 +16,19 @@ checked c = c .before .before .before .before .before .before .before .before
 abbrev tested : tie.After-check → tie.After-lists-too-short
 tested c = c .before .before .before .before .before
 
+-- from the two ends back to the check's case
+abbrev accepted : tie.After-slice-known14 → tie.After-verdict
+accepted c = c .before .before .before .before .before .before .before .before .before .before .before .before .before .before .before
+
+abbrev refused : tie.After-slice-known15 → tie.After-verdict2
+refused c = c .before .before .before .before .before
+
+abbrev begun : tie.After-lists-too-short → tie.Start
+begun c = c .before .before .before .before .before .before .before .before .before .before .before .before .before .before .before .before .before
+
 -- the lists as they were lent
 abbrev lists : tie.After-lists-too-short → Lent
-lists c =
-    let start = c .before .before .before .before .before .before .before .before .before .before .before .before .before .before .before .before .before in
-    makeLent (start .args .remainder .now) (start .args .ranking .now) (start .args .answer .now)
+lists c = makeLent (begun c .args .remainder .now) (begun c .args .ranking .now) (begun c .args .answer .now)
 
 returns : tie.Need-returns
 unfolding countIn entries two writtenLists
@@ -27,7 +36,7 @@ returns c =
     let a = c .before .before in
     let q = a .before .before .before .before in
     let p = q .before .before .before .before .before in
-    let v = p .before .before .before .before in
+    let v = accepted c in
     let k = checked (v .before .before) in
     accepted-checks _ _ (tested k .lists-too-short .ensures) (k .check .ensures) (v .verdict .given .1) (p .write-words .ensures) (q .write-words2 .ensures) (a .put-answer .ensures)
 
@@ -35,8 +44,8 @@ pub judge-spec : {M : Type 1} → statement M
 judge-spec =
     tie.close
     (tie.spec
-    (λ c κs. search needs)
-    (λ c κs. search needs)
+    (λ _ _. tt)
+    (λ c _. begun (c .before .before .before .before) .pre)
     (λ c. search needs)
     (λ c κs.
     let v = c .before .before .before in
@@ -48,25 +57,24 @@ judge-spec =
     let k = checked (v .before .before) in
     unfold countIn entries two writtenLists in
     ranking-room _ (lists (tested k)) (tested k .lists-too-short .ensures) (k .check .ensures) (v .verdict .given .1))
-    (λ c κs. search needs)
-    (λ c. search needs)
-    (λ c. search needs)
-    (λ c. search needs)
-    (λ c. search needs)
-    (λ c. search needs)
-    (λ c. search needs)
-    (λ c. search needs)
+    (λ _ _. tt)
+    (λ c. c .before .before .before .before .before .before .before .before .before .before .before .write-words .kept .1 .1 .0)
+    (λ c. c .before .before .before .before .before .before .write-words2 .kept .1 .1 .0)
+    (λ c. c .before .before .put-answer .kept .1 .1 .1 .0)
+    (λ c. checked (accepted c .before .before) .check .kept .1 .1 .1 .1 .1 .1 .1 .1 .1 .1 .0)
+    (λ c. checked (accepted c .before .before) .check .kept .1 .1 .1 .1 .1 .1 .1 .1 .1 .1 .1 .0)
+    (λ c. checked (accepted c .before .before) .check .kept .1 .1 .1 .1 .1 .1 .1 .1 .1 .1 .1 .1 .0)
+    (λ c. checked (accepted c .before .before) .check .kept .1 .1 .1 .1 .1 .1 .1 .1 .1 .1 .1 .1 .1 .0)
     returns
     (λ c. search needs)
-    (λ c κs. search needs)
-    (λ c. search needs)
-    (λ c. search needs)
-    (λ c. search needs)
-    (λ c. search needs)
-    (λ c. search needs)
+    (λ _ _. tt)
+    (λ c. c .before .before .put-answer2 .kept .1 .1 .1 .0)
+    (λ c. checked (refused c .before .before) .check .kept .1 .1 .1 .1 .1 .1 .1 .1 .1 .1 .0)
+    (λ c. checked (refused c .before .before) .check .kept .1 .1 .1 .1 .1 .1 .1 .1 .1 .1 .1 .0)
+    (λ c. checked (refused c .before .before) .check .kept .1 .1 .1 .1 .1 .1 .1 .1 .1 .1 .1 .1 .0)
+    (λ c. checked (refused c .before .before) .check .kept .1 .1 .1 .1 .1 .1 .1 .1 .1 .1 .1 .1 .1 .0)
     (λ c.
-    let a = c .before .before in
-    let v = a .before .before .before in
+    let v = refused c in
     let k = checked (v .before .before) in
     unfold countIn entries two writtenLists in
-    refused-checks _ _ (tested k .lists-too-short .ensures) (k .check .ensures) (v .verdict2 .given .1) (a .put-answer2 .ensures)))
+    refused-checks _ _ (tested k .lists-too-short .ensures) (k .check .ensures) (v .verdict2 .given .1) (c .before .before .put-answer2 .ensures)))

@@ -1,9 +1,10 @@
 -- `check` judges what its columns hold: each phase's promise, handed to the laws of the phases. Assumes nothing.
-use mathlib.Core.Path.{refl, ap, _∙_}
+use mathlib.Core.Path.{_≡_, refl, ap, _∙_}
+use Prim.{tt}
 use mathlib.Core.List.{List, [], _∷_}
 use Prim.Native.Nat.{ℕ}
 use native.Mathlib.Omega.{arith}
-use borrow.Author.Needs.{needs}
+use lib.ListN.{length}
 use Rattle.words.specs.Words.{entries}
 use Rattle.columns.specs.Columns.{countIn, holdingSizes, lineSizes}
 use Rattle.verdict.specs.Judges.{refusalOf}
@@ -70,6 +71,19 @@ before-total c = c .before .before .before
 abbrev begun : tie.Else2 → tie.Start
 begun c = start (before-open (opened c) .before)
 
+abbrev all-taken : tie.After-cents-of → tie.Else3
+all-taken c = before-pairs (before-total (compared (c .before .before .before .before .before .before .before .before .before)))
+
+-- the lists that were lent are as long as before
+abbrev legs-long : (c : tie.After-open) → length (legs c) ≡ length (start (before-open c .before) .args .legs .now)
+legs-long c = c .«open» .kept .1 .1 .1 .1 .1 .1 .0
+
+abbrev left-long : (c : tie.After-open) → length (left c) ≡ length (start (before-open c .before) .args .left .now)
+left-long c = c .«open» .kept .1 .1 .1 .1 .1 .1 .1 .0
+
+abbrev left-after : (c : tie.After-take-lines) → length (c .take-lines .last .1 .1 .0) ≡ length (begun (c .before .before .before) .args .left .now)
+left-after c = c .take-lines .kept .1 .1 .0 ∙ left-long (opened (c .before .before .before))
+
 returns-6 : tie.Need-returns-6
 returns-6 c =
     let r = c .before .before .before in
@@ -94,14 +108,13 @@ rank-requires c κs =
       room .ranks-held (h .sized .few),
     )
 
--- the lists' lengths at the end rest on what is out of the search's reach from there
 pub check-spec : {M : Type 1} → statement M
 check-spec =
     tie.close
     (tie.spec
-    (λ c κs. search needs)
-    (λ c κs. search needs)
-    (λ c κs. search needs)
+    (λ _ _. tt)
+    (λ _ _. tt)
+    (λ _ _. tt)
     (λ c.
     let test = c .before .before in
     unfold holdingSizes lineSizes in
@@ -111,25 +124,25 @@ check-spec =
     let room = start (c .before .before .before) .pre in
     unfold countIn entries in
     record { few = z .few; each = z .each; prices = z .prices; legs-held = room .legs-held (z .few); left-held = room .left-held (z .few) })
-    (λ c κs. search needs)
-    (λ c. search needs)
-    (λ c. search needs)
+    (λ _ _. tt)
+    (λ c. legs-long (c .before .before .before .before .before .before .before))
+    (λ c. left-long (c .before .before .before .before .before .before .before))
     (λ c.
     let o = c .before .before .before .before .before .before .before in
     let z = sized (before-open o) in
     unfold entries in
     book-refused _ _ _ _ _ _ z (start (before-open o .before) .pre .left-held (z .few)) (o .«open» .ensures) (c .before .if2 .taken) (c .refused2 .ensures))
     (λ c κs. lines-lent _ _ _ _ _ _ (held (c .before .before)))
-    (λ c κs. search needs)
-    (λ c. search needs)
-    (λ c. search needs)
+    (λ _ _. tt)
+    (λ c. legs-long (opened (c .before .before .before .before .before .before .before .before .before)))
+    (λ c. left-after (c .before .before .before .before .before .before))
     (λ c.
     let w = c .before .before .before .before .before .before in
     line-refused _ _ _ _ _ _ (held (w .before .before .before)) (w .take-lines .ensures) (c .before .if3 .taken) (c .refused3 .ensures))
     (λ c κs. prices-lent _ _ _ _ _ _ (held (before-lines (c .before))))
-    (λ c κs. search needs)
-    (λ c. search needs)
-    (λ c. search needs)
+    (λ _ _. tt)
+    (λ c. legs-long (opened (before-lines (c .before .before .before .before .before))))
+    (λ c. left-after (taken (c .before .before .before .before .before)))
     (λ c.
     let g = c .before .before .before in
     let e = g .before .before in
@@ -137,18 +150,10 @@ check-spec =
     (λ c κs.
     let h = held (before-lines (before-pairs c)) in
     values-lent _ _ _ _ _ _ h (h .sized .each .1 .1 .1 .1 .0))
-    (λ c κs. search needs)
-    (λ c κs. search needs)
-    (λ c.
-    let book = opened (before-lines (before-pairs (c .before .before .before .before .before))) .«open» in
-    search needs)
-    (λ c.
-    let e = before-pairs (c .before .before .before .before .before) in
-    let lines = taken e .take-lines in
-    let lent = taken e .before .take-lines-arg2 in
-    let kept = before-lines e .before .before .before .left in
-    let book = opened (before-lines e) .«open» in
-    search needs)
+    (λ _ _. tt)
+    (λ _ _. tt)
+    (λ c. legs-long (opened (before-lines (before-pairs (c .before .before .before .before .before)))))
+    (λ c. left-after (taken (before-pairs (c .before .before .before .before .before))))
     (λ c.
     let test = c .before .before in
     let g = test .before .before .before in
@@ -164,17 +169,9 @@ check-spec =
     let e = before-pairs (before-total (compared m)) in
     omega (arith, taken e .take-lines .ensures .units-high, m .margins-of .ensures .sum-high, held (before-lines e) .sized .few))
     rank-requires
-    (λ c κs. search needs)
-    (λ c.
-    let book = opened (before-lines (before-pairs (before-total (compared (c .before .before .before .before .before .before .before .before .before))))) .«open» in
-    search needs)
-    (λ c.
-    let e = before-pairs (before-total (compared (c .before .before .before .before .before .before .before .before .before))) in
-    let lines = taken e .take-lines in
-    let lent = taken e .before .take-lines-arg2 in
-    let kept = before-lines e .before .before .before .left in
-    let book = opened (before-lines e) .«open» in
-    search needs)
-    (λ c. search needs)
-    (λ c. search needs)
+    (λ _ _. tt)
+    (λ c. legs-long (opened (before-lines (all-taken c))))
+    (λ c. left-after (taken (all-taken c)))
+    (λ c. c .before .before .before .before .before .before .before .before .before .margins-of .kept .1 .1 .1 .0)
+    (λ c. c .before .before .before .rank .kept .1 .1 .0)
     returns-6)
