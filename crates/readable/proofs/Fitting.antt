@@ -1,9 +1,8 @@
--- The numbers of what a text submits fit in eight bytes, and a file that is read submits no more than may be checked. Assumes nothing.
-use mathlib.Core.Path.{_≡_, refl, ap}
+-- The numbers of what a text submits fit in eight bytes. Assumes nothing.
+use mathlib.Core.Path.{_≡_}
 use mathlib.Core.List.{List, [], _∷_}
-use Prim.Native.Nat.{ℕ, suc, _^_, _≤_, _<_}
+use Prim.Native.Nat.{ℕ, _^_, _<_}
 use native.Mathlib.Omega.{arith}
-use lib.ListN.{length}
 use Rattle.lists.specs.Tables.{Each}
 use Rattle.lists.proofs.Entries.{each-so, each-parts}
 use Rattle.holding.specs.Holding.{numbersOf}
@@ -23,31 +22,24 @@ record-fits k [] vs is = absurd is
 record-fits k (letter ∷ texts) vs is =
     each-so (λ (v : ℕ). v < 10 ^ 12) (λ v. v < 2 ^ 64) (λ v l. omega (arith, l)) vs (each-parts (λ (v : ℕ). v < 10 ^ 12) vs _ (values-below (is .1)) .0)
 
-pub record HoldingsFit (rows : List Row) (prices : List ℕ) : Type 0 where
-  pub each-row : Each (λ row. Fits (numbersOf row)) rows
-  pub each-price : Fits prices
-  pub as-many : length prices ≡ length rows
+record HoldingsFit (rows : List Row) (prices : List ℕ) : Type 0 where
+  each-row : Each (λ row. Fits (numbersOf row)) rows
+  each-price : Fits prices
 
-pub holdings-fit : {rs : List (List (List ℕ))} {rows : List Row} {prices : List ℕ} → AreHoldings rs rows prices → HoldingsFit rows prices
-holdings-fit no-holdings = record { each-row = tt; each-price = tt; as-many = refl }
+holdings-fit : {rs : List (List (List ℕ))} {rows : List Row} {prices : List ℕ} → AreHoldings rs rows prices → HoldingsFit rows prices
+holdings-fit no-holdings = record { each-row = tt; each-price = tt }
 holdings-fit (holding-and {r} {row} {price} is rest) =
     let (numbers, last) = each-parts (λ (x : ℕ). x < 2 ^ 64) (numbersOf row) (price ∷ []) (record-fits 0 r _ is) in
     let more = holdings-fit rest in
-    record { each-row = (numbers, more .each-row); each-price = (last .0, more .each-price); as-many = ap suc (more .as-many) }
+    record { each-row = (numbers, more .each-row); each-price = (last .0, more .each-price) }
 
-pub lines-fit : {rs : List (List (List ℕ))} {lines : List Line} → AreLines rs lines → Each (λ line. Fits (lineNumbers line)) lines
+lines-fit : {rs : List (List (List ℕ))} {lines : List Line} → AreLines rs lines → Each (λ line. Fits (lineNumbers line)) lines
 lines-fit no-lines = tt
 lines-fit (line-and {r} is rest) = (record-fits 1 r _ is, lines-fit rest)
 
--- a file that is read
-module _ (text : List ℕ) (e : fileFault text .number ≡ 0) where
-  pub file-counts : (length (submissionIn text .rows) ≤ 256) × (length (submissionIn text .lines) ≤ 512)
-  file-counts =
-      let file = read-exactly text .read .0 e in
-      (file .few-holdings, file .few-lines)
-
-  pub file-fits : SubmissionFits (submissionIn text)
-  file-fits =
-      let file = read-exactly text .read .0 e in
-      let holdings = holdings-fit (file .each-holding) in
-      record { rows = holdings .each-row; prices = holdings .each-price; lines = lines-fit (file .each-line) }
+-- of a file that is read
+pub file-fits : (text : List ℕ) → fileFault text .number ≡ 0 → SubmissionFits (submissionIn text)
+file-fits text e =
+    let file = read-exactly text .read .0 e in
+    let holdings = holdings-fit (file .each-holding) in
+    record { rows = holdings .each-row; prices = holdings .each-price; lines = lines-fit (file .each-line) }
