@@ -29,10 +29,10 @@ element-copy-out-asked : tie.Need-element-copy-out-asked Inv-loop μ-loop
 element-copy-out-asked c = search needs
 
 mul-asked-2 : tie.Need-mul-asked-2 Inv-loop μ-loop
-mul-asked-2 c = search needs
+mul-asked-2 c = mul-asked (c .before)
 
 element-copy-out-asked-2 : tie.Need-element-copy-out-asked-2 Inv-loop μ-loop
-element-copy-out-asked-2 c = search needs
+element-copy-out-asked-2 c = element-copy-out-asked (c .before)
 
 asked-requires : tie.Need-asked-requires Inv-loop μ-loop
 asked-requires c κs =
@@ -43,10 +43,10 @@ above-requires : tie.Need-above-requires Inv-loop μ-loop
 above-requires c κs = search needs
 
 mul-above : tie.Need-mul-above Inv-loop μ-loop
-mul-above c = search needs
+mul-above c = mul-asked (c .before .before .before .before)
 
 element-copy-out-above : tie.Need-element-copy-out-above Inv-loop μ-loop
-element-copy-out-above c = search needs
+element-copy-out-above c = element-copy-out-asked (c .before .before .before .before)
 
 above-requires-2 : tie.Need-above-requires-2 Inv-loop μ-loop
 above-requires-2 c κs = search needs
