@@ -38,11 +38,24 @@ use Rattle.edges.proofs.Others.{single, thirdPrice, firstPrice, firstAm
 
 -- the table, the starred cases first. A group is as large as the prover computes when it names a case that fails
 abbrev pub table : List (List Case)
-table = starred ∷ starredFile ∷ single ∷ thirdPrice ∷ firstPrice ∷ firstAmount ∷ tooLong ∷ files ∷ recordFaults ∷ tooMany ∷ texts ∷ lending ∷ reading ∷ proposals ∷ refusals ∷ []
+table =
+    starred ∷ starredFile ∷ single ∷ thirdPrice ∷ firstPrice ∷ firstAmount ∷ tooLong ∷ files ∷ recordFaults ∷ tooMany ∷ texts ∷ lending ∷ reading
+    ∷ proposals ∷ refusals ∷ []
 
 -- no case of any group fails; where this is refused, the message names those that do
 none-fails : Each (λ cs. failing cs ≡ []) table
-unfolding starred starredFile single thirdPrice firstPrice firstAmount tooLong files recordFaults tooMany texts lending reading proposals refusals failing alone together judged worked within firstOf some count same insert ordered sumTo sumOf only listTo turns inTurn front holdingSizes lineSizes listsOf writtenLists two entriesOf unequal differ tooShort outcomeIn outcomeOf countIn numbersAt rowsIn linesIn submission column filledFrom filled row.numbersOf lineNumbers answered readAnswer readingAnswer identityFaults termFaults worthFaults rowFaults faultOf holdingOf sideOf kindOf issuerOf rowOf longerThan atLeast periodOf percents flatRate bondRate stripRate kindRate rateAt rateOf legOf isLong isShort isBond isStrip isCanada isProvince kindsPair sameClass mixedClass classRule ruleOf ruleRate allowed pairRateOf savingRateOf pairOf used theory.savingRate saving pairUnits pricedTotal ranksBefore rankingOf bookOf termsOf priced remainder margin unitsOf remaindersOf ranked centsOf atPlace holdingFaults pairFaults lineFaults atHolding bookFaults atLine linesFaults uncovered atPair atLong uncoveredPairs totalsDiffer totalsFaults sizeFaults faults accepted outcome lead digits valueFrom numeralOf placeFrom placeOf isText isQuotable part textFrom textEnd closeFrom closeAt followedBy followed begins opens enclosed fieldAt fieldsFrom recordAt recordsFrom recordsAt recordsOf valueOf valuesOf parsedOf parse parsedIn valuesBy submissionOf atRecord fileFaults fileFault afterComma lineOf answerNumbers refusalLine marginLine remainderLine printedLines bookLine printedOf fileAnswer printed flatMap number littleEndian wordAt entries decode encode
+unfolding
+    starred starredFile single thirdPrice firstPrice firstAmount tooLong files recordFaults tooMany texts lending reading proposals refusals failing alone together judged
+    worked within firstOf some count same insert ordered sumTo sumOf only listTo turns inTurn front holdingSizes lineSizes listsOf writtenLists two entriesOf unequal
+    differ tooShort outcomeIn outcomeOf countIn numbersAt rowsIn linesIn submission column filledFrom filled row.numbersOf lineNumbers answered readAnswer readingAnswer
+    identityFaults termFaults worthFaults rowFaults faultOf holdingOf sideOf kindOf issuerOf rowOf longerThan atLeast periodOf percents flatRate bondRate stripRate
+    kindRate rateAt rateOf legOf isLong isShort isBond isStrip isCanada isProvince kindsPair sameClass mixedClass classRule ruleOf ruleRate allowed pairRateOf
+    savingRateOf pairOf used theory.savingRate saving pairUnits pricedTotal ranksBefore rankingOf bookOf termsOf priced remainder margin unitsOf remaindersOf ranked
+    centsOf atPlace holdingFaults pairFaults lineFaults atHolding bookFaults atLine linesFaults uncovered atPair atLong uncoveredPairs totalsDiffer totalsFaults
+    sizeFaults faults accepted outcome lead digits valueFrom numeralOf placeFrom placeOf isText isQuotable part textFrom textEnd closeFrom closeAt followedBy followed
+    begins opens enclosed fieldAt fieldsFrom recordAt recordsFrom recordsAt recordsOf valueOf valuesOf parsedOf parse parsedIn valuesBy submissionOf atRecord fileFaults
+    fileFault afterComma lineOf answerNumbers refusalLine marginLine remainderLine printedLines bookLine printedOf fileAnswer printed flatMap number littleEndian wordAt
+    entries decode encode
 none-fails = (refl, (refl, (refl, (refl, (refl, (refl, (refl, (refl, (refl, (refl, (refl, (refl, (refl, (refl, (refl, tt)))))))))))))))
 
 -- cases of which none fails agree

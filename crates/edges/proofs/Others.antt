@@ -8,7 +8,8 @@ use Rattle.lists.specs.Tables.{ascii}
 use Rattle.holding.specs.declared.Row.{Row}
 use Rattle.layout.specs.declared.Sort.the-variants.{Side, Kind, Issuer}
 use Rattle.layout.specs.Layout.{Meaning, good}
-use Rattle.edges.proofs.Cases.{Case, rate, fault, pair, no-pair, proposal, lent, figures, prints, record-at, code, letter, byte, decodes, encodes, lengths, columns, slice, answers, emptyFields, H, P, unended, line, row, L, S, B, C, R, CA, ON, QC, file, file-lines}
+use Rattle.edges.proofs.Cases.{Case, rate, fault, pair, no-pair, proposal, lent, figures, prints, record-at, code, letter, byte, decodes, encodes, lengths, columns, slice, answers, emptyFields, H, P, unended}
+use Rattle.edges.proofs.Cases.{line, row, L, S, B, C, R, CA, ON, QC, file, file-lines}
 
 -- the book of "Largest saving first", and prices that cover it
 abbrev four : List Row
@@ -163,7 +164,8 @@ lending =
     ∷ lengths "three prices, two longs, no short, or two amounts" (set right 5 24 ∷ set right 6 16 ∷ set right 7 0 ∷ set right 8 16 ∷ []) 1
     ∷ lengths "holdings of 21 bytes, or lines of 13" ((replicate 6 21 ++ drop 6 right) ∷ (take 6 right ++ replicate 3 13 ++ drop 9 right) ∷ []) 1
     ∷ lengths "one remainder, one rank, or an answer of 15 bytes" (set right 9 15 ∷ set right 10 15 ∷ set right 11 15 ∷ []) 2
-    ∷ columns "the columns, each number by its name" (row 1 2 3 4 5 ∷ []) (6 ∷ []) (line 7 8 9 ∷ []) (flatMap (λ n. n ∷ 10 ∷ []) (1 ∷ 2 ∷ 3 ∷ 4 ∷ 5 ∷ 6 ∷ 7 ∷ 8 ∷ 9 ∷ []) ++ (1 ∷ 2 ∷ 3 ∷ 4 ∷ 5 ∷ 10 ∷ 10 ∷ 10 ∷ 10 ∷ 10 ∷ 6 ∷ 10 ∷ 7 ∷ 8 ∷ 9 ∷ 10 ∷ 10 ∷ 10 ∷ []))
+    ∷ columns "the columns, each number by its name" (row 1 2 3 4 5 ∷ []) (6 ∷ []) (line 7 8 9 ∷ [])
+    (flatMap (λ n. n ∷ 10 ∷ []) (1 ∷ 2 ∷ 3 ∷ 4 ∷ 5 ∷ 6 ∷ 7 ∷ 8 ∷ 9 ∷ []) ++ (1 ∷ 2 ∷ 3 ∷ 4 ∷ 5 ∷ 10 ∷ 10 ∷ 10 ∷ 10 ∷ 10 ∷ 6 ∷ 10 ∷ 7 ∷ 8 ∷ 9 ∷ 10 ∷ 10 ∷ 10 ∷ []))
     ∷ slice "15 bytes stay as they were" (replicate 15 9) (replicate 15 9)
     ∷ slice "20 bytes keep the last four" (replicate 20 9) (1 ∷ 0 ∷ 0 ∷ 0 ∷ 0 ∷ 0 ∷ 0 ∷ 0 ∷ 2 ∷ 0 ∷ 0 ∷ 0 ∷ 0 ∷ 0 ∷ 0 ∷ 0 ∷ 9 ∷ 9 ∷ 9 ∷ 9 ∷ [])
     ∷ []

@@ -8,7 +8,8 @@ use borrow.Author.Tests.{not-false, ne-eqb}
 use Rattle.lists.proofs.Tests.{within-true, true-within}
 use Rattle.lists.proofs.Firsts.{None, Listed, none-first}
 use Rattle.lists.specs.Choice.{firstOf, within}
-use Rattle.holding.specs.Holding.{Ranges, InRange, identityFaults, termFaults, worthFaults, rowFaults, faultOf, sideNumber, kindNumber, noIssuer, issuerNumber, sideOf, kindOf, issuerOf, rowOf, holdingOf}
+use Rattle.holding.specs.Holding.{Ranges, InRange, identityFaults, termFaults, worthFaults, rowFaults, faultOf}
+use Rattle.holding.specs.Holding.{sideNumber, kindNumber, noIssuer, issuerNumber, sideOf, kindOf, issuerOf, rowOf, holdingOf}
 use Rattle.holding.specs.declared.Side.{Side}
 use Rattle.holding.specs.declared.Side.the-variants.{Long, Short}
 use Rattle.holding.specs.declared.Kind.{Kind}

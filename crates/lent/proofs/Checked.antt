@@ -65,7 +65,8 @@ module _ (c : Columns) where
         → Checks c before (makeLent remainder′ ranking′ out′) r
     unfolding outcomeOf outcomeIn two
     checks-all remainder′ ranking′ out′ r returned p q =
-        let d = returned-demands (columnsDiffer c) (two c before) (submission c) (before .answer) out′ r (λ e. room-exactly (writtenLists c before) (length (before .answer)) .0 e .answer) returned in
+        let d = returned-demands (columnsDiffer c) (two c before) (submission c) (before .answer) out′ r
+        (λ e. room-exactly (writtenLists c before) (length (before .answer)) .0 e .answer) returned in
         let l = lengths-exactly (holdingSizes c) (lineSizes c) (writtenLists c before) (length (before .answer)) in
         record {
           submitted = column-entries c;

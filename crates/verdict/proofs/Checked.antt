@@ -96,7 +96,8 @@ module _ (two : Bool) (side : List ℕ) (rest : List (List ℕ)) (price long : L
     unfolding outcomeIn holdingSizes lineSizes entriesOf
     lengths-fit e =
         let fit = sizes.fits {holdings = holdingSizes c} {lines = lineSizes c} {two = two} (sym found ∙ e) in
-        let (columns, last) = each-parts (λ c. length c ≡ 8 * n) (side ∷ rest) (price ∷ []) (each-back (λ size. size ≡ 8 * n) length ((side ∷ rest) ++ (price ∷ [])) (fit .equal-holdings)) in
+        let (columns, last) = each-parts (λ c. length c ≡ 8 * n) (side ∷ rest) (price ∷ [])
+        (each-back (λ size. size ≡ 8 * n) length ((side ∷ rest) ++ (price ∷ [])) (fit .equal-holdings)) in
         record {
           few = fit .few-holdings;
           few-lines = fit .few-lines;
