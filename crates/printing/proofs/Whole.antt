@@ -23,7 +23,7 @@ use Rattle.reader.specs.declared.Contents.the-variants.{Read, Refused}
 use Rattle.readable.specs.Readable.{Submits}
 use Rattle.readable.proofs.Exactly.{read-exactly}
 use Rattle.readable.proofs.Fitting.{file-fits}
-use Rattle.readable.proofs.Answered.{contents-refused, was-read, no-fault, holdings-held, lines-held, few-holdings, few-lines}
+use Rattle.readable.proofs.Answered.{refusal-known, was-read, no-fault, holdings-held, lines-held, few-holdings, few-lines}
 use Rattle.verdict.specs.Judges.{outcomeIn}
 use Rattle.verdict.proofs.Judged.{all-ranked}
 use Rattle.report.specs.Report.{lineOf, refusalLine, marginLine, remainderLine, printedLines, bookLine, printedOf, reportRoom, Prints}
@@ -104,7 +104,7 @@ module _ (text : List ℕ) where
         → (let line = refusalLine (makeAnswer n place 0) in Prints line before after r × (length line ≤ reportRoom)) → PrintsFile text before after r
     unfolding printed printedOf printedLines
     refused-printed {n} {place} e (p, few) =
-        let (other, fault) = contents-refused from-file e in
+        let (other, fault) = refusal-known from-file e in
         let same : fileAnswer text ≡ makeAnswer n place 0 = answer-refused (λ z. other (sym (ap number fault) ∙ z)) ∙ fault in
         let line : printed text ≡ refusalLine (makeAnswer n place 0) = rw (same, ne-eqb n 0 other) in
         promised (rw line p) (rw line few)

@@ -56,8 +56,8 @@ refused-number a e z =
 
 module _ {text : List ℕ} {rows : ℕ} {book lines book′ lines′ : List ℕ} {d : Contents} (from-file : ReadsFile text rows book lines book′ lines′ d) where
   -- a refusal is the file's first
-  pub contents-refused : {n place : ℕ} → d ≡ Refused n place → (n ≢ 0) × (fileFault text ≡ makeAnswer n place 0)
-  contents-refused {n} {place} e =
+  pub refusal-known : {n place : ℕ} → d ≡ Refused n place → (n ≢ 0) × (fileFault text ≡ makeAnswer n place 0)
+  refusal-known {n} {place} e =
       let answer : makeAnswer n place 0 ≡ readAnswer false text = rw e at (from-file .answer) in
       let other : readAnswer false text .number ≢ 0 = refused-number (readAnswer false text) (sym e ∙ from-file .contents) in
       let fault : fileFault text .number ≢ 0 = λ z. other (answer-exactly text false .1 (z, refl)) in

@@ -26,7 +26,7 @@ use Rattle.reader.specs.File.{parsedIn, valuesBy, submissionOf, submissionIn, T
 use Rattle.reader.specs.declared.Contents.{Contents}
 use Rattle.reader.specs.declared.Contents.the-variants.{Read, Refused}
 use Rattle.readable.specs.Readable.{Submits}
-use Rattle.readable.proofs.Answered.{answer-refused, answer-none, answer-exactly, contents-refused, was-read, no-fault}
+use Rattle.readable.proofs.Answered.{answer-refused, answer-none, answer-exactly, refusal-known, was-read, no-fault}
 use Rattle.readable.proofs.Answered.{holdings-counted, lines-counted, holdings-held, lines-held, few-holdings, few-lines}
 use Rattle.readable.proofs.Exactly.{read-exactly}
 use Rattle.readable.proofs.Fitting.{file-fits}
@@ -107,7 +107,7 @@ module _ (text : List ℕ) (before : Columns) (out : List ℕ) where
     pub record-refused : {n place : ℕ} (out′ : List ℕ) (r : ℕ) → d ≡ Refused n place → Answers (makeAnswer n place 0) out out′ r → Reads text before before out out′ r
     unfolding readingAnswer
     record-refused {n} {place} out′ r e t =
-        let (other, fault) = contents-refused from-file e in
+        let (other, fault) = refusal-known from-file e in
         refused (makeAnswer n place 0) out′ r (answer-refused text short (λ z. other (sym (ap number fault) ∙ z)) ∙ fault) other t
 
     -- nothing is refused
