@@ -1,4 +1,4 @@
--- Document 01, "A pair", from the article's Group XI(2). Assumes nothing.
+-- Document 01, "A pair", from the article's Group XI(2), and document 02 a), from Group XI(4). Assumes nothing.
 use mathlib.Core.{Bool.Bool, Bool.true, Bool.false, Bool.cond, Bool._&&_, Bool._||_, Path._≡_, List.[], List._∷_}
 use Prim.Native.Nat.{ℕ, _+_, _-_, _/_, _≤_, min, max}
 use lib.Dec.{eqb}
@@ -9,12 +9,13 @@ use Rattle.holding.specs.declared.Holding.{Holding}
 use Rattle.article.specs.declared.pair.{Rule.Rule, Rule.the-variants.Difference, Rule.the-variants.HalfSum, Rule.the-variants.NotAllowed, Leg.Leg, Pair.Pair}
 use Rattle.article.specs.declared.pair.Pair.the-variants as pairs
 
--- what a pair asks of a holding: the numbers of its side, kind and issuer, its period, and its rate alone
+-- what a pair asks of a holding: the numbers of its side, kind, issuer and currency, its period, and its rate alone
 unfoldable pub legOf : Holding → Leg
 legOf h = record {
   side = rowOf h .side;
   kind = rowOf h .kind;
   issuer = rowOf h .issuer;
+  currency = rowOf h .currency;
   period = periodOf (h .days);
   rate = rateOf h;
 }
@@ -38,6 +39,21 @@ isCanada l = eqb (l .issuer) 0
 unfoldable pub isProvince : Leg → Bool
 isProvince l = within 1 10 (l .issuer)
 
+unfoldable pub isUs : Leg → Bool
+isUs l = eqb (l .issuer) 11
+
+unfoldable pub isGb : Leg → Bool
+isGb l = eqb (l .issuer) 12
+
+unfoldable pub inCad : Leg → Bool
+inCad l = eqb (l .currency) 0
+
+unfoldable pub inUsd : Leg → Bool
+inUsd l = eqb (l .currency) 1
+
+unfoldable pub inGbp : Leg → Bool
+inGbp l = eqb (l .currency) 2
+
 -- a bond with a strip or a strip with a strip: they are not both bonds
 unfoldable pub kindsPair : Leg → Leg → Bool
 kindsPair l s = (isBond l && isStrip s) || (isStrip l && isBond s) || (isStrip l && isStrip s)
@@ -54,9 +70,36 @@ mixedClass l s = (isCanada l && isProvince s) || (isProvince l && isCanada s)
 unfoldable pub classRule : Leg → Leg → Rule
 classRule l s = firstOf ((sameClass l s, Difference) ∷ (mixedClass l s, HalfSum) ∷ []) NotAllowed
 
--- which rule applies, one decision over the issuers and kinds of the two legs
+-- paragraph 2, of two legs in CAD: which rule applies to their issuers and kinds
+unfoldable pub domesticRule : Leg → Leg → Rule
+domesticRule l s = cond (kindsPair l s) (classRule l s) NotAllowed
+
+-- exactly one is a bond
+unfoldable pub oneBond : Leg → Leg → Bool
+oneBond l s = (isBond l && isStrip s) || (isStrip l && isBond s)
+
+-- of the same government, Canada, US or GB
+unfoldable pub sameGovernment : Leg → Leg → Bool
+sameGovernment l s = (isCanada l && isCanada s) || (isUs l && isUs s) || (isGb l && isGb s)
+
+-- of the same government: the difference
+unfoldable pub governmentRule : Leg → Leg → Rule
+governmentRule l s = cond (sameGovernment l s) Difference NotAllowed
+
+-- paragraph 4, of two legs in the same foreign currency: which rule applies to their issuers and kinds
+unfoldable pub foreignRule : Leg → Leg → Rule
+foreignRule l s = cond (oneBond l s) (governmentRule l s) NotAllowed
+
+-- both in CAD, and both in the same foreign currency, USD or GBP
+unfoldable pub bothCad : Leg → Leg → Bool
+bothCad l s = inCad l && inCad s
+
+unfoldable pub sameForeign : Leg → Leg → Bool
+sameForeign l s = (inUsd l && inUsd s) || (inGbp l && inGbp s)
+
+-- which rule applies, one decision over the currencies, kinds and issuers of the two legs
 unfoldable pub ruleOf : Leg → Leg → Rule
-ruleOf l s = cond (kindsPair l s) (classRule l s) NotAllowed
+ruleOf l s = cond (bothCad l s) (domesticRule l s) (cond (sameForeign l s) (foreignRule l s) NotAllowed)
 
 -- a rule that allows the pair
 abbrev pub permits : Rule → Bool
@@ -64,7 +107,7 @@ permits Difference = true
 permits HalfSum = true
 permits NotAllowed = false
 
--- one long and one short may be paired if both lie in the same period and a rule applies to their kinds and issuers
+-- one long and one short may be paired if both lie in the same period and a rule applies to them
 unfoldable pub allowed : Leg → Leg → Bool
 allowed l s = isLong l && isShort s && eqb (l .period) (s .period) && permits (ruleOf l s)
 

@@ -3,8 +3,8 @@ use mathlib.Core.{Bool.Bool, Bool.cond, List.List, List.[], List._∷_}
 use Prim.Native.Nat.{ℕ, _+_, _-_, _*_, _/_}
 use lib.{Dec.ltb, Dec.leb, ListN.getD}
 use Rattle.lists.specs.Choice.{count}
-use Rattle.holding.specs.declared.{Kind.Kind, Kind.the-variants.Bond, Kind.the-variants.Coupon, Kind.the-variants.Residual, Issuer.Issuer, Issuer.the-variants.Canada, Issuer.the-variants.Province}
-use Rattle.holding.specs.declared.Holding.{Holding}
+use Rattle.holding.specs.declared.{Kind.Kind, Kind.the-variants.Bond, Kind.the-variants.Coupon, Kind.the-variants.Residual, Holding.Holding}
+use Rattle.holding.specs.declared.Issuer.{Issuer, the-variants.Canada, the-variants.Province, the-variants.UnitedStates, the-variants.UnitedKingdom}
 
 -- a term of more than so many years. A year is 365 days here
 unfoldable pub longerThan : ℕ → ℕ → Bool
@@ -18,10 +18,12 @@ atLeast days years = leb (years * 365) days
 unfoldable pub periodOf : ℕ → ℕ
 periodOf days = 1 + count (longerThan days) (1 ∷ 3 ∷ 7 ∷ 11 ∷ [])
 
--- the issuer class, as a place in the table: Group I, Canada; Group II, the provinces
+-- the issuer class, as a place in the table: Group I, Canada, US and GB; Group II, the provinces
 abbrev pub classOf : Issuer → ℕ
 classOf Canada = 0
 classOf (Province p) = 1
+classOf UnitedStates = 0
+classOf UnitedKingdom = 0
 
 -- the margin required in each period, in percent of market value: 1, 1, 2, 4, 4 in Group I and 2, 3, 4, 5, 5 in Group II
 unfoldable pub percents : List (List ℕ)

@@ -3,7 +3,7 @@ use crate::rate;
 use holding::Holding;
 ghost use mathlib.Core.Path.{_≡_};
 ghost use Prim.Native.Nat.{_+_, _≤_};
-ghost use Rattle.article.specs.Pair.{legOf, classRule, ruleOf, permits, ruleRate, rateLimit, RateInRange, Pairs};
+ghost use Rattle.article.specs.Pair.{legOf, classRule, domesticRule, governmentRule, foreignRule, ruleOf, permits, ruleRate, rateLimit, RateInRange, Pairs};
 ghost use Rattle.holding.specs.Holding.{InRange};
 
 // Which rule a pair has.
@@ -13,11 +13,12 @@ pub enum Rule {
     NotAllowed,
 }
 
-// What a pair asks of one leg: the numbers of its side, kind and issuer, its period, and its rate alone.
+// What a pair asks of one leg: the numbers of its side, kind, issuer and currency, its period, and its rate alone.
 pub struct Leg {
     pub side: u64,
     pub kind: u64,
     pub issuer: u64,
+    pub currency: u64,
     pub period: u64,
     pub rate: u64,
 }
@@ -37,6 +38,7 @@ pub fn leg_of(h: Holding) -> Leg
         side: row.side,
         kind: row.kind,
         issuer: row.issuer,
+        currency: row.currency,
         period: rate::period(h.days),
         rate: rate::rate(h),
     }
@@ -63,9 +65,9 @@ fn class_rule(long: Leg, short: Leg) -> Rule
     }
 }
 
-// The rule by the numbers of the two kinds, and where they pair by those of the two issuers.
-pub fn rule_of(long: Leg, short: Leg) -> Rule
-    ensures { λ r. ⌜ r ≡ ruleOf long short ⌝ }
+// Paragraph 2: the rule by the numbers of the two kinds, and where they pair by those of the two issuers.
+fn domestic_rule(long: Leg, short: Leg) -> Rule
+    ensures { λ r. ⌜ r ≡ domesticRule long short ⌝ }
 {
     let first = long.kind;
     let second = short.kind;
@@ -78,6 +80,71 @@ pub fn rule_of(long: Leg, short: Leg) -> Rule
         1..=2 => match second {
             0 => class_rule(long, short),
             1..=2 => class_rule(long, short),
+            _ => Rule::NotAllowed,
+        },
+        _ => Rule::NotAllowed,
+    }
+}
+
+// The rule of a government's bond with a strip in a foreign currency, by the numbers of the two issuers.
+fn government_rule(long: Leg, short: Leg) -> Rule
+    ensures { λ r. ⌜ r ≡ governmentRule long short ⌝ }
+{
+    let first = long.issuer;
+    let second = short.issuer;
+    match first {
+        0 => match second {
+            0 => Rule::Difference,
+            _ => Rule::NotAllowed,
+        },
+        11 => match second {
+            11 => Rule::Difference,
+            _ => Rule::NotAllowed,
+        },
+        12 => match second {
+            12 => Rule::Difference,
+            _ => Rule::NotAllowed,
+        },
+        _ => Rule::NotAllowed,
+    }
+}
+
+// Paragraph 4: the rule by the numbers of the two kinds, and where just one is a bond by those of the two issuers.
+fn foreign_rule(long: Leg, short: Leg) -> Rule
+    ensures { λ r. ⌜ r ≡ foreignRule long short ⌝ }
+{
+    let first = long.kind;
+    let second = short.kind;
+    match first {
+        0 => match second {
+            1..=2 => government_rule(long, short),
+            _ => Rule::NotAllowed,
+        },
+        1..=2 => match second {
+            0 => government_rule(long, short),
+            _ => Rule::NotAllowed,
+        },
+        _ => Rule::NotAllowed,
+    }
+}
+
+// The rule by the numbers of the two currencies: paragraph 2 in CAD, paragraph 4 in the same foreign currency.
+pub fn rule_of(long: Leg, short: Leg) -> Rule
+    ensures { λ r. ⌜ r ≡ ruleOf long short ⌝ }
+{
+    let first = long.currency;
+    let second = short.currency;
+    match first {
+        0 => match second {
+            0 => domestic_rule(long, short),
+            _ => Rule::NotAllowed,
+        },
+        1 => match second {
+            1 => foreign_rule(long, short),
+            _ => Rule::NotAllowed,
+        },
+        2 => match second {
+            2 => foreign_rule(long, short),
             _ => Rule::NotAllowed,
         },
         _ => Rule::NotAllowed,

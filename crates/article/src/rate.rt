@@ -6,7 +6,7 @@ ghost use mathlib.Core.Path.{_≡_};
 ghost use Prim.Native.Nat.{_≤_, _<_};
 ghost use Rattle.article.specs.Rate.{periodOf, classOf, bondRate, stripRate, rateOf};
 
-// Issuer class (Canada, the provinces) by period: the article's percentages in units.
+// Issuer class (Canada with US and GB, the provinces) by period: the article's percentages in units.
 const FLAT: [[u64; 5]; 2] = [
     [1460, 1460, 2920, 5840, 5840],
     [2920, 4380, 5840, 7300, 7300],
@@ -37,6 +37,8 @@ fn class_of(issuer: Issuer) -> usize
     match issuer {
         Issuer::Canada => 0,
         Issuer::Province(_) => 1,
+        Issuer::UnitedStates => 0,
+        Issuer::UnitedKingdom => 0,
     }
 }
 

@@ -1,47 +1,63 @@
 -- Document 01, "16 an allowed pair not covered, lowest long, then lowest short", over packed legs and a column of prices. Assumes nothing.
-use mathlib.Core.{Path._≡_, Bool.cond, List.List}
+use mathlib.Core.{Path._≡_, Bool.Bool, Bool.cond, Bool.not, Bool._&&_, Bool._||_, List.List}
 use Prim.Native.Nat.{ℕ, _+_, _*_, _/_, _%_, _≤_, _<_}
 use lib.ListN.{length, getD}
 use Rattle.words.specs.Words.{wordAt, entries}
 use Rattle.article.specs.declared.pair.Leg.{Leg}
 use Rattle.savings.specs.Savings.{savingOf}
-use Rattle.article.specs.Pair.{isCanada, rateLimit}
+use Rattle.article.specs.Pair.{isBond, isCanada, isProvince, inCad, rateLimit}
 use Rattle.packed.specs.Packed.{legAt, AtMost, entry, Legs, LegsOf, Same}
 use Rattle.holding.specs.Holding.{valueLimit}
 use Rattle.pairing.specs.Pairing.{pricedTotal}
 use Rattle.proposal.specs.{Submission.PricedBook, Submission.termsOf, Submission.priceLimit, Outcome.faultAnswer, Outcome.uncoveredPairs, Outcome.firstFault}
 use Rattle.proposal.specs.declared.Fault.{Fault}
 
--- what a pair asks of a leg beside its side, kind and rate, as one number: its period and its class, 0 for Canada and 1 for any other
-unfoldable pub markOf : Leg → ℕ
-markOf l = 2 * l .period + cond (isCanada l) 0 1
+-- a leg that paragraph 2 can have: in CAD, of Canada or a province
+unfoldable pub isDomestic : Leg → Bool
+isDomestic l = inCad l && (isCanada l || isProvince l)
 
--- the highest mark of a leg whose period is a byte
-abbrev pub markLimit : ℕ
-markLimit = 511
+-- what the two legs of a pair have in common, as one number: the period; of a leg that is not domestic the currency and the issuer too
+unfoldable pub keyOf : Leg → ℕ
+keyOf l = l .period + 256 * cond (isDomestic l) 0 (16 * (l .currency % 4) + l .issuer % 16)
 
--- two marks of one period and two classes
+-- what a pair asks of a leg beside its side and rate, as one number: its key with, of a domestic leg, its class, 0 for Canada and 1 for a province, and of any
+-- other, whether it is a bond
+unfoldable pub markOf : Bool → Leg → ℕ
+markOf bond l = 4 * keyOf l + cond (isDomestic l) (cond (isCanada l) 0 1) (cond bond 0 2)
+
+-- the mark that a short has, and the one that a long seeks: outside paragraph 2 just one of the two is a bond
+unfoldable pub shortMark : Leg → ℕ
+shortMark s = markOf (isBond s) s
+
+unfoldable pub soughtMark : Leg → ℕ
+soughtMark l = markOf (not (isBond l)) l
+
+-- two marks of one key and two classes
 pub record OtherClass (mark other : ℕ) : Type 0 where
-  pub period : other / 2 ≡ mark / 2
+  pub key : other / 2 ≡ mark / 2
   pub class : other % 2 + mark % 2 ≡ 1
 
--- a leg with this mark and this rate
-pub record Marked (l : Leg) (mark rate : ℕ) : Type 0 where
-  pub marked : mark ≡ markOf l
+-- a long that seeks this mark, a short that has it, at this rate
+pub record Seeks (l : Leg) (mark rate : ℕ) : Type 0 where
+  pub marked : mark ≡ soughtMark l
   pub rated : rate ≡ l .rate
+
+pub record Marked (s : Leg) (mark rate : ℕ) : Type 0 where
+  pub marked : mark ≡ shortMark s
+  pub rated : rate ≡ s .rate
 
 -- at least what any long and short with these marks and rates save
 pub record Asks (long a short b asked : ℕ) : Type 0 where
-  pub enough : (l s : Leg) → Marked l long a → Marked s short b → savingOf l s ≤ asked
+  pub enough : (l s : Leg) → Seeks l long a → Marked s short b → savingOf l s ≤ asked
 
 -- a long with this mark, rate and price is covered with each of the first m shorts
 pub record Covered (mark rate price : ℕ) (marks rates prices : List ℕ) (m : ℕ) : Type 0 where
-  pub covered : (k : ℕ) → k < m → (l s : Leg) → Marked l mark rate → Marked s (getD marks k 0) (getD rates k 0) → savingOf l s ≤ price + getD prices k 0
+  pub covered : (k : ℕ) → k < m → (l s : Leg) → Seeks l mark rate → Marked s (getD marks k 0) (getD rates k 0) → savingOf l s ≤ price + getD prices k 0
 
 -- a long at this price is covered with each of the first m shorts: a bond by the column of the strips, any other long by that of all shorts
 pub record RowCovered (l : Leg) (price : ℕ) (marks strips rates prices : List ℕ) (m : ℕ) : Type 0 where
-  pub bond : l .kind ≡ 0 → Covered (markOf l) (l .rate) price strips rates prices m
-  pub other : (l .kind ≡ 0 → ⊥) → Covered (markOf l) (l .rate) price marks rates prices m
+  pub bond : l .kind ≡ 0 → Covered (soughtMark l) (l .rate) price strips rates prices m
+  pub other : (l .kind ≡ 0 → ⊥) → Covered (soughtMark l) (l .rate) price marks rates prices m
 
 -- 256 places in each column
 pub record Places (marks strips rates prices : List ℕ) : Type 0 where

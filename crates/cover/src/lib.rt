@@ -6,17 +6,35 @@ ghost use mathlib.Core.Bool.{false};
 ghost use Prim.Native.Nat.{_-_, _*_, _≤_, _<_, min};
 ghost use Rattle.article.specs.Pair.{rateLimit};
 ghost use Rattle.packed.specs.Packed.{AtMost, entry};
-ghost use Rattle.cover.specs.Cover.{Priced, FirstOpen, Finds, Valued, Totals, markOf, markLimit, OtherClass, Asks, Covered, RowCovered, Places, Shorts};
+ghost use Rattle.cover.specs.Cover.{Priced, FirstOpen, Finds, Valued, Totals, isDomestic, markOf, OtherClass, Asks, Covered, RowCovered, Places, Shorts};
 
-// What a pair asks of a leg beside its side, kind and rate, as one small number: its period and its class, 0 for Canada and 1 for any other.
-fn mark_of(leg: Leg) -> u16
-    requires { ⌜ leg .period < 256 ⌝ }
-    ensures { λ r. ⌜ (r ≡ markOf leg) × (r ≤ markLimit) ⌝ }
+// Whether a leg is in CAD and of Canada or a province.
+fn is_domestic(leg: Leg) -> bool
+    ensures { λ r. ⌜ r ≡ isDomestic leg ⌝ }
 {
-    if leg.issuer == 0 {
-        return (2 * leg.period) as u16;
+    if leg.currency != 0 {
+        return false;
     }
-    (2 * leg.period + 1) as u16
+    leg.issuer <= 10
+}
+
+// What a pair asks of a leg beside its side and rate, as one small number: the period, and of a domestic leg the class, 0 for Canada and 1 for a province;
+// of any other the currency, the issuer and whether it is to be a bond.
+fn mark_of(bond: bool, leg: Leg) -> u16
+    requires { ⌜ leg .period < 256 ⌝ }
+    ensures { λ r. ⌜ r ≡ markOf bond leg ⌝ }
+{
+    if is_domestic(leg) {
+        if leg.issuer == 0 {
+            return (4 * leg.period) as u16;
+        }
+        return (4 * leg.period + 1) as u16;
+    }
+    let key = leg.period + 256 * (16 * (leg.currency % 4) + leg.issuer % 16);
+    if bond {
+        return (4 * key) as u16;
+    }
+    (4 * key + 2) as u16
 }
 
 // The mark of a short in the column of the strips, where a bond has 0.
@@ -26,9 +44,8 @@ fn strip_mark(kind: u64, mark: u16) -> u16
     if kind == 0 { 0 } else { mark }
 }
 
-// The mark of the same period and the other class.
+// The mark of the same key and the other class; no leg that is not domestic has it.
 fn other_class(mark: u16) -> u16
-    requires { ⌜ mark ≤ markLimit ⌝ }
     ensures { λ r. ⌜ OtherClass mark r ⌝ }
 {
     if mark % 2 == 0 { mark + 1 } else { mark - 1 }
@@ -43,7 +60,7 @@ fn twice_lesser(a: u16, b: u16) -> u16
 
 // At least what a long and a short save as a pair, by their marks and their rates a and b. Nothing else of the scan knows the pair rules.
 fn asked(long: u16, a: u16, short: u16, b: u16) -> u16
-    requires { ⌜ (long ≤ markLimit) × ((a ≤ rateLimit) × (b ≤ rateLimit)) ⌝ }
+    requires { ⌜ (a ≤ rateLimit) × (b ≤ rateLimit) ⌝ }
     ensures { λ r. ⌜ Asks long a short b r ⌝ }
 {
     let cross = other_class(long);
@@ -80,7 +97,7 @@ fn row_open(
     rate: u16,
     price: u16,
 ) -> bool
-    requires { ⌜ (m ≤ 256) × ((mark ≤ markLimit) × ((rate ≤ rateLimit) × (AtMost rateLimit m (entry (now rates))))) ⌝ }
+    requires { ⌜ (m ≤ 256) × ((rate ≤ rateLimit) × (AtMost rateLimit m (entry (now rates)))) ⌝ }
     ensures { λ r. ⌜ (r ≡ false → Covered mark rate price (now (marks .entry)) (now (rates .entry)) (now (prices .entry)) m) ⌝ }
 {
     let mut worst: u16 = 0;
@@ -107,7 +124,7 @@ fn long_open(
     requires { ⌜ (m ≤ 256) × ((long .period < 256) × ((long .rate ≤ rateLimit) × (AtMost rateLimit m (entry (now rates))))) ⌝ }
     ensures { λ r. ⌜ (r ≡ false → RowCovered long price (now (marks .entry)) (now (strips .entry)) (now (rates .entry)) (now (prices .entry)) m) ⌝ }
 {
-    let mark = mark_of(long);
+    let mark = mark_of(long.kind != 0, long);
     let rate = long.rate as u16;
     if long.kind == 0 {
         return row_open(m, strips, rates, prices, mark, rate, price);
@@ -133,7 +150,7 @@ fn shorts_of(
     while j < n {
         let leg = packed::leg_in(legs[j]);
         if leg.side == 1 {
-            let mark = mark_of(leg);
+            let mark = mark_of(leg.kind == 0, leg);
             marks[m] = mark;
             strips[m] = strip_mark(leg.kind, mark);
             rates[m] = leg.rate as u16;

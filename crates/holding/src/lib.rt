@@ -1,7 +1,7 @@
 // A holding: the raw numbers of a row, their ranges, and the record that numbers within them make.
 ghost use mathlib.Core.Path.{_≡_};
 ghost use Rattle.lists.specs.Choice.{firstOf};
-ghost use Rattle.holding.specs.Holding.{identityFaults, termFaults, worthFaults, sideOf, kindOf, issuerOf, faultOf, Builds, sideNumber, kindNumber, issuerNumber, rowOf};
+ghost use Rattle.holding.specs.Holding.{identityFaults, termFaults, worthFaults, moneyFaults, sideOf, kindOf, issuerOf, currencyOf, faultOf, Builds, sideNumber, kindNumber, issuerNumber, currencyNumber, rowOf};
 
 pub enum Side {
     Long,
@@ -17,6 +17,14 @@ pub enum Kind {
 pub enum Issuer {
     Canada,
     Province(u64),
+    UnitedStates,
+    UnitedKingdom,
+}
+
+pub enum Currency {
+    Cad,
+    Usd,
+    Gbp,
 }
 
 pub struct Holding {
@@ -25,6 +33,7 @@ pub struct Holding {
     pub issuer: Issuer,
     pub days: u64,
     pub value: u64,
+    pub currency: Currency,
 }
 
 // A holding's numbers as they come, of any size.
@@ -34,6 +43,7 @@ pub struct Row {
     pub issuer: u64,
     pub days: u64,
     pub value: u64,
+    pub currency: u64,
 }
 
 // What a row makes: a record, or the number of its first fault.
@@ -52,7 +62,7 @@ pub fn identity_fault(row: Row) -> u64
     if row.kind > 2 {
         return 5;
     }
-    if row.issuer > 10 {
+    if row.issuer > 12 {
         return 6;
     }
     0
@@ -84,7 +94,17 @@ pub fn worth_fault(row: Row) -> u64
     0
 }
 
-// The number of a row's first fault, 4 to 8, or 0 for none.
+// The fault of its money, 23, or 0.
+pub fn money_fault(row: Row) -> u64
+    ensures { λ r. ⌜ r ≡ firstOf (moneyFaults row) 0 ⌝ }
+{
+    if row.currency > 2 {
+        return 23;
+    }
+    0
+}
+
+// The number of a row's first fault, 4 to 8 or 23, or 0 for none.
 pub fn fault(row: Row) -> u64
     ensures { λ r. ⌜ r ≡ faultOf row ⌝ }
 {
@@ -96,7 +116,11 @@ pub fn fault(row: Row) -> u64
     if number != 0 {
         return number;
     }
-    worth_fault(row)
+    let number = worth_fault(row);
+    if number != 0 {
+        return number;
+    }
+    money_fault(row)
 }
 
 fn side_of(side: u64) -> Side
@@ -123,7 +147,19 @@ fn issuer_of(issuer: u64) -> Issuer
 {
     match issuer {
         0 => Issuer::Canada,
+        11 => Issuer::UnitedStates,
+        12 => Issuer::UnitedKingdom,
         _ => Issuer::Province(issuer),
+    }
+}
+
+fn currency_of(currency: u64) -> Currency
+    ensures { λ r. ⌜ r ≡ currencyOf currency ⌝ }
+{
+    match currency {
+        0 => Currency::Cad,
+        1 => Currency::Usd,
+        _ => Currency::Gbp,
     }
 }
 
@@ -138,12 +174,14 @@ pub fn holding_of(row: Row) -> Built
     let side = side_of(row.side);
     let kind = kind_of(row.kind);
     let issuer = issuer_of(row.issuer);
+    let currency = currency_of(row.currency);
     Built::Made(Holding {
         side,
         kind,
         issuer,
         days: row.days,
         value: row.value,
+        currency,
     })
 }
 
@@ -178,6 +216,18 @@ fn issuer_number(issuer: Issuer) -> u64
             1..=10 => p,
             _ => NO_ISSUER,
         },
+        Issuer::UnitedStates => 11,
+        Issuer::UnitedKingdom => 12,
+    }
+}
+
+fn currency_number(currency: Currency) -> u64
+    ensures { λ r. ⌜ r ≡ currencyNumber currency ⌝ }
+{
+    match currency {
+        Currency::Cad => 0,
+        Currency::Usd => 1,
+        Currency::Gbp => 2,
     }
 }
 
@@ -188,11 +238,13 @@ pub fn row_of(h: Holding) -> Row
     let side = h.side;
     let kind = h.kind;
     let issuer = h.issuer;
+    let currency = h.currency;
     Row {
         side: side_number(side),
         kind: kind_number(kind),
         issuer: issuer_number(issuer),
         days: h.days,
         value: h.value,
+        currency: currency_number(currency),
     }
 }

@@ -15,6 +15,7 @@ pub extern "C" fn margin_check(
     days: &[u8],
     value: &[u8],
     price: &[u8],
+    currency: &[u8],
     long: &[u8],
     short: &[u8],
     amount: &[u8],
@@ -24,7 +25,7 @@ pub extern "C" fn margin_check(
 ) -> u64
     ensures { λ r. ⌜ Checks
         (makeColumns
-        (now (side .entry) ∷ now (kind .entry) ∷ now (issuer .entry) ∷ now (days .entry) ∷ now (value .entry) ∷ [])
+        (now (side .entry) ∷ now (kind .entry) ∷ now (issuer .entry) ∷ now (days .entry) ∷ now (value .entry) ∷ now (currency .entry) ∷ [])
         (now (price .entry))
         (now (long .entry) ∷ now (short .entry) ∷ now (amount .entry) ∷ []))
         (makeLent (now (remainder .entry)) (now (ranking .entry)) (now (answer .entry)))
@@ -42,6 +43,7 @@ pub extern "C" fn margin_check(
             days,
             value,
             price,
+            currency,
             long,
             short,
             amount,
@@ -65,6 +67,7 @@ pub extern "C" fn margin_check(
         days,
         value,
         price,
+        currency,
         long,
         short,
         amount,
@@ -89,6 +92,7 @@ pub extern "C" fn margin_read(
     days: &mut [u8],
     value: &mut [u8],
     price: &mut [u8],
+    currency: &mut [u8],
     long: &mut [u8],
     short: &mut [u8],
     amount: &mut [u8],
@@ -96,11 +100,11 @@ pub extern "C" fn margin_read(
 ) -> u64
     ensures { λ r. ⌜ Reads (now (text .entry))
         (makeColumns
-        (now (side .entry) ∷ now (kind .entry) ∷ now (issuer .entry) ∷ now (days .entry) ∷ now (value .entry) ∷ [])
+        (now (side .entry) ∷ now (kind .entry) ∷ now (issuer .entry) ∷ now (days .entry) ∷ now (value .entry) ∷ now (currency .entry) ∷ [])
         (now (price .entry))
         (now (long .entry) ∷ now (short .entry) ∷ now (amount .entry) ∷ []))
         (makeColumns
-        (now (side .exit) ∷ now (kind .exit) ∷ now (issuer .exit) ∷ now (days .exit) ∷ now (value .exit) ∷ [])
+        (now (side .exit) ∷ now (kind .exit) ∷ now (issuer .exit) ∷ now (days .exit) ∷ now (value .exit) ∷ now (currency .exit) ∷ [])
         (now (price .exit))
         (now (long .exit) ∷ now (short .exit) ∷ now (amount .exit) ∷ []))
         (now (answer .entry)) (now (answer .exit)) r ⌝ }
@@ -119,6 +123,7 @@ pub extern "C" fn margin_read(
             days,
             value,
             price,
+            currency,
             long,
             short,
             amount,
@@ -138,6 +143,7 @@ pub extern "C" fn margin_read(
         days,
         value,
         price,
+        currency,
         long,
         short,
         amount,

@@ -1,4 +1,4 @@
--- Document 01, "The file": the layout of a record, parsed, and the refusals 19 to 21. Assumes nothing.
+-- Document 01, "The file", and document 02 a): the layout of a record, parsed, and the refusals 19 to 21. Assumes nothing.
 use mathlib.Core.{Path._≡_, Bool.cond, Bool.Bool, Bool.true, Bool.false, List.List, List.[], List._∷_, List._++_, List.map}
 use Prim.Native.Nat.{ℕ, _≤_, suc, _-_}
 use lib.{Dec.eqb, Dec.leb, ListN.length, ListN.getD, ListN.replicate}
@@ -7,11 +7,11 @@ use Rattle.numerals.specs.Numerals.{digits, numeralOf}
 use Rattle.numerals.specs.declared.Numeral.{Numeral, the-variants.Number, the-variants.NotANumeral}
 use Rattle.codes.specs.Codes.{placeOf, Named}
 use Rattle.codes.specs.declared.Place.{Place, the-variants.At, the-variants.Nowhere}
-use Rattle.layout.specs.declared.Sort.{Sort, the-variants.Side, the-variants.Kind, the-variants.Issuer, the-variants.Six, the-variants.Twelve, the-variants.Empty}
+use Rattle.layout.specs.declared.Sort.{Sort, the-variants.Side, the-variants.Kind, the-variants.Issuer, the-variants.Currency, the-variants.Six, the-variants.Twelve, the-variants.Empty}
 use Rattle.layout.specs.declared.{Value.Value, Value.the-variants.Of, Value.the-variants.Wrong, Parsed.Parsed, Parsed.the-variants.Good, Parsed.the-variants.Refused, Entry.Entry}
 use Rattle.csv.specs.Reading.{part, Split, fields, malformed, recordAt, fieldCount, Read, formed, broken}
 
--- side `L` or `S`; kind `B` `C` `R`; issuer `CA` or a province code, in the order of the issuers' numbers
+-- side `L` or `S`; kind `B` `C` `R`; issuer `CA`, a province code, `US` or `GB`, in the order of the issuers' numbers; currency `CAD`, `USD` or `GBP`
 abbrev pub sides : List (List ℕ)
 sides = map ascii ("L" ∷ "S" ∷ [])
 
@@ -19,7 +19,10 @@ abbrev pub kinds : List (List ℕ)
 kinds = map ascii ("B" ∷ "C" ∷ "R" ∷ [])
 
 abbrev pub issuers : List (List ℕ)
-issuers = map ascii ("CA" ∷ "AB" ∷ "BC" ∷ "MB" ∷ "NB" ∷ "NL" ∷ "NS" ∷ "ON" ∷ "PE" ∷ "QC" ∷ "SK" ∷ [])
+issuers = map ascii ("CA" ∷ "AB" ∷ "BC" ∷ "MB" ∷ "NB" ∷ "NL" ∷ "NS" ∷ "ON" ∷ "PE" ∷ "QC" ∷ "SK" ∷ "US" ∷ "GB" ∷ [])
+
+abbrev pub currencies : List (List ℕ)
+currencies = map ascii ("CAD" ∷ "USD" ∷ "GBP" ∷ [])
 
 -- the numeral of v, in at most so many digits
 abbrev pub Numbered : ℕ → List ℕ → ℕ → Type 0
@@ -30,6 +33,7 @@ abbrev pub IsValue : Sort → List ℕ → ℕ → Type 0
 IsValue Side t v = Named t sides v
 IsValue Kind t v = Named t kinds v
 IsValue Issuer t v = Named t issuers v
+IsValue Currency t v = Named t currencies v
 IsValue Six t v = Numbered 6 t v
 IsValue Twelve t v = Numbered 12 t v
 IsValue Empty t v = (t ≡ []) × (v ≡ 0)
@@ -53,6 +57,7 @@ unfoldable pub valueOf : Sort → List ℕ → Value
 valueOf Side t = byPlace (placeOf t sides)
 valueOf Kind t = byPlace (placeOf t kinds)
 valueOf Issuer t = byPlace (placeOf t issuers)
+valueOf Currency t = byPlace (placeOf t currencies)
 valueOf Six t = byNumeral (numeralOf 6 t)
 valueOf Twelve t = byNumeral (numeralOf 12 t)
 valueOf Empty t = cond (eqb (length t) 0) (Of 0) Wrong
@@ -61,9 +66,9 @@ valueOf Empty t = cond (eqb (length t) 0) (Of 0) Wrong
 abbrev pub padded : {A : Type 0} → A → List A → List A
 padded x xs = xs ++ replicate (fieldCount - suc (length xs)) x
 
--- the letters, each with what follows it: `H`, side, kind, issuer, days, value, price; `P`, long, short, amount; further fields are empty
+-- the letters, each with what follows it: `H`, side, kind, issuer, days, value, price, currency; `P`, long, short, amount; further fields are empty
 abbrev pub layouts : List (List ℕ × List Sort)
-layouts = (ascii "H", Side ∷ Kind ∷ Issuer ∷ Six ∷ Twelve ∷ Six ∷ []) ∷ (ascii "P", Six ∷ Six ∷ Twelve ∷ []) ∷ []
+layouts = (ascii "H", Side ∷ Kind ∷ Issuer ∷ Six ∷ Twelve ∷ Six ∷ Currency ∷ []) ∷ (ascii "P", Six ∷ Six ∷ Twelve ∷ []) ∷ []
 
 -- the letters by number, and the sorts of the fields after each
 abbrev pub letters : List (List ℕ)
@@ -116,7 +121,7 @@ unfoldable pub parsedOf : List (List ℕ) → Meaning
 parsedOf [] = refused 21
 parsedOf (letter ∷ texts) = afterLetter (placeOf letter letters) texts
 
--- of a record: 19 outside the grammar, 20 not seven fields, then 21
+-- of a record: 19 outside the grammar, 20 not eight fields, then 21
 unfoldable pub parse : Read → Meaning
 parse broken = refused 19
 parse (formed texts) = cond (eqb (length texts) fieldCount) (parsedOf texts) (refused 20)

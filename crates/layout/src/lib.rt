@@ -15,6 +15,7 @@ pub enum Sort {
     Side,
     Kind,
     Issuer,
+    Currency,
     Six,
     Twelve,
     Empty,
@@ -50,6 +51,7 @@ fn sort_at(letter: usize, j: usize) -> Sort
             3 => Sort::Six,
             4 => Sort::Twelve,
             5 => Sort::Six,
+            6 => Sort::Currency,
             _ => Sort::Empty,
         };
     }
@@ -91,7 +93,8 @@ fn value_in(sort: Sort, text: &[u8]) -> Value
     match sort {
         Sort::Side => by_place(codes::place_in(text, b"LS", 1, 2)),
         Sort::Kind => by_place(codes::place_in(text, b"BCR", 1, 3)),
-        Sort::Issuer => by_place(codes::place_in(text, b"CAABBCMBNBNLNSONPEQCSK", 2, 11)),
+        Sort::Issuer => by_place(codes::place_in(text, b"CAABBCMBNBNLNSONPEQCSKUSGB", 2, 13)),
+        Sort::Currency => by_place(codes::place_in(text, b"CADUSDGBP", 3, 3)),
         Sort::Six => by_numeral(numerals::read_numeral(text, 6)),
         Sort::Twelve => by_numeral(numerals::read_numeral(text, 12)),
         Sort::Empty => if text.len() == 0 {

@@ -27,6 +27,7 @@ pub fn judge(
     days: &[u8],
     value: &[u8],
     price: &[u8],
+    currency: &[u8],
     long: &[u8],
     short: &[u8],
     amount: &[u8],
@@ -40,7 +41,7 @@ pub fn judge(
 ) -> u64
     requires { ⌜ ScratchRoom (entries (now side)) (now legs) (now left) (now margins) (now ranks) ⌝ }
     ensures { λ r. ⌜ Checks (makeColumns
-        (now (side .entry) ∷ now (kind .entry) ∷ now (issuer .entry) ∷ now (days .entry) ∷ now (value .entry) ∷ [])
+        (now (side .entry) ∷ now (kind .entry) ∷ now (issuer .entry) ∷ now (days .entry) ∷ now (value .entry) ∷ now (currency .entry) ∷ [])
         (now (price .entry))
         (now (long .entry) ∷ now (short .entry) ∷ now (amount .entry) ∷ []))
         (makeLent (now (remainder .entry)) (now (ranking .entry)) (now (answer .entry)))
@@ -56,6 +57,7 @@ pub fn judge(
         days,
         value,
         price,
+        currency,
         long,
         short,
         amount,

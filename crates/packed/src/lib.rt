@@ -11,8 +11,9 @@ pub fn code_of(leg: Leg) -> u64
     leg.rate
         + 65536 * leg.period
         + 16777216 * leg.side
-        + 4294967296 * leg.kind
-        + 1099511627776 * leg.issuer
+        + 268435456 * leg.kind
+        + 4294967296 * leg.issuer
+        + 281474976710656 * leg.currency
 }
 
 // The leg of a number.
@@ -20,9 +21,10 @@ pub fn leg_in(code: u64) -> Leg
     ensures { λ r. ⌜ r ≡ legIn code ⌝ }
 {
     Leg {
-        side: code / 16777216 % 256,
-        kind: code / 4294967296 % 256,
-        issuer: code / 1099511627776 % 65536,
+        side: code / 16777216 % 16,
+        kind: code / 268435456 % 16,
+        issuer: code / 4294967296 % 65536,
+        currency: code / 281474976710656 % 16,
         period: code / 65536 % 256,
         rate: code % 65536,
     }

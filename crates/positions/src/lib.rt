@@ -6,7 +6,7 @@ use proposal::Fault;
 ghost use mathlib.Core.List.{[], _∷_};
 ghost use Rattle.positions.specs.Opens.{OpenRoom, Opens};
 
-// Each holding in turn, up to the first fault: 4 to 8, then a price above 43,800.
+// Each holding in turn, up to the first fault: 4 to 8 and 23, then a price above 43,800.
 pub fn open(
     side: &[u8],
     kind: &[u8],
@@ -14,12 +14,13 @@ pub fn open(
     days: &[u8],
     value: &[u8],
     price: &[u8],
+    currency: &[u8],
     legs: &mut [u64],
     left: &mut [u64],
 ) -> Fault
-    requires { ⌜ OpenRoom (now side ∷ now kind ∷ now issuer ∷ now days ∷ now value ∷ []) (now price) (now legs) (now left) ⌝ }
+    requires { ⌜ OpenRoom (now side ∷ now kind ∷ now issuer ∷ now days ∷ now value ∷ now currency ∷ []) (now price) (now legs) (now left) ⌝ }
     ensures { λ r. ⌜ Opens
-        (now (side .entry) ∷ now (kind .entry) ∷ now (issuer .entry) ∷ now (days .entry) ∷ now (value .entry) ∷ [])
+        (now (side .entry) ∷ now (kind .entry) ∷ now (issuer .entry) ∷ now (days .entry) ∷ now (value .entry) ∷ now (currency .entry) ∷ [])
         (now (price .entry)) (now (left .entry)) (now (legs .exit)) (now (left .exit)) r ⌝ }
 {
     let n = side.len() / 8;
@@ -31,6 +32,7 @@ pub fn open(
             issuer: words::word(issuer, i),
             days: words::word(days, i),
             value: words::word(value, i),
+            currency: words::word(currency, i),
         };
         let built = holding::holding_of(row);
         match built {

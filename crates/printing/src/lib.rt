@@ -13,13 +13,14 @@ fn print_columns(
     days: &[u8],
     value: &[u8],
     price: &[u8],
+    currency: &[u8],
     long: &[u8],
     short: &[u8],
     amount: &[u8],
     out: &mut [u8],
 ) -> Printed
     ensures { λ r. ⌜ PrintsColumns (makeColumns
-        (now (side .entry) ∷ now (kind .entry) ∷ now (issuer .entry) ∷ now (days .entry) ∷ now (value .entry) ∷ [])
+        (now (side .entry) ∷ now (kind .entry) ∷ now (issuer .entry) ∷ now (days .entry) ∷ now (value .entry) ∷ now (currency .entry) ∷ [])
         (now (price .entry))
         (now (long .entry) ∷ now (short .entry) ∷ now (amount .entry) ∷ []))
         (now (out .entry)) (now (out .exit)) r ⌝ }
@@ -36,6 +37,7 @@ fn print_columns(
         days,
         value,
         price,
+        currency,
         long,
         short,
         amount,
@@ -60,6 +62,7 @@ fn print_tables(n: usize, m: usize, book: &[u8], lines: &[u8], out: &mut [u8]) -
         columns::column(book, 512, n, 3),
         columns::column(book, 512, n, 4),
         columns::column(book, 512, n, 5),
+        columns::column(book, 512, n, 6),
         columns::column(lines, 512, m, 0),
         columns::column(lines, 512, m, 1),
         columns::column(lines, 512, m, 2),

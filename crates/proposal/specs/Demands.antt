@@ -11,7 +11,7 @@ use Rattle.proposal.specs.Submission.{Submission, termsOf, priced, noRow
 use Rattle.proposal.specs.Submission.{RoundedUp}
 
 module _ (s : Submission) where
-  -- the limits: none of 3 to 10 holds
+  -- the limits: none of 3 to 10 and 23 holds
   pub record Limits : Type 0 where
     pub holdings : length (s .rows) ≤ 256
     pub lines : length (s .lines) ≤ 512

@@ -24,7 +24,7 @@ faultAnswer f = makeAnswer (f .number) (f .place) (f .second)
 unfoldable pub atPlace : ℕ → List (Bool × ℕ) → List (Bool × Answer)
 atPlace place faults = map (λ f. (f .0, makeAnswer (f .1) place 0)) faults
 
--- of a holding 4 to 8, then 10 price above the highest, 43,800
+-- of a holding 4 to 8 and 23, then 10 price above the highest, 43,800
 unfoldable pub holdingFaults : Row → ℕ → List (Bool × ℕ)
 holdingFaults row price = rowFaults row ++ ((ltb priceLimit price, 10) ∷ [])
 
@@ -43,7 +43,7 @@ lineFaults b earlier l =
     (not (ltb (l .long) (b .count) && ltb (l .short) (b .count)), 11)
     ∷ pairFaults (b .leg (l .long)) (b .leg (l .short)) (l .amount) (remainder b earlier (l .long)) (remainder b earlier (l .short))
 
--- each holding in turn 4 to 8, 10
+-- each holding in turn 4 to 8, 23, 10
 unfoldable pub atHolding : List Row → List ℕ → ℕ → List (Bool × Answer)
 atHolding rows prices k = atPlace k (holdingFaults (getD rows k noRow) (getD prices k 0))
 

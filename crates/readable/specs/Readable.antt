@@ -2,10 +2,9 @@
 use mathlib.Core.{Path._≡_, Logic._↔_, List.List, List.[], List._∷_, List._++_}
 use Prim.Native.Nat.{ℕ, _≤_}
 use lib.ListN.{length}
-use Rattle.holding.specs.Holding.{numbersOf}
 use Rattle.holding.specs.declared.Row.{Row}
 use Rattle.pairing.specs.declared.Line.{Line}
-use Rattle.proposal.specs.Submission.{Submission, lineNumbers}
+use Rattle.proposal.specs.Submission.{Submission, pricedNumbers, lineNumbers}
 use Rattle.csv.specs.Grammar.{File}
 use Rattle.layout.specs.Layout.{IsRecord}
 use Rattle.reader.specs.File.{parsedIn, submissionOf, fileFault}
@@ -14,7 +13,7 @@ use Rattle.reader.specs.File.{parsedIn, submissionOf, fileFault}
 pub data AreHoldings : List (List (List ℕ)) → List Row → List ℕ → Type 0 where
   no-holdings : AreHoldings [] [] []
   holding-and : {r : List (List ℕ)} {row : Row} {price : ℕ} {rs : List (List (List ℕ))} {rows : List Row} {prices : List ℕ}
-      → IsRecord 0 r (numbersOf row ++ (price ∷ [])) → AreHoldings rs rows prices → AreHoldings (r ∷ rs) (row ∷ rows) (price ∷ prices)
+      → IsRecord 0 r (pricedNumbers row price) → AreHoldings rs rows prices → AreHoldings (r ∷ rs) (row ∷ rows) (price ∷ prices)
 
 -- records each a good P, with its line
 pub data AreLines : List (List (List ℕ)) → List Line → Type 0 where

@@ -3,9 +3,8 @@ use mathlib.Core.{Path._≡_, Bool.Bool, Bool.true, Bool.false, Bool.cond, Bool.
 use Prim.Native.Nat.{ℕ, zero, suc, _-_, _*_, _≤_, _<_}
 use lib.{Dec.ltb, Dec.eqb, ListN.length, ListN.getD, ListN.take}
 use Rattle.lists.specs.{Choice.firstOf, Tables.inTurn}
-use Rattle.holding.specs.Holding.{rowBy}
 use Rattle.article.specs.Answer.{Answer, makeAnswer}
-use Rattle.proposal.specs.Submission.{Submission, lineBy}
+use Rattle.proposal.specs.Submission.{Submission, pricedRow, rowPrice, lineBy}
 use Rattle.codes.specs.declared.Place.{Place, the-variants.At, the-variants.Nowhere}
 use Rattle.csv.specs.Reading.{fieldCount, recordsOf}
 use Rattle.layout.specs.Layout.{Meaning, good, refused, parse, mayFollow}
@@ -25,8 +24,8 @@ valuesBy k (refused number ∷ rest) = valuesBy k rest
 -- what they submit: of each H a holding's row and its price, of each P a line
 unfoldable pub submissionOf : List Meaning → Submission
 submissionOf parsed = record {
-  rows = map rowBy (valuesBy 0 parsed);
-  prices = map (λ vs. getD vs 5 0) (valuesBy 0 parsed);
+  rows = map pricedRow (valuesBy 0 parsed);
+  prices = map rowPrice (valuesBy 0 parsed);
   lines = map lineBy (valuesBy 1 parsed);
 }
 

@@ -18,6 +18,7 @@ pub fn read_into(
     days: &mut [u8],
     value: &mut [u8],
     price: &mut [u8],
+    currency: &mut [u8],
     long: &mut [u8],
     short: &mut [u8],
     amount: &mut [u8],
@@ -26,11 +27,11 @@ pub fn read_into(
     requires { ⌜ TableRoom rows (now text) (now book) (now lines) ⌝ }
     ensures { λ r. ⌜ Reads (now (text .entry))
         (makeColumns
-        (now (side .entry) ∷ now (kind .entry) ∷ now (issuer .entry) ∷ now (days .entry) ∷ now (value .entry) ∷ [])
+        (now (side .entry) ∷ now (kind .entry) ∷ now (issuer .entry) ∷ now (days .entry) ∷ now (value .entry) ∷ now (currency .entry) ∷ [])
         (now (price .entry))
         (now (long .entry) ∷ now (short .entry) ∷ now (amount .entry) ∷ []))
         (makeColumns
-        (now (side .exit) ∷ now (kind .exit) ∷ now (issuer .exit) ∷ now (days .exit) ∷ now (value .exit) ∷ [])
+        (now (side .exit) ∷ now (kind .exit) ∷ now (issuer .exit) ∷ now (days .exit) ∷ now (value .exit) ∷ now (currency .exit) ∷ [])
         (now (price .exit))
         (now (long .exit) ∷ now (short .exit) ∷ now (amount .exit) ∷ []))
         (now (answer .entry)) (now (answer .exit)) r ⌝ }
@@ -51,6 +52,7 @@ pub fn read_into(
                 days.len(),
                 value.len(),
                 price.len(),
+                currency.len(),
                 long.len(),
                 short.len(),
                 amount.len(),
@@ -58,7 +60,18 @@ pub fn read_into(
             ) {
                 return lent::put_answer(2, 0, 0, answer);
             }
-            columns::copy_book(book, rows, holdings, side, kind, issuer, days, value, price);
+            columns::copy_book(
+                book,
+                rows,
+                holdings,
+                side,
+                kind,
+                issuer,
+                days,
+                value,
+                price,
+                currency,
+            );
             columns::copy_lines(lines, rows, pairs, long, short, amount);
             lent::put_answer(0, holdings as u64, pairs as u64, answer)
         }

@@ -11,12 +11,13 @@ pub fn lengths(
     days: usize,
     value: usize,
     price: usize,
+    currency: usize,
     long: usize,
     short: usize,
     amount: usize,
     two: bool,
 ) -> u64
-    ensures { λ r. ⌜ r ≡ lengthFault (side ∷ kind ∷ issuer ∷ days ∷ value ∷ price ∷ []) (long ∷ short ∷ amount ∷ []) two ⌝ }
+    ensures { λ r. ⌜ r ≡ lengthFault (side ∷ kind ∷ issuer ∷ days ∷ value ∷ currency ∷ price ∷ []) (long ∷ short ∷ amount ∷ []) two ⌝ }
 {
     let n = side / 8;
     let m = long / 8;
@@ -27,6 +28,7 @@ pub fn lengths(
         | (issuer != book)
         | (days != book)
         | (value != book)
+        | (currency != book)
         | (price != book)
         | (long != lines)
         | (short != lines)
@@ -63,12 +65,13 @@ pub fn columns_too_short(
     days: usize,
     value: usize,
     price: usize,
+    currency: usize,
     long: usize,
     short: usize,
     amount: usize,
     answer: usize,
 ) -> bool
-    ensures { λ r. ⌜ r ≡ tooShort ((holdings, side) ∷ (holdings, kind) ∷ (holdings, issuer) ∷ (holdings, days) ∷ (holdings, value) ∷ (holdings, price)
+    ensures { λ r. ⌜ r ≡ tooShort ((holdings, side) ∷ (holdings, kind) ∷ (holdings, issuer) ∷ (holdings, days) ∷ (holdings, value) ∷ (holdings, currency) ∷ (holdings, price)
         ∷ (lines, long) ∷ (lines, short) ∷ (lines, amount) ∷ []) answer ⌝ }
 {
     (side / 8 < holdings)
@@ -76,6 +79,7 @@ pub fn columns_too_short(
         | (issuer / 8 < holdings)
         | (days / 8 < holdings)
         | (value / 8 < holdings)
+        | (currency / 8 < holdings)
         | (price / 8 < holdings)
         | (long / 8 < lines)
         | (short / 8 < lines)

@@ -39,6 +39,7 @@ pub fn check(
     days: &[u8],
     value: &[u8],
     price: &[u8],
+    currency: &[u8],
     long: &[u8],
     short: &[u8],
     amount: &[u8],
@@ -49,7 +50,7 @@ pub fn check(
 ) -> Verdict
     requires { ⌜ ScratchRoom (entries (now side)) (now legs) (now left) (now margins) (now ranks) ⌝ }
     ensures { λ r. ⌜ Judges two (makeColumns
-        (now (side .entry) ∷ now (kind .entry) ∷ now (issuer .entry) ∷ now (days .entry) ∷ now (value .entry) ∷ [])
+        (now (side .entry) ∷ now (kind .entry) ∷ now (issuer .entry) ∷ now (days .entry) ∷ now (value .entry) ∷ now (currency .entry) ∷ [])
         (now (price .entry))
         (now (long .entry) ∷ now (short .entry) ∷ now (amount .entry) ∷ []))
         (makeScratch (now (left .entry)) (now (margins .entry)) (now (ranks .entry)))
@@ -62,6 +63,7 @@ pub fn check(
         days.len(),
         value.len(),
         price.len(),
+        currency.len(),
         long.len(),
         short.len(),
         amount.len(),
@@ -71,7 +73,7 @@ pub fn check(
         return refused(proposal::fault_at(number, 0, 0));
     }
     let n = side.len() / 8;
-    let fault = positions::open(side, kind, issuer, days, value, price, legs, left);
+    let fault = positions::open(side, kind, issuer, days, value, price, currency, legs, left);
     if fault.number != 0 {
         return refused(fault);
     }
