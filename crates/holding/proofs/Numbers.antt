@@ -1,6 +1,6 @@
 -- A record has the numbers of its cases. Assumes nothing.
 use mathlib.Core.Path.{refl, ap, _∙_}
-use Rattle.holding.specs.Holding.{sideNumber, kindNumber, issuerNumber, rowOf, Numbers}
+use Rattle.holding.specs.Holding.{sideNumber, kindNumber, issuerNumber, currencyNumber, rowOf, Numbers}
 use Rattle.holding.specs.declared.Holding.{Holding}
 
 pub numbers : (h : Holding) → Numbers h
@@ -13,6 +13,11 @@ numbers h = record {
   of-residual = ap kindNumber;
   of-canada = ap issuerNumber;
   of-province = λ p w e. ap issuerNumber e ∙ rw w;
+  of-us = ap issuerNumber;
+  of-gb = ap issuerNumber;
+  of-cad = ap currencyNumber;
+  of-usd = ap currencyNumber;
+  of-gbp = ap currencyNumber;
   days = refl;
   value = refl;
 }

@@ -1,21 +1,23 @@
 -- A row has no fault exactly when its numbers are within their ranges; a row and its record then give each other back. Assumes nothing.
-use mathlib.Core.Path.{_≡_, refl}
+use mathlib.Core.Path.{_≡_, refl, sym}
 use mathlib.Core.Bool.{Bool, true, false, not}
 use Prim.Native.Nat.{ℕ, zero, suc, _≤_}
 use native.Mathlib.Omega.{arith}
-use lib.Dec.{eqb·suc-zero}
-use borrow.Author.Tests.{not-false, ne-eqb}
-use Rattle.lists.proofs.Tests.{within-true, true-within}
+use lib.Dec.{eqb}
+use borrow.Author.Tests.{not-false, ne-eqb, eqb-true, eqb-false}
+use Rattle.lists.proofs.Tests.{within-true, true-within, by-test}
 use Rattle.lists.proofs.Firsts.{None, Listed, none-first}
 use Rattle.lists.specs.Choice.{firstOf, within}
-use Rattle.holding.specs.Holding.{Ranges, InRange, identityFaults, termFaults, worthFaults, rowFaults, faultOf}
-use Rattle.holding.specs.Holding.{sideNumber, kindNumber, noIssuer, issuerNumber, sideOf, kindOf, issuerOf, rowOf, holdingOf}
+use Rattle.holding.specs.Holding.{Ranges, InRange, identityFaults, termFaults, worthFaults, moneyFaults, rowFaults, faultOf}
+use Rattle.holding.specs.Holding.{sideNumber, kindNumber, noIssuer, issuerNumber, currencyNumber, sideOf, kindOf, issuerOf, currencyOf, rowOf, holdingOf}
 use Rattle.holding.specs.declared.Side.{Side}
 use Rattle.holding.specs.declared.Side.the-variants.{Long, Short}
 use Rattle.holding.specs.declared.Kind.{Kind}
 use Rattle.holding.specs.declared.Kind.the-variants.{Bond, Coupon, Residual}
 use Rattle.holding.specs.declared.Issuer.{Issuer}
-use Rattle.holding.specs.declared.Issuer.the-variants.{Canada, Province}
+use Rattle.holding.specs.declared.Issuer.the-variants.{Canada, Province, UnitedStates, UnitedKingdom}
+use Rattle.holding.specs.declared.Currency.{Currency}
+use Rattle.holding.specs.declared.Currency.the-variants.{Cad, Usd, Gbp}
 use Rattle.holding.specs.declared.Holding.{Holding}
 use Rattle.holding.specs.declared.Row.{Row}
 
@@ -32,37 +34,43 @@ pub term-listed : (r : Row) → Listed (termFaults r)
 unfolding termFaults
 term-listed r = (omega arith, tt)
 
+pub worth-listed : (r : Row) → Listed (worthFaults r)
+unfolding worthFaults
+worth-listed r = (omega arith, tt)
+
 pub row-listed : (r : Row) → Listed (rowFaults r)
-unfolding rowFaults identityFaults termFaults worthFaults
-row-listed r = (omega arith, (omega arith, (omega arith, (omega arith, (omega arith, tt)))))
+unfolding rowFaults identityFaults termFaults worthFaults moneyFaults
+row-listed r = (omega arith, (omega arith, (omega arith, (omega arith, (omega arith, (omega arith, tt))))))
 
 pub none-of-row : (r : Row) → faultOf r ≡ 0 → None (rowFaults r)
 unfolding faultOf
 none-of-row r e = none-first (λ (n : ℕ). n) (rowFaults r) 0 (row-listed r) e .0
 
 pub fault-none : (r : Row) → faultOf r ≡ 0 → Ranges r
-unfolding rowFaults identityFaults termFaults worthFaults
+unfolding rowFaults identityFaults termFaults worthFaults moneyFaults
 fault-none r e =
-    let (side, (kind, (issuer, (days, (value, _))))) = none-of-row r e in
+    let (side, (kind, (issuer, (days, (value, (currency, _)))))) = none-of-row r e in
     record {
       side = inside 0 1 (r .side) side .1;
       kind = inside 0 2 (r .kind) kind .1;
-      issuer = inside 0 10 (r .issuer) issuer .1;
+      issuer = inside 0 12 (r .issuer) issuer .1;
       days-low = inside 1 36500 (r .days) days .0;
       days-high = inside 1 36500 (r .days) days .1;
       value-low = inside 1 100000000000 (r .value) value .0;
       value-high = inside 1 100000000000 (r .value) value .1;
+      currency = inside 0 2 (r .currency) currency .1;
     }
 
 pub none-fault : (r : Row) → Ranges r → faultOf r ≡ 0
-unfolding faultOf rowFaults identityFaults termFaults worthFaults firstOf
+unfolding faultOf rowFaults identityFaults termFaults worthFaults moneyFaults firstOf
 none-fault r g =
     rw (
       true-within 0 1 (r .side) (omega arith) (g .side),
       true-within 0 2 (r .kind) (omega arith) (g .kind),
-      true-within 0 10 (r .issuer) (omega arith) (g .issuer),
+      true-within 0 12 (r .issuer) (omega arith) (g .issuer),
       true-within 1 36500 (r .days) (g .days-low) (g .days-high),
       true-within 1 100000000000 (r .value) (g .value-low) (g .value-high),
+      true-within 0 2 (r .currency) (omega arith) (g .currency),
     )
 
 side-number : (n : ℕ) → n ≤ 1 → sideNumber (sideOf n) ≡ n
@@ -78,15 +86,26 @@ kind-number (suc zero) h = refl
 kind-number (suc (suc zero)) h = refl
 kind-number (suc (suc (suc n))) h = omega arith
 
-issuer-number : (n : ℕ) → n ≤ 10 → issuerNumber (issuerOf n) ≡ n
-unfolding issuerOf
-issuer-number zero h = refl
-issuer-number (suc n) h = rw (eqb·suc-zero n) (rw (true-within 1 10 (suc n) (omega arith) h))
+issuer-number : (n : ℕ) → n ≤ 12 → issuerNumber (issuerOf n) ≡ n
+unfolding issuerOf firstOf
+issuer-number n h =
+    by-test (λ (i : Issuer). issuerNumber i ≡ n) (eqb n 0) (λ e. sym (eqb-true n 0 e))
+    (λ a. by-test (λ (i : Issuer). issuerNumber i ≡ n) (eqb n 11) (λ e. sym (eqb-true n 11 e))
+    (λ b. by-test (λ (i : Issuer). issuerNumber i ≡ n) (eqb n 12) (λ e. sym (eqb-true n 12 e))
+    (λ c. rw (true-within 1 10 n (omega (arith, eqb-false n 0 a)) (omega (arith, h, eqb-false n 11 b, eqb-false n 12 c))))))
+
+currency-number : (n : ℕ) → n ≤ 2 → currencyNumber (currencyOf n) ≡ n
+unfolding currencyOf
+currency-number zero h = refl
+currency-number (suc zero) h = refl
+currency-number (suc (suc zero)) h = refl
+currency-number (suc (suc (suc n))) h = omega arith
 
 -- a record keeps its row's numbers
 pub row-kept : (r : Row) → Ranges r → rowOf (holdingOf r) ≡ r
 unfolding rowOf holdingOf
-row-kept r g = rw (side-number (r .side) (g .side), kind-number (r .kind) (g .kind), issuer-number (r .issuer) (g .issuer))
+row-kept r g =
+    rw (side-number (r .side) (g .side), kind-number (r .kind) (g .kind), issuer-number (r .issuer) (g .issuer), currency-number (r .currency) (g .currency))
 
 -- the record of a row without fault is within the ranges
 pub in-range : (r : Row) → faultOf r ≡ 0 → InRange (holdingOf r)
@@ -106,22 +125,31 @@ kind-back Coupon = refl
 kind-back Residual = refl
 
 -- a province within the ranges has a number from 1 to 10: no other is an issuer
-pub province-range : (p : ℕ) → issuerNumber (Province p) ≤ 10 → within 1 10 p ≡ true
+pub province-range : (p : ℕ) → issuerNumber (Province p) ≤ 12 → within 1 10 p ≡ true
 province-range p h = by (within 1 10 p) refl
   where
     by : (t : Bool) → within 1 10 p ≡ t → within 1 10 p ≡ true
     by true e = e
     by false e =
-        let none : noIssuer ≤ 10 = rw e at h in
+        let none : noIssuer ≤ 12 = rw e at h in
         absurd (omega arith)
 
-issuer-back : (i : Issuer) → issuerNumber i ≤ 10 → issuerOf (issuerNumber i) ≡ i
-unfolding issuerOf
+issuer-back : (i : Issuer) → issuerNumber i ≤ 12 → issuerOf (issuerNumber i) ≡ i
+unfolding issuerOf firstOf
 issuer-back Canada h = refl
 issuer-back (Province p) h =
     let e = province-range p h in
-    rw (e, ne-eqb p 0 (λ z. let (a, _) = within-true 1 10 p e in omega arith))
+    let (low, high) = within-true 1 10 p e in
+    rw (e, ne-eqb p 0 (λ z. omega arith), ne-eqb p 11 (λ z. omega arith), ne-eqb p 12 (λ z. omega arith))
+issuer-back UnitedStates h = refl
+issuer-back UnitedKingdom h = refl
+
+currency-back : (c : Currency) → currencyOf (currencyNumber c) ≡ c
+unfolding currencyOf
+currency-back Cad = refl
+currency-back Usd = refl
+currency-back Gbp = refl
 
 pub holding-kept : (h : Holding) → InRange h → holdingOf (rowOf h) ≡ h
 unfolding rowOf holdingOf
-holding-kept h g = rw (side-back (h .side), kind-back (h .kind), issuer-back (h .issuer) (g .issuer))
+holding-kept h g = rw (side-back (h .side), kind-back (h .kind), issuer-back (h .issuer) (g .issuer), currency-back (h .currency))

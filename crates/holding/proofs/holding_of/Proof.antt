@@ -16,9 +16,9 @@ returns c = record {
 returns-2 : tie.Need-returns-2
 unfolding builtOf holdingOf
 returns-2 c =
-    let passed = c .before .before .before in
+    let passed = c .before .before .before .before in
     let none = sym (passed .before .fault .ensures) ∙ passed .if1 .left in
-    rw (c .before .before .side-of .ensures, c .before .kind-of .ensures, c .issuer-of .ensures)
+    rw (c .before .before .before .side-of .ensures, c .before .before .kind-of .ensures, c .before .issuer-of .ensures, c .currency-of .ensures)
     (record { number = sym none; built = rw (eq-eqb _ 0 none) })
 
 pub holding-of-spec : {M : Type 1} → statement M
@@ -27,6 +27,7 @@ holding-of-spec =
     (tie.spec
     (λ c κs. search needs)
     returns
+    (λ c κs. search needs)
     (λ c κs. search needs)
     (λ c κs. search needs)
     (λ c κs. search needs)
