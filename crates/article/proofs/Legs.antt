@@ -1,21 +1,14 @@
--- What an allowed pair of legs means, and which rule two records within the ranges have. Assumes nothing.
-use mathlib.Core.Path.{_≡_, refl, ap, _∙_}
-use mathlib.Core.Bool.{true, false, cond, _&&_, and-eq-true-iff, and-false}
-use Prim.Native.Nat.{ℕ, _≤_}
-use native.Mathlib.Omega.{arith}
+-- What an allowed pair of legs means, and why its rule permits it. Assumes nothing.
+use mathlib.Core.Path.{_≡_, refl}
+use mathlib.Core.Bool.{true, false, _&&_, and-eq-true-iff, and-false, false≢true}
+use Prim.Native.Nat.{_≤_}
 use lib.Dec.{eqb}
-use borrow.Author.Tests.{eq-eqb, ne-eqb, eqb-true}
-use Rattle.lists.specs.Choice.{within, firstOf}
-use Rattle.lists.proofs.Tests.{zero-out, within-true, by-test}
-use Rattle.holding.proofs.Ranges.{province-range}
-use Rattle.holding.specs.Holding.{kindNumber, issuerNumber}
+use borrow.Author.Tests.{eq-eqb, eqb-true}
+use Rattle.lists.specs.Choice.{firstOf}
+use Rattle.lists.proofs.Tests.{zero-out, by-test}
 use Rattle.article.proofs.PairRates.{permitted-high}
-use Rattle.article.specs.Rate.{classOf}
-use Rattle.article.specs.Pair.{isLong, isShort, isBond, isStrip, isCanada, isProvince, kindsPair, sameClass, mixedClass, classRule, ruleOf, permits, allowed, pairRateOf, rateLimit, RateInRange}
-use Rattle.holding.specs.declared.Kind.{Kind}
-use Rattle.holding.specs.declared.Kind.the-variants.{Bond, Coupon, Residual}
-use Rattle.holding.specs.declared.Issuer.{Issuer}
-use Rattle.holding.specs.declared.Issuer.the-variants.{Canada, Province}
+use Rattle.article.specs.Pair.{isLong, isShort, isBond, isStrip, kindsPair, sameClass, mixedClass, classRule, domesticRule, oneBond, sameGovernment, governmentRule, foreignRule}
+use Rattle.article.specs.Pair.{bothCad, sameForeign, ruleOf, permits, allowed, pairRateOf, rateLimit, RateInRange}
 use Rattle.article.specs.declared.pair.Rule.{Rule}
 use Rattle.article.specs.declared.pair.Rule.the-variants.{Difference, HalfSum, NotAllowed}
 use Rattle.article.specs.declared.pair.Leg.{Leg}
@@ -47,66 +40,33 @@ module _ (l s : Leg) where
 
   -- two bonds have no rule
   pub bonds-no-rule : l .kind ≡ 0 → s .kind ≡ 0 → ruleOf l s ≡ NotAllowed
-  unfolding ruleOf kindsPair isBond isStrip
-  bonds-no-rule a b = rw (zero-out 2 (l .kind) a, zero-out 2 (s .kind) b, eq-eqb _ _ a)
-
-  -- two kinds that are not both bonds pair
-  pub kinds-pair : (k m : Kind) → l .kind ≡ kindNumber k → s .kind ≡ kindNumber m → (k ≡ Bond → m ≡ Bond → ⊥) → kindsPair l s ≡ true
-  unfolding kindsPair isBond isStrip within
-  kinds-pair Bond Bond a b f = absurd (f refl refl)
-  kinds-pair Bond Coupon a b f = rw (a, b)
-  kinds-pair Bond Residual a b f = rw (a, b)
-  kinds-pair Coupon Bond a b f = rw (a, b)
-  kinds-pair Coupon Coupon a b f = rw (a, b)
-  kinds-pair Coupon Residual a b f = rw (a, b)
-  kinds-pair Residual Bond a b f = rw (a, b)
-  kinds-pair Residual Coupon a b f = rw (a, b)
-  kinds-pair Residual Residual a b f = rw (a, b)
-
-canada-leg : (l : Leg) → l .issuer ≡ 0 → (isCanada l ≡ true) × (isProvince l ≡ false)
-unfolding isCanada isProvince
-canada-leg l e = (eq-eqb _ _ e, zero-out 10 (l .issuer) e)
-
-province-leg : (l : Leg) (p : ℕ) → l .issuer ≡ issuerNumber (Province p) → issuerNumber (Province p) ≤ 10 → (isCanada l ≡ false) × (isProvince l ≡ true)
-unfolding isCanada isProvince
-province-leg l p e h =
-    let w = province-range p h in
-    let number : l .issuer ≡ p = rw w at e in
-    let (low, _) = within-true 1 10 p w in
-    (ne-eqb (l .issuer) 0 (λ z. omega arith), ap (within 1 10) number ∙ w)
-
--- one class: the difference; two classes: half the sum
-pub class-rule : (l s : Leg) (i j : Issuer) → l .issuer ≡ issuerNumber i → s .issuer ≡ issuerNumber j → issuerNumber i ≤ 10 → issuerNumber j ≤ 10 → classRule l s ≡ cond (eqb (classOf i) (classOf j)) Difference HalfSum
-unfolding classRule sameClass mixedClass firstOf
-class-rule l s Canada Canada a b f g =
-    let (c, p) = canada-leg l a in
-    let (d, q) = canada-leg s b in
-    rw (c, d)
-class-rule l s Canada (Province n) a b f g =
-    let (c, p) = canada-leg l a in
-    let (d, q) = province-leg s n b g in
-    rw (c, d, p, q)
-class-rule l s (Province m) Canada a b f g =
-    let (c, p) = province-leg l m a f in
-    let (d, q) = canada-leg s b in
-    rw (c, d, p, q)
-class-rule l s (Province m) (Province n) a b f g =
-    let (c, p) = province-leg l m a f in
-    let (d, q) = province-leg s n b g in
-    rw (c, p, q)
-
--- a leg of no class has no rule with any other
-module _ (l s : Leg) where
-  pub no-class-long : isCanada l ≡ false → isProvince l ≡ false → permits (ruleOf l s) ≡ false
-  unfolding ruleOf classRule sameClass mixedClass firstOf
-  no-class-long a b = rw (a, b) (by-test (λ (r : Rule). permits r ≡ false) (kindsPair l s) (λ _. refl) (λ _. refl))
-
-  pub no-class-short : isCanada s ≡ false → isProvince s ≡ false → permits (ruleOf l s) ≡ false
-  unfolding ruleOf classRule sameClass mixedClass firstOf
-  no-class-short a b =
-      rw (a, b, and-false (isCanada l), and-false (isProvince l))
-      (by-test (λ (r : Rule). permits r ≡ false) (kindsPair l s) (λ _. refl) (λ _. refl))
+  unfolding ruleOf domesticRule foreignRule kindsPair oneBond isBond isStrip
+  bonds-no-rule a b =
+      let Is : Rule → Type 0 = λ r. r ≡ NotAllowed in
+      by-test Is (bothCad l s)
+      (λ _. rw (zero-out 2 (l .kind) a, zero-out 2 (s .kind) b, eq-eqb _ _ a))
+      (λ _. by-test Is (sameForeign l s) (λ _. rw (zero-out 2 (l .kind) a, zero-out 2 (s .kind) b, eq-eqb _ _ a)) (λ _. refl))
 
   pub no-rule : permits (ruleOf l s) ≡ false → allowed l s ≡ false
   unfolding allowed
   no-rule e = rw e (and-false (isLong l && isShort s && eqb (l .period) (s .period)))
+
+-- why a rule permits a pair: paragraph 2 for legs of one class or of two, or paragraph 4
+pub data Permitted (l s : Leg) : Rule → Type 0 where
+  one-class : bothCad l s ≡ true → kindsPair l s ≡ true → sameClass l s ≡ true → Permitted l s Difference
+  two-classes : bothCad l s ≡ true → kindsPair l s ≡ true → mixedClass l s ≡ true → Permitted l s HalfSum
+  one-government : sameForeign l s ≡ true → oneBond l s ≡ true → sameGovernment l s ≡ true → Permitted l s Difference
+
+module _ (l s : Leg) where
+  pub permitted : permits (ruleOf l s) ≡ true → Permitted l s (ruleOf l s)
+  unfolding ruleOf domesticRule classRule foreignRule governmentRule firstOf
+  permitted =
+      let Why : Rule → Type 0 = λ r. permits r ≡ true → Permitted l s r in
+      let none : Why NotAllowed = λ e. absurd (false≢true e) in
+      by-test Why (bothCad l s)
+      (λ c. by-test Why (kindsPair l s)
+      (λ k. by-test Why (sameClass l s) (λ e _. one-class c k e) (λ _. by-test Why (mixedClass l s) (λ e _. two-classes c k e) (λ _. none)))
+      (λ _. none))
+      (λ _. by-test Why (sameForeign l s)
+      (λ c. by-test Why (oneBond l s) (λ k. by-test Why (sameGovernment l s) (λ e _. one-government c k e) (λ _. none)) (λ _. none))
+      (λ _. none))

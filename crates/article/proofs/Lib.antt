@@ -5,5 +5,6 @@ pub mod PairRates
 pub mod RateTable
 pub mod Rates
 pub mod Legs
+pub mod Paragraphs
 pub mod Article
 pub mod Answered

@@ -36,7 +36,16 @@ module _ (h : Holding) where
 
   -- a row from the rates of the bonds
   rates : {a b c d : ℕ} → bondRate 0 (h .days) ≡ a → stripRate a (h .days) ≡ b → bondRate 1 (h .days) ≡ c → stripRate c (h .days) ≡ d → Rates h a b c d
-  rates p q r s = record { canada-bond = of-bond p; canada-strip = of-strip p q; province-bond = λ _. of-bond r; province-strip = λ _. of-strip r s }
+  rates p q r s = record {
+    canada-bond = of-bond p;
+    canada-strip = of-strip p q;
+    province-bond = λ _. of-bond r;
+    province-strip = λ _. of-strip r s;
+    us-bond = of-bond p;
+    us-strip = of-strip p q;
+    gb-bond = of-bond p;
+    gb-strip = of-strip p q;
+  }
 
   -- a row over a year and below 20 years
   short : (p : ℕ) → 365 < h .days → h .days < 7300 → periodOf (h .days) ≡ p → Rates h (flatRate 0 p) (flatRate 0 p * 3 / 2) (flatRate 1 p) (flatRate 1 p * 3 / 2)

@@ -113,12 +113,13 @@ in-range r e =
     let g : Ranges r = fault-none r e in
     rw (row-kept r g) g
 
-side-back : (s : Side) → sideOf (sideNumber s) ≡ s
+-- a record's cases from their numbers
+pub side-back : (s : Side) → sideOf (sideNumber s) ≡ s
 unfolding sideOf
 side-back Long = refl
 side-back Short = refl
 
-kind-back : (k : Kind) → kindOf (kindNumber k) ≡ k
+pub kind-back : (k : Kind) → kindOf (kindNumber k) ≡ k
 unfolding kindOf
 kind-back Bond = refl
 kind-back Coupon = refl
@@ -134,7 +135,7 @@ province-range p h = by (within 1 10 p) refl
         let none : noIssuer ≤ 12 = rw e at h in
         absurd (omega arith)
 
-issuer-back : (i : Issuer) → issuerNumber i ≤ 12 → issuerOf (issuerNumber i) ≡ i
+pub issuer-back : (i : Issuer) → issuerNumber i ≤ 12 → issuerOf (issuerNumber i) ≡ i
 unfolding issuerOf firstOf
 issuer-back Canada h = refl
 issuer-back (Province p) h =
@@ -144,7 +145,7 @@ issuer-back (Province p) h =
 issuer-back UnitedStates h = refl
 issuer-back UnitedKingdom h = refl
 
-currency-back : (c : Currency) → currencyOf (currencyNumber c) ≡ c
+pub currency-back : (c : Currency) → currencyOf (currencyNumber c) ≡ c
 unfolding currencyOf
 currency-back Cad = refl
 currency-back Usd = refl

@@ -1,6 +1,6 @@
 -- The value of a test in a definition from what code found on its way, `search tests`; and back from its value to the fact. Assumes nothing.
 use mathlib.Core.Path.{_≡_, refl, sym}
-use mathlib.Core.Logic.{_≢_}
+use mathlib.Core.Logic.{_≢_, _⊎_, inl, inr}
 use mathlib.Core.Bool.{Bool, true, false, cond, _||_, and-eq-true-iff, and-false, false≢true}
 use Prim.Native.Nat.{ℕ, suc, _≤_, _<_}
 use native.Mathlib.Omega.{arith}
@@ -53,6 +53,11 @@ either-way false p q = q refl
 -- what holds below n and from n on holds everywhere
 pub by-end : (P : ℕ → Type 0) (n : ℕ) → ((k : ℕ) → k < n → P k) → ((k : ℕ) → n ≤ k → P k) → (k : ℕ) → P k
 by-end P n p q k = either-way (ltb k n) (λ e. p k (ltb-true k n e)) (λ e. q k (ltb-false k n e))
+
+-- one of two tests holds
+pub one-of : (s t : Bool) → (s || t) ≡ true → (s ≡ true) ⊎ (t ≡ true)
+one-of true t e = inl refl
+one-of false t e = inr e
 
 -- neither of two tests holds
 pub neither : (s t : Bool) → (s || t) ≡ false → (s ≡ false) × (t ≡ false)

@@ -1,58 +1,38 @@
--- `rule_of` is `ruleOf`: an arm's two kind numbers decide whether the kinds pair. Assumes nothing.
-use Rattle.lists.proofs.Tests.{arms}
-use Rattle.article.specs.Pair.{ruleOf, kindsPair, isBond, isStrip}
+-- `rule_of` is `ruleOf`: an arm's two currency numbers decide the paragraph. Assumes nothing.
+use mathlib.Core.Path.{_≡_, _∙_}
+use native.Mathlib.Omega.{arith}
+use borrow.Author.Tests.{eq-eqb, ne-eqb}
+use Rattle.article.specs.Pair.{domesticRule, foreignRule, ruleOf, bothCad, sameForeign, inCad, inUsd, inGbp}
+use Rattle.article.specs.declared.pair.Leg.{Leg}
 use borrow.Author.Needs.{needs}
 use Rattle.article.proofs.pair.rule_of.Statement.{statement}
 use Rattle.article.proofs.pair.rule_of.Tie as tie
 
-class-rule-requires : tie.Need-class-rule-requires
-class-rule-requires c κs = search needs
+module _ (l s : Leg) where
+  cad : l .currency ≡ 0 → s .currency ≡ 0 → domesticRule l s ≡ ruleOf l s
+  unfolding ruleOf bothCad inCad
+  cad a b = rw (eq-eqb _ _ a, eq-eqb _ _ b)
 
-class-rule-requires-2 : tie.Need-class-rule-requires-2
-class-rule-requires-2 c κs = search needs
+  usd : l .currency ≡ 1 → s .currency ≡ 1 → foreignRule l s ≡ ruleOf l s
+  unfolding ruleOf bothCad sameForeign inCad inUsd
+  usd a b = rw (ne-eqb (l .currency) 0 (λ z. omega arith), eq-eqb _ _ a, eq-eqb _ _ b)
 
-class-rule-requires-3 : tie.Need-class-rule-requires-3
-class-rule-requires-3 c κs = search needs
-
-returns : tie.Need-returns
-unfolding ruleOf kindsPair isBond isStrip
-returns c = search arms
-
-returns-2 : tie.Need-returns-2
-unfolding ruleOf kindsPair isBond isStrip
-returns-2 c = search arms
-
-returns-3 : tie.Need-returns-3
-unfolding ruleOf kindsPair isBond isStrip
-returns-3 c = search arms
-
-returns-4 : tie.Need-returns-4
-unfolding ruleOf kindsPair isBond isStrip
-returns-4 c = search arms
-
-returns-5 : tie.Need-returns-5
-unfolding ruleOf kindsPair isBond isStrip
-returns-5 c = search arms
-
-returns-6 : tie.Need-returns-6
-unfolding ruleOf kindsPair isBond isStrip
-returns-6 c = search arms
-
-returns-7 : tie.Need-returns-7
-unfolding ruleOf kindsPair isBond isStrip
-returns-7 c = search arms
+  gbp : l .currency ≡ 2 → s .currency ≡ 2 → foreignRule l s ≡ ruleOf l s
+  unfolding ruleOf bothCad sameForeign inCad inUsd inGbp
+  gbp a b = rw (ne-eqb (l .currency) 0 (λ z. omega arith), ne-eqb (l .currency) 1 (λ z. omega arith), eq-eqb _ _ a, eq-eqb _ _ b)
 
 pub rule-of-spec : {M : Type 1} → statement M
+unfolding ruleOf bothCad sameForeign inCad inUsd inGbp
 rule-of-spec =
     tie.close
     (tie.spec
-    class-rule-requires
-    class-rule-requires-2
-    class-rule-requires-3
-    returns
-    returns-2
-    returns-3
-    returns-4
-    returns-5
-    returns-6
-    returns-7)
+    (λ c κs. search needs)
+    (λ c κs. search needs)
+    (λ c κs. search needs)
+    (λ c. c .domestic-rule .ensures ∙ cad _ _ (c .before .before .match .keys1) (c .before .match2 .keys1))
+    (λ c. rw (c .before .match .keys1, ne-eqb _ 0 (c .match2 .rest .1)))
+    (λ c. c .foreign-rule .ensures ∙ usd _ _ (c .before .before .match .keys2) (c .before .match3 .keys1))
+    (λ c. rw (c .before .match .keys2, ne-eqb _ 1 (c .match3 .rest .1)))
+    (λ c. c .foreign-rule2 .ensures ∙ gbp _ _ (c .before .before .match .keys3) (c .before .match4 .keys1))
+    (λ c. rw (c .before .match .keys3, ne-eqb _ 2 (c .match4 .rest .1)))
+    (λ c. rw (ne-eqb _ 0 (c .match .rest .0 .0 .1), ne-eqb _ 1 (c .match .rest .0 .1), ne-eqb _ 2 (c .match .rest .1))))

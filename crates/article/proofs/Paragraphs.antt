@@ -1,0 +1,208 @@
+-- What the tests on two legs say of their records, and back: the two paragraphs of the page. Assumes nothing.
+use mathlib.Core.Path.{_≡_, refl, sym, ap, _∙_}
+use mathlib.Core.Logic.{_⊎_, inl, inr, ⊎-elim}
+use mathlib.Core.Bool.{true, false, and-eq-true-iff, false≢true}
+use Prim.Native.Nat.{ℕ, _≤_}
+use native.Mathlib.Omega.{arith}
+use lib.Dec.{eqb}
+use borrow.Author.Tests.{ne-eqb, eqb-true}
+use Rattle.lists.specs.Choice.{within, firstOf}
+use Rattle.lists.proofs.Tests.{within-true, one-of}
+use Rattle.holding.proofs.Ranges.{kind-back, issuer-back, currency-back, province-range}
+use Rattle.holding.specs.Holding.{kindNumber, issuerNumber, currencyNumber, kindOf, issuerOf, currencyOf, rowOf, InRange}
+use Rattle.article.proofs.Legs.{Permitted, one-class, two-classes, one-government}
+use Rattle.article.specs.Article.{OneClass, both-canada, both-provincial, TwoClasses, canada-long, canada-short, SameForeign, both-usd, both-gbp}
+use Rattle.article.specs.Article.{SameGovernment, of-canada, of-us, of-gb, OneBond, Paragraph2, Paragraph4}
+use Rattle.article.specs.Pair.{legOf, isBond, isStrip, isCanada, isProvince, isUs, isGb, inCad, inUsd, inGbp, kindsPair, sameClass, mixedClass, classRule, domesticRule}
+use Rattle.article.specs.Pair.{oneBond, sameGovernment, governmentRule, foreignRule, bothCad, sameForeign, ruleOf}
+use Rattle.holding.specs.declared.Kind.{Kind}
+use Rattle.holding.specs.declared.Kind.the-variants.{Bond, Coupon, Residual}
+use Rattle.holding.specs.declared.Issuer.{Issuer}
+use Rattle.holding.specs.declared.Issuer.the-variants.{Canada, Province, UnitedStates, UnitedKingdom}
+use Rattle.holding.specs.declared.Currency.{Currency}
+use Rattle.holding.specs.declared.Currency.the-variants.{Cad}
+use Rattle.holding.specs.declared.Holding.{Holding}
+use Rattle.article.specs.declared.pair.Rule.{Rule}
+use Rattle.article.specs.declared.pair.Rule.the-variants.{Difference, HalfSum}
+use Rattle.article.specs.declared.pair.Leg.{Leg}
+
+-- the case that a number is of
+currency-of : (c : Currency) (n : ℕ) → eqb (currencyNumber c) n ≡ true → c ≡ currencyOf n
+currency-of c n e = sym (currency-back c) ∙ ap currencyOf (eqb-true _ _ e)
+
+issuer-of : (i : Issuer) (n : ℕ) → n ≤ 12 → eqb (issuerNumber i) n ≡ true → i ≡ issuerOf n
+issuer-of i n h e =
+    let number : issuerNumber i ≡ n = eqb-true _ _ e in
+    sym (issuer-back i (rw number h)) ∙ ap issuerOf number
+
+canada-of : (i : Issuer) → eqb (issuerNumber i) 0 ≡ true → i ≡ Canada
+unfolding issuerOf firstOf
+canada-of i e = issuer-of i 0 (omega arith) e
+
+us-of : (i : Issuer) → eqb (issuerNumber i) 11 ≡ true → i ≡ UnitedStates
+unfolding issuerOf firstOf
+us-of i e = issuer-of i 11 (omega arith) e
+
+gb-of : (i : Issuer) → eqb (issuerNumber i) 12 ≡ true → i ≡ UnitedKingdom
+unfolding issuerOf firstOf
+gb-of i e = issuer-of i 12 (omega arith) e
+
+province-of : (i : Issuer) → within 1 10 (issuerNumber i) ≡ true → i ≡ Province (issuerNumber i)
+unfolding issuerOf firstOf
+province-of i e =
+    let (low, high) = within-true 1 10 (issuerNumber i) e in
+    sym (issuer-back i (omega arith))
+    ∙ rw (ne-eqb (issuerNumber i) 0 (λ z. omega arith), ne-eqb (issuerNumber i) 11 (λ z. omega arith), ne-eqb (issuerNumber i) 12 (λ z. omega arith))
+
+bond-of : (k : Kind) → eqb (kindNumber k) 0 ≡ true → k ≡ Bond
+unfolding kindOf
+bond-of k e = sym (kind-back k) ∙ ap kindOf (eqb-true (kindNumber k) 0 e)
+
+strip-of : (k : Kind) → within 1 2 (kindNumber k) ≡ true → k ≡ Bond → ⊥
+unfolding within
+strip-of k e b = false≢true (sym (ap (λ (x : Kind). within 1 2 (kindNumber x)) b) ∙ e)
+
+-- what the tests say of two records
+module _ (l s : Holding) where
+  both-cad : bothCad (legOf l) (legOf s) ≡ true → (l .currency ≡ Cad) × (s .currency ≡ Cad)
+  unfolding bothCad inCad legOf rowOf currencyOf
+  both-cad e = let (a, b) = and-eq-true-iff _ _ .0 e in (currency-of (l .currency) 0 a, currency-of (s .currency) 0 b)
+
+  same-foreign : sameForeign (legOf l) (legOf s) ≡ true → SameForeign (l .currency) (s .currency)
+  unfolding sameForeign inUsd inGbp legOf rowOf currencyOf
+  same-foreign e =
+      ⊎-elim
+      (λ f. let (a, b) = and-eq-true-iff _ _ .0 f in rw (currency-of (l .currency) 1 a, currency-of (s .currency) 1 b) both-usd)
+      (λ f. let (a, b) = and-eq-true-iff _ _ .0 f in rw (currency-of (l .currency) 2 a, currency-of (s .currency) 2 b) both-gbp)
+      (one-of _ _ e)
+
+  same-class : sameClass (legOf l) (legOf s) ≡ true → OneClass (l .issuer) (s .issuer)
+  unfolding sameClass isCanada isProvince legOf rowOf
+  same-class e =
+      ⊎-elim
+      (λ f. let (a, b) = and-eq-true-iff _ _ .0 f in rw (canada-of (l .issuer) a, canada-of (s .issuer) b) both-canada)
+      (λ f. let (a, b) = and-eq-true-iff _ _ .0 f in rw (province-of (l .issuer) a, province-of (s .issuer) b) (both-provincial _ _))
+      (one-of _ _ e)
+
+  mixed-class : mixedClass (legOf l) (legOf s) ≡ true → TwoClasses (l .issuer) (s .issuer)
+  unfolding mixedClass isCanada isProvince legOf rowOf
+  mixed-class e =
+      ⊎-elim
+      (λ f. let (a, b) = and-eq-true-iff _ _ .0 f in rw (canada-of (l .issuer) a, province-of (s .issuer) b) (canada-long _))
+      (λ f. let (a, b) = and-eq-true-iff _ _ .0 f in rw (province-of (l .issuer) a, canada-of (s .issuer) b) (canada-short _))
+      (one-of _ _ e)
+
+  same-government : sameGovernment (legOf l) (legOf s) ≡ true → SameGovernment (l .issuer) (s .issuer)
+  unfolding sameGovernment isCanada isUs isGb legOf rowOf
+  same-government e =
+      ⊎-elim
+      (λ o. ⊎-elim
+      (λ f. let (a, b) = and-eq-true-iff _ _ .0 f in rw (canada-of (l .issuer) a, canada-of (s .issuer) b) of-canada)
+      (λ f. let (a, b) = and-eq-true-iff _ _ .0 f in rw (us-of (l .issuer) a, us-of (s .issuer) b) of-us)
+      (one-of _ _ o))
+      (λ f. let (a, b) = and-eq-true-iff _ _ .0 f in rw (gb-of (l .issuer) a, gb-of (s .issuer) b) of-gb)
+      (one-of _ _ e)
+
+  one-bond : oneBond (legOf l) (legOf s) ≡ true → OneBond (l .kind) (s .kind)
+  unfolding oneBond isBond isStrip legOf rowOf
+  one-bond e =
+      ⊎-elim
+      (λ f. let (a, b) = and-eq-true-iff _ _ .0 f in record { some = inl (bond-of (l .kind) a); not-both = λ _ n. strip-of (s .kind) b n })
+      (λ f. let (a, b) = and-eq-true-iff _ _ .0 f in record { some = inr (bond-of (s .kind) b); not-both = λ m _. strip-of (l .kind) a m })
+      (one-of _ _ e)
+
+  not-bonds : kindsPair (legOf l) (legOf s) ≡ true → l .kind ≡ Bond → s .kind ≡ Bond → ⊥
+  unfolding kindsPair oneBond isBond isStrip legOf rowOf
+  not-bonds e m n = ⊎-elim (λ f. one-bond f .not-both m n) (λ f. strip-of (l .kind) (and-eq-true-iff _ _ .0 f .0) m) (one-of _ _ e)
+
+  -- one of the two paragraphs has a pair that is permitted
+  pub by-paragraph : {r : Rule} → Permitted (legOf l) (legOf s) r → Paragraph2 l s ⊎ Paragraph4 l s
+  by-paragraph (one-class c k e) = inl (record { first-cad = both-cad c .0; second-cad = both-cad c .1; classes = inl (same-class e); not-bonds = not-bonds k })
+  by-paragraph (two-classes c k e) = inl (record { first-cad = both-cad c .0; second-cad = both-cad c .1; classes = inr (mixed-class e); not-bonds = not-bonds k })
+  by-paragraph (one-government c k e) = inr (record { currency = same-foreign c; government = same-government e; one-bond = one-bond k })
+
+-- and what two records say of the tests
+module _ (l s : Leg) where
+  kinds : (k m : Kind) → l .kind ≡ kindNumber k → s .kind ≡ kindNumber m → (k ≡ Bond → m ≡ Bond → ⊥)
+      → (kindsPair l s ≡ true) × ((k ≡ Bond) ⊎ (m ≡ Bond) → oneBond l s ≡ true)
+  unfolding kindsPair oneBond isBond isStrip within
+  kinds Bond Bond a b f = absurd (f refl refl)
+  kinds Bond Coupon a b f = (rw (a, b), λ _. rw (a, b))
+  kinds Bond Residual a b f = (rw (a, b), λ _. rw (a, b))
+  kinds Coupon Bond a b f = (rw (a, b), λ _. rw (a, b))
+  kinds Coupon Coupon a b f = (rw (a, b), λ o. absurd (⊎-elim (strip-of Coupon refl) (strip-of Coupon refl) o))
+  kinds Coupon Residual a b f = (rw (a, b), λ o. absurd (⊎-elim (strip-of Coupon refl) (strip-of Residual refl) o))
+  kinds Residual Bond a b f = (rw (a, b), λ _. rw (a, b))
+  kinds Residual Coupon a b f = (rw (a, b), λ o. absurd (⊎-elim (strip-of Residual refl) (strip-of Coupon refl) o))
+  kinds Residual Residual a b f = (rw (a, b), λ o. absurd (⊎-elim (strip-of Residual refl) (strip-of Residual refl) o))
+
+  foreigners : {c d : Currency} → SameForeign c d → l .currency ≡ currencyNumber c → s .currency ≡ currencyNumber d → (bothCad l s ≡ false) × (sameForeign l s ≡ true)
+  unfolding bothCad sameForeign inCad inUsd inGbp
+  foreigners both-usd a b = (rw a, rw (a, b))
+  foreigners both-gbp a b = (rw a, rw (a, b))
+
+  governments : {i j : Issuer} → SameGovernment i j → l .issuer ≡ issuerNumber i → s .issuer ≡ issuerNumber j → sameGovernment l s ≡ true
+  unfolding sameGovernment isCanada isUs isGb
+  governments of-canada a b = rw (a, b)
+  governments of-us a b = rw (a, b)
+  governments of-gb a b = rw (a, b)
+
+canada-leg : (l : Leg) → l .issuer ≡ 0 → (isCanada l ≡ true) × (isProvince l ≡ false)
+unfolding isCanada isProvince within
+canada-leg l e = (rw e, rw e)
+
+province-leg : (l : Leg) (p : ℕ) → l .issuer ≡ issuerNumber (Province p) → issuerNumber (Province p) ≤ 12 → (isCanada l ≡ false) × (isProvince l ≡ true)
+unfolding isCanada isProvince
+province-leg l p e h =
+    let w = province-range p h in
+    let number : l .issuer ≡ p = rw w at e in
+    let (low, _) = within-true 1 10 p w in
+    (ne-eqb (l .issuer) 0 (λ z. omega arith), ap (within 1 10) number ∙ w)
+
+-- both Canada or both provincial: the difference; one Canada, one provincial: half the sum
+one-class-rule : (l s : Leg) {i j : Issuer} → OneClass i j → l .issuer ≡ issuerNumber i → s .issuer ≡ issuerNumber j
+    → issuerNumber i ≤ 12 → issuerNumber j ≤ 12 → classRule l s ≡ Difference
+unfolding classRule sameClass firstOf
+one-class-rule l s both-canada a b f g = rw (canada-leg l a .0, canada-leg s b .0)
+one-class-rule l s (both-provincial p q) a b f g = let (c, n) = province-leg l p a f in rw (c, n, province-leg s q b g .1)
+
+two-class-rule : (l s : Leg) {i j : Issuer} → TwoClasses i j → l .issuer ≡ issuerNumber i → s .issuer ≡ issuerNumber j
+    → issuerNumber i ≤ 12 → issuerNumber j ≤ 12 → classRule l s ≡ HalfSum
+unfolding classRule sameClass mixedClass firstOf
+two-class-rule l s (canada-long p) a b f g =
+    let (c, n) = canada-leg l a in
+    let (d, m) = province-leg s p b g in
+    rw (c, n, d, m)
+two-class-rule l s (canada-short p) a b f g =
+    let (c, n) = province-leg l p a f in
+    let (d, m) = canada-leg s b in
+    rw (c, n, d, m)
+
+-- the rule of two records by their paragraph
+module _ (l s : Holding) where
+  cads : Paragraph2 l s → bothCad (legOf l) (legOf s) ≡ true
+  unfolding bothCad inCad legOf rowOf
+  cads p = rw (p .first-cad, p .second-cad)
+
+  pairs : (l .kind ≡ Bond → s .kind ≡ Bond → ⊥) → (kindsPair (legOf l) (legOf s) ≡ true) × ((l .kind ≡ Bond) ⊎ (s .kind ≡ Bond) → oneBond (legOf l) (legOf s) ≡ true)
+  unfolding legOf rowOf
+  pairs f = kinds (legOf l) (legOf s) (l .kind) (s .kind) refl refl f
+
+  in-cad : Paragraph2 l s → {r : Rule} → classRule (legOf l) (legOf s) ≡ r → ruleOf (legOf l) (legOf s) ≡ r
+  unfolding ruleOf domesticRule
+  in-cad p e = rw (cads p, pairs (p .not-bonds) .0) e
+
+  pub abroad : Paragraph4 l s → ruleOf (legOf l) (legOf s) ≡ Difference
+  unfolding ruleOf foreignRule governmentRule legOf rowOf
+  abroad p =
+      let (foreign, same) = foreigners (legOf l) (legOf s) (p .currency) refl refl in
+      rw (foreign, same, pairs (p .one-bond .not-both) .1 (p .one-bond .some), governments (legOf l) (legOf s) (p .government) refl refl)
+
+  module _ (f : InRange l) (g : InRange s) where
+    pub class-one : Paragraph2 l s → OneClass (l .issuer) (s .issuer) → ruleOf (legOf l) (legOf s) ≡ Difference
+    unfolding legOf rowOf
+    class-one p e = in-cad p (one-class-rule (legOf l) (legOf s) e refl refl (f .issuer) (g .issuer))
+
+    pub class-two : Paragraph2 l s → TwoClasses (l .issuer) (s .issuer) → ruleOf (legOf l) (legOf s) ≡ HalfSum
+    unfolding legOf rowOf
+    class-two p e = in-cad p (two-class-rule (legOf l) (legOf s) e refl refl (f .issuer) (g .issuer))
