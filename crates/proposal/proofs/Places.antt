@@ -5,8 +5,9 @@ use mathlib.Core.List.{List, [], _∷_}
 use Prim.Native.Nat.{ℕ}
 use native.Mathlib.Omega.{arith}
 use Rattle.lists.specs.Choice.{firstOf}
-use Rattle.lists.proofs.Firsts.{None, Numbered, Listed, none-first}
-use Rattle.holding.specs.Holding.{identityFaults, termFaults, worthFaults, rowFaults}
+use Rattle.lists.proofs.Firsts.{None, Numbered, Listed, none-first, numbered-append}
+use Rattle.holding.proofs.Ranges.{row-listed}
+use Rattle.holding.specs.Holding.{rowFaults}
 use Rattle.holding.specs.declared.Row.{Row}
 use Rattle.article.specs.Answer.{Answer, makeAnswer}
 use Rattle.article.specs.declared.pair.Leg.{Leg}
@@ -42,8 +43,8 @@ module _ (p : ℕ) where
   first-at ((false, m) ∷ fs) n e h w = first-at fs n e h w
 
 pub holding-listed : (r : Row) (price : ℕ) → Listed (holdingFaults r price)
-unfolding holdingFaults rowFaults identityFaults termFaults worthFaults
-holding-listed r price = (omega arith, (omega arith, (omega arith, (omega arith, (omega arith, (omega arith, tt))))))
+unfolding holdingFaults
+holding-listed r price = numbered-append _ (rowFaults r) _ (row-listed r) (omega arith, tt)
 
 pub pair-listed : (l s : Leg) (amount a b : ℕ) → Listed (pairFaults l s amount a b)
 unfolding pairFaults
