@@ -24,6 +24,7 @@ small h g = record {
   side = omega (arith, g .side);
   kind = omega (arith, g .kind);
   issuer = omega (arith, g .issuer);
+  currency = omega (arith, g .currency);
   period = period-low (h .days);
   rate = omega (arith, rate-high h g);
 }
