@@ -117,7 +117,6 @@ fn foreign_rule(long: Leg, short: Leg) -> Rule
     let second = short.kind;
     match first {
         0 => match second {
-            0 => Rule::NotAllowed,
             1..=2 => government_rule(long, short),
             _ => Rule::NotAllowed,
         },

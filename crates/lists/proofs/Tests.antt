@@ -35,11 +35,18 @@ range-in high n z h =
     let k : n ≢ 0 = z in
     true-within 1 high n (omega arith) (omega arith)
 
+-- and of one on 1 to high alone
+pub none-out : (high n : ℕ) → n < 1 → within 1 high n ≡ false
+none-out high n h = zero-out high n (omega arith)
+
+pub range-from : (high n : ℕ) → 1 ≤ n → n < suc high → within 1 high n ≡ true
+range-from high n l h = true-within 1 high n l (omega arith)
+
 pub above-out : (high n : ℕ) → suc high ≤ n → within 1 high n ≡ false
 unfolding within
 above-out high n h = rw (lt-leb n high h) (and-false (leb 1 n))
 
-pub ruleset arms = (eq-eqb, ne-eqb, zero-out, range-in, above-out)
+pub ruleset arms = (eq-eqb, ne-eqb, zero-out, none-out, range-in, range-from, above-out)
 
 -- what holds of each answer, where the test has the value that picks it, holds of the one that is picked
 pub by-test : {A : Type 0} (P : A → Type 0) (t : Bool) {x y : A} → (t ≡ true → P x) → (t ≡ false → P y) → P (cond t x y)
