@@ -36,11 +36,11 @@ use Rattle.packed.proofs.Holdings.{small}
 use Rattle.positions.specs.Opens.{OpenRoom, Opens}
 
 -- a row whose numbers were read at an entry of the columns
-pub row-read : (side kind issuer days value : List ℕ) (i : ℕ) {a b c d e : ℕ}
-    → a ≡ wordAt side i → b ≡ wordAt kind i → c ≡ wordAt issuer i → d ≡ wordAt days i → e ≡ wordAt value i
-    → record { side = a; kind = b; issuer = c; days = d; value = e } ≡ rowBy (numbersAt (side ∷ kind ∷ issuer ∷ days ∷ value ∷ []) i)
+pub row-read : (side kind issuer days value currency : List ℕ) (i : ℕ) {a b c d e f : ℕ}
+    → a ≡ wordAt side i → b ≡ wordAt kind i → c ≡ wordAt issuer i → d ≡ wordAt days i → e ≡ wordAt value i → f ≡ wordAt currency i
+    → record { side = a; kind = b; issuer = c; days = d; value = e; currency = f } ≡ rowBy (numbersAt (side ∷ kind ∷ issuer ∷ days ∷ value ∷ currency ∷ []) i)
 unfolding numbersAt
-row-read side kind issuer days value i a b c d e = λ j. record { side = a j; kind = b j; issuer = c j; days = d j; value = e j }
+row-read side kind issuer days value currency i a b c d e f = λ j. record { side = a j; kind = b j; issuer = c j; days = d j; value = e j; currency = f j }
 
 -- the leg of a record that was made has a code
 pub small-leg : {row : Row} {b : Built} {h : Holding} {leg : Leg} → Builds row b → b ≡ Made h → leg ≡ legOf h → Small leg

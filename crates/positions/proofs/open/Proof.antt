@@ -11,34 +11,38 @@ use Rattle.positions.proofs.open.Statement.{statement}
 use Rattle.positions.proofs.open.Tie as tie
 
 abbrev Inv-loop : tie.InvT-loop
-Inv-loop side kind issuer days value price legs₀ left₀ n i₀ legs left i =
-    let columns = side ∷ kind ∷ issuer ∷ days ∷ value ∷ [] in
+Inv-loop side kind issuer days value price currency legs₀ left₀ n i₀ legs left i =
+    let columns = side ∷ kind ∷ issuer ∷ days ∷ value ∷ currency ∷ [] in
     (n ≡ countIn columns) × Opening columns price legs₀ left₀ legs left i
 
 abbrev μ-loop : tie.MeasureT-loop
-μ-loop side kind issuer days value price legs₀ left₀ n i₀ legs left i = n - i
+μ-loop side kind issuer days value price currency legs₀ left₀ n i₀ legs left i = n - i
+
+-- the loop, from where the leg of a turn has its code
+abbrev at-loop : tie.After-code-of Inv-loop μ-loop → tie.At-loop Inv-loop μ-loop
+at-loop c = c .before .before .before .before .before .before .before .before .before .before .before .before .before .before .before
 
 returns : tie.Need-returns Inv-loop μ-loop
 returns c =
     let made = c .before .before .before .before in
-    let turn = made .before .before .before .before .before .before in
+    let turn = made .before .before .before .before .before .before .before in
     opens-row (turn .before .loop .inv .1) (omega arith) (search row-read) (made .holding-of .ensures)
     (c .before .before .built .given .1) (c .fault-at .ensures)
 
 returns-2 : tie.Need-returns-2 Inv-loop μ-loop
 returns-2 c =
     let made = c .before .before .before .before .before .before in
-    let turn = made .before .before .before .before .before .before in
+    let turn = made .before .before .before .before .before .before .before in
     opens-price (turn .before .loop .inv .1) (omega arith) (search row-read) (made .holding-of .ensures)
-    (c .before .before .before .before .built2 .given .1) (c .before .before .word6 .ensures) (omega arith) (c .fault-at2 .ensures)
+    (c .before .before .before .before .built2 .given .1) (c .before .before .word7 .ensures) (omega arith) (c .fault-at2 .ensures)
 
 loop-again : tie.Need-loop-again Inv-loop μ-loop
 loop-again c =
     let made = c .before .before .before .before .before .before .before in
-    let turn = made .before .before .before .before .before .before in (
+    let turn = made .before .before .before .before .before .before .before in (
       turn .before .loop .inv .0,
       opening-more (turn .before .loop .inv .1) (omega arith) (search row-read) (made .holding-of .ensures) _
-          (c .before .before .before .before .before .built2 .given .1) (c .before .before .before .word6 .ensures) (omega arith) (c .before .leg-of .ensures .0) (c .code-of .ensures),
+          (c .before .before .before .before .before .built2 .given .1) (c .before .before .before .word7 .ensures) (omega arith) (c .before .leg-of .ensures .0) (c .code-of .ensures),
     )
 
 pub open-spec : {M : Type 1} → statement M
@@ -48,6 +52,7 @@ open-spec =
     Inv-loop
     μ-loop
     (λ c. unfold countIn entries in (refl, opening-none (search needs)))
+    (λ c κs. search needs)
     (λ c κs. search needs)
     (λ c κs. search needs)
     (λ c κs. search needs)
@@ -67,11 +72,11 @@ open-spec =
     returns-2
     (λ c κs. search needs)
     (λ c κs. small-leg (c .before .before .before .before .before .before .holding-of .ensures) (c .before .before .before .before .built2 .given .1) (c .leg-of .ensures .0))
-    (λ c. search needs)
-    (λ c. search needs)
-    (λ c. search needs)
-    (λ c. search needs)
-    (λ c. search needs)
+    (λ c. let inv = at-loop c .loop .inv in search needs)
+    (λ c. let inv = at-loop c .loop .inv in search needs)
+    (λ c. let inv = at-loop c .loop .inv in search needs)
+    (λ c. let inv = at-loop c .loop .inv in search needs)
+    (λ c. let inv = at-loop c .loop .inv in search needs)
     (λ c. search needs)
     loop-again
     (λ c κs. search needs)

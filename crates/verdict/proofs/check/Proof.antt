@@ -13,12 +13,12 @@ use Rattle.verdict.proofs.check.Statement.{statement}
 use Rattle.verdict.proofs.check.Tie as tie
 
 abbrev start : tie.After-lengths → tie.Start
-start c = c .before .before .before .before .before .before .before .before .before .before .before .before .before .before
+start c = c .before .before .before .before .before .before .before .before .before .before .before .before .before .before .before
 
 abbrev SizedAt : tie.Start → Type 0
 SizedAt c =
     let a = c .args in
-    Sized (a .two) (a .side .now) (a .kind .now ∷ a .issuer .now ∷ a .days .now ∷ a .value .now ∷ []) (a .price .now) (a .long .now) (a .short .now ∷ a .amount .now ∷ [])
+    Sized (a .two) (a .side .now) (a .kind .now ∷ a .issuer .now ∷ a .days .now ∷ a .value .now ∷ a .currency .now ∷ []) (a .price .now) (a .long .now) (a .short .now ∷ a .amount .now ∷ [])
 
 sized : (c : tie.Else1) → SizedAt (start (c .before))
 unfolding holdingSizes lineSizes
@@ -29,15 +29,15 @@ abbrev before-open : tie.After-open → tie.Else1
 before-open c = c .before .before .before
 
 abbrev legs : tie.After-open → List ℕ
-legs c = c .«open» .last .1 .1 .1 .1 .1 .1 .0
+legs c = c .«open» .last .1 .1 .1 .1 .1 .1 .1 .0
 
 abbrev left : tie.After-open → List ℕ
-left c = c .«open» .last .1 .1 .1 .1 .1 .1 .1 .0
+left c = c .«open» .last .1 .1 .1 .1 .1 .1 .1 .1 .0
 
 abbrev HeldAt : tie.After-open → Type 0
 HeldAt c =
     let a = start (before-open c .before) .args in
-    Held (a .two) (a .side .now) (a .kind .now ∷ a .issuer .now ∷ a .days .now ∷ a .value .now ∷ []) (a .price .now) (a .long .now) (a .short .now ∷ a .amount .now ∷ []) (a .left .now) (legs c) (left c)
+    Held (a .two) (a .side .now) (a .kind .now ∷ a .issuer .now ∷ a .days .now ∷ a .value .now ∷ a .currency .now ∷ []) (a .price .now) (a .long .now) (a .short .now ∷ a .amount .now ∷ []) (a .left .now) (legs c) (left c)
 
 abbrev opened : tie.Else2 → tie.After-open
 opened c = c .before .before .before .before .before .before
@@ -76,10 +76,10 @@ all-taken c = before-pairs (before-total (compared (c .before .before .before .b
 
 -- the lists that were lent are as long as before
 abbrev legs-long : (c : tie.After-open) → length (legs c) ≡ length (start (before-open c .before) .args .legs .now)
-legs-long c = c .«open» .kept .1 .1 .1 .1 .1 .1 .0
+legs-long c = c .«open» .kept .1 .1 .1 .1 .1 .1 .1 .0
 
 abbrev left-long : (c : tie.After-open) → length (left c) ≡ length (start (before-open c .before) .args .left .now)
-left-long c = c .«open» .kept .1 .1 .1 .1 .1 .1 .1 .0
+left-long c = c .«open» .kept .1 .1 .1 .1 .1 .1 .1 .1 .0
 
 abbrev left-after : (c : tie.After-take-lines) → length (c .take-lines .last .1 .1 .0) ≡ length (begun (c .before .before .before) .args .left .now)
 left-after c = c .take-lines .kept .1 .1 .0 ∙ left-long (opened (c .before .before .before))
