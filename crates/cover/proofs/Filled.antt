@@ -15,7 +15,7 @@ use Rattle.article.specs.Pair.{isShort, isLong, allowed, rateLimit, RateInRange
 use Rattle.article.specs.declared.pair.Leg.{Leg}
 use Rattle.packed.specs.Packed.{legIn, legAt}
 use Rattle.savings.specs.Savings.{savingOf}
-use Rattle.cover.specs.Cover.{PairCovered, Priced, markOf, Marked, Covered, RowCovered, Places, Shorts}
+use Rattle.cover.specs.Cover.{PairCovered, Priced, soughtMark, shortMark, Seeks, Marked, Covered, RowCovered, Places, Shorts}
 use Rattle.cover.proofs.Estimate.{two-bonds}
 
 -- a holding that is not short saves nothing as the short
@@ -66,7 +66,7 @@ module _ {n : ℕ} {legs price marks strips rates prices : List ℕ} where
       }
 
       -- one more short
-      module _ (priced : Priced n legs price) {x y z : ℕ} (mark : x ≡ markOf leg) (strip : (leg .kind ≡ 0 → ⊥) → y ≡ x) (e : z ≡ wordAt price j) where
+      module _ (priced : Priced n legs price) {x y z : ℕ} (mark : x ≡ shortMark leg) (strip : (leg .kind ≡ 0 → ⊥) → y ≡ x) (e : z ≡ wordAt price j) where
         room : m < 256
         room = omega (arith, priced .bounded .few, f .shorts .few)
 
@@ -86,9 +86,9 @@ module _ {n : ℕ} {legs price marks strips rates prices : List ℕ} where
                 (c .covered k (omega arith) l t ml (rw (getD-set-other column m k w 0 ne, old-rate k g) mt));
           }
 
-          column-new : length column ≡ 256 → w ≡ x → {l : Leg} → Marked l long rate → savingOf l (legAt legs j) ≤ p + wordAt price j
+          column-new : length column ≡ 256 → w ≡ x → {l : Leg} → Seeks l long rate → savingOf l (legAt legs j) ≤ p + wordAt price j
           column-new held same {l} ml =
-              let marked : Marked (legAt legs j) w (leg .rate) = record { marked = same ∙ mark ∙ ap markOf found; rated = ap (λ (t : Leg). t .rate) found } in
+              let marked : Marked (legAt legs j) w (leg .rate) = record { marked = same ∙ mark ∙ ap shortMark found; rated = ap (λ (t : Leg). t .rate) found } in
               rw (getD-set-same prices m z 0 (omega (arith, room, f .places .prices-held)), e) at
               (c .covered m (omega arith) l (legAt legs j) ml (rw (getD-set-same column m w 0 (omega (arith, room, held)), new-rate) marked))
 
@@ -99,7 +99,7 @@ module _ {n : ℕ} {legs price marks strips rates prices : List ℕ} where
           -- a bond saves nothing with a bond, and the strips hold any other short
           row-new : savingOf l (legAt legs j) ≤ p + wordAt price j
           row-new =
-              let own : Marked l (markOf l) (l .rate) = record { marked = refl; rated = refl } in
+              let own : Seeks l (soughtMark l) (l .rate) = record { marked = refl; rated = refl } in
               same-or-not (l .kind) 0
               (λ b. same-or-not (leg .kind) 0
               (λ d. rw (two-bonds l (legAt legs j) b (rw found at d)) (omega arith))
