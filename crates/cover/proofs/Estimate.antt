@@ -1,6 +1,6 @@
 -- What a pair saves at most, by the marks and the rates of its legs: the law of the scan's estimate. Assumes nothing.
 use mathlib.Core.Path.{_≡_, refl, sym, ap, _∙_}
-use mathlib.Core.Logic.{_≢_, ⊎-elim}
+use mathlib.Core.Logic.{⊎-elim}
 use mathlib.Core.Bool.{Bool, true, false, not, _&&_, _||_, and-eq-true-iff}
 use Prim.Native.Nat.{ℕ, _+_, _-_, _*_, _/_, _≤_, min}
 use native.Mathlib.Omega.{arith}
@@ -9,32 +9,32 @@ use borrow.Author.Tests.{ne-eqb, eqb-true}
 use Rattle.lists.specs.Choice.{within}
 use Rattle.lists.proofs.Tests.{within-true, by-test, one-of}
 use Rattle.article.specs.Pair.{isBond, isStrip, isCanada, isProvince, isUs, isGb, inCad, inUsd, inGbp, sameClass, mixedClass, oneBond, sameGovernment, bothCad, sameForeign}
-use Rattle.article.specs.Pair.{permits, ruleOf, allowed, ruleRate, pairRateOf, savingRateOf}
+use Rattle.article.specs.Pair.{permits, allowed, ruleRate, pairRateOf, savingRateOf}
 use Rattle.article.proofs.Legs.{allowed-meets, bonds-no-rule, no-rule, Permitted, one-class, two-classes, one-government, permitted}
 use Rattle.article.specs.declared.pair.Rule.{Rule}
 use Rattle.article.specs.declared.pair.Leg.{Leg}
 use Rattle.savings.specs.Savings.{savingOf}
-use Rattle.cover.specs.Cover.{isDomestic, keyOf, markOf, shortMark, soughtMark, OtherClass, Seeks, Marked, Asks}
+use Rattle.cover.specs.Cover.{isDomestic, keyOf, markOf, shortMark, soughtMark, OtherClass, Asks}
 
 -- two bonds save nothing
 pub two-bonds : (l s : Leg) → l .kind ≡ 0 → s .kind ≡ 0 → savingOf l s ≡ 0
 unfolding savingOf
 two-bonds l s f g = rw (no-rule l s (ap permits (bonds-no-rule l s f g)))
 
--- a leg of a number that is no 0 is none of number 0
+-- a number from 1 on is not 0
 positive : (high n : ℕ) → within 1 high n ≡ true → eqb n 0 ≡ false
 positive high n e = ne-eqb n 0 (λ z. omega (arith, within-true 1 high n e .0))
 
--- two legs of one number
+-- two numbers that are both n
 both : (x y n : ℕ) → (eqb x n && eqb y n) ≡ true → x ≡ y
 both x y n e = let (a, b) = and-eq-true-iff _ _ .0 e in eqb-true x n a ∙ sym (eqb-true y n b)
 
 -- of two pairs of tests one holds
-one-pair : {P : Type 0} (a b c d : Bool) → (a && b || c && d) ≡ true → (a ≡ true → b ≡ true → P) → (c ≡ true → d ≡ true → P) → P
+one-pair : {P : Type 0} (a b c d : Bool) → ((a && b) || (c && d)) ≡ true → (a ≡ true → b ≡ true → P) → (c ≡ true → d ≡ true → P) → P
 one-pair a b c d e p q =
     ⊎-elim (λ f. let (t, u) = and-eq-true-iff a b .0 f in p t u) (λ f. let (t, u) = and-eq-true-iff c d .0 f in q t u) (one-of (a && b) (c && d) e)
 
--- the mark of a leg in CAD says its period and its class
+-- the mark of a leg in CAD, of Canada or of a province, whichever kind is asked
 module _ (bond : Bool) (l : Leg) (cad : inCad l ≡ true) where
   canada-mark : isCanada l ≡ true → markOf bond l ≡ 4 * l .period + 0
   unfolding markOf keyOf isDomestic
@@ -55,6 +55,7 @@ module _ (l s : Leg) (p : l .period ≡ s .period) where
       (λ a b. omega (arith, p, canada-mark (not (isBond l)) l cl a, canada-mark (isBond s) s cs b))
       (λ a b. omega (arith, p, province-mark (not (isBond l)) l cl a, province-mark (isBond s) s cs b))
 
+  -- marks of one period and two classes
   crossed : {x y : ℕ} (c d : ℕ) → x ≡ 4 * l .period + c → y ≡ 4 * s .period + d → c + d ≡ 1 → OtherClass x y
   crossed c d e f h = record { key = omega (arith, p, e, f, h); class = omega (arith, p, e, f, h) }
 
@@ -73,6 +74,7 @@ module _ (l s : Leg) (p : l .period ≡ s .period) where
   sought e =
       one-pair (isBond l) (isStrip s) (isStrip l) (isBond s) e (λ a b. rw (a, positive 2 (s .kind) b)) (λ a b. rw (b, positive 2 (l .kind) a))
 
+  -- paragraph 4 has two legs of one currency and one issuer
   currency : sameForeign l s ≡ true → l .currency ≡ s .currency
   unfolding sameForeign inUsd inGbp
   currency e = ⊎-elim (both _ _ 1) (both _ _ 2) (one-of _ _ e)
@@ -95,7 +97,7 @@ module _ (l s : Leg) (p : l .period ≡ s .period) where
   by-marks d h (one-government c k e) = omega (arith, d (foreign-mark c k e))
 
 module _ {long a short b : ℕ} where
-  -- what is asked is enough where it is for equal marks and for those of two classes
+  -- what is asked is enough where it is for equal marks and for marks of two classes
   asks : {x : ℕ} → (short ≡ long → 2 * min a b ≤ x) → (OtherClass long short → (a + b + 1) / 2 ≤ x) → Asks long a short b x
   unfolding savingOf savingRateOf pairRateOf
   asks {x} d h = record {
@@ -106,11 +108,14 @@ module _ {long a short b : ℕ} where
         (λ _. omega arith);
   }
 
+  -- by any other mark nothing is asked
   pub neither-mark : {cross : ℕ} → OtherClass long cross → (short ≡ cross → ⊥) → (short ≡ long → ⊥) → Asks long a short b 0
   neither-mark {cross} o f g = asks (λ e. absurd (g e)) (λ q. absurd (f (omega (arith, o .key, o .class, q .key, q .class))))
 
+  -- by the mark that the long seeks, twice the lesser rate
   pub equal-marks : short ≡ long → Asks long a short b (2 * min a b)
   equal-marks e = asks (λ _. omega arith) (λ o. absurd (omega (arith, o .class, e)))
 
+  -- by that of the other class, half the sum
   pub other-mark : OtherClass long short → Asks long a short b ((a + b + 1) / 2)
   other-mark o = asks (λ e. absurd (omega (arith, o .class, e))) (λ _. omega arith)

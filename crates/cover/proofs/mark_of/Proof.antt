@@ -1,9 +1,7 @@
 -- `mark_of` is `markOf`. Assumes nothing.
-use mathlib.Core.Path.{_≡_, sym, _∙_}
-use mathlib.Core.Bool.{true, false}
 use borrow.Author.Tests.{eq-eqb, ne-eqb}
 use Rattle.article.specs.Pair.{isCanada}
-use Rattle.cover.specs.Cover.{isDomestic, keyOf, markOf}
+use Rattle.cover.specs.Cover.{keyOf, markOf}
 use borrow.Author.Needs.{needs}
 use Rattle.cover.proofs.mark_of.Statement.{statement}
 use Rattle.cover.proofs.mark_of.Tie as tie
@@ -20,8 +18,8 @@ cast-result c = search needs
 returns : tie.Need-returns
 unfolding markOf keyOf isCanada
 returns c =
-    let domestic : isDomestic (c .before .before .before .before .before .args .leg) ≡ true = sym (c .before .before .before .before .is-domestic .ensures) ∙ c .before .before .before .if1 .taken in
-    rw (domestic, eq-eqb _ _ (c .before .if2 .taken)) (search needs)
+    let called = c .before .before .before in
+    rw (← called .before .is-domestic .ensures, called .if1 .taken, eq-eqb _ _ (c .before .if2 .taken)) (search needs)
 
 mul-result-2 : tie.Need-mul-result-2
 mul-result-2 c = search needs
@@ -35,8 +33,8 @@ cast-result-2 c = search needs
 returns-2 : tie.Need-returns-2
 unfolding markOf keyOf isCanada
 returns-2 c =
-    let domestic : isDomestic (c .before .before .before .before .before .args .leg) ≡ true = sym (c .before .before .before .before .is-domestic .ensures) ∙ c .before .before .before .if1 .taken in
-    rw (domestic, ne-eqb _ _ (c .before .if2 .left)) (search needs)
+    let called = c .before .before .before in
+    rw (← called .before .is-domestic .ensures, called .if1 .taken, ne-eqb _ _ (c .before .if2 .left)) (search needs)
 
 mul-key : tie.Need-mul-key
 mul-key c = search needs
@@ -57,11 +55,10 @@ cast-result-3 : tie.Need-cast-result-3
 cast-result-3 c = search needs
 
 returns-3 : tie.Need-returns-3
-unfolding markOf keyOf isCanada
+unfolding markOf keyOf
 returns-3 c =
-    let at = c .before .before .before .before .before in
-    let domestic : isDomestic (at .before .args .leg) ≡ false = sym (at .is-domestic .ensures) ∙ c .before .before .before .before .if1 .left in
-    rw (domestic, c .if3 .taken) (search needs)
+    let called = c .before .before .before .before in
+    rw (← called .before .is-domestic .ensures, called .if1 .left, c .if3 .taken) (search needs)
 
 mul-result-4 : tie.Need-mul-result-4
 mul-result-4 c = search needs
@@ -73,11 +70,10 @@ cast-result-4 : tie.Need-cast-result-4
 cast-result-4 c = search needs
 
 returns-4 : tie.Need-returns-4
-unfolding markOf keyOf isCanada
+unfolding markOf keyOf
 returns-4 c =
-    let at = c .before .before .before .before .before in
-    let domestic : isDomestic (at .before .args .leg) ≡ false = sym (at .is-domestic .ensures) ∙ c .before .before .before .before .if1 .left in
-    rw (domestic, c .if3 .left) (search needs)
+    let called = c .before .before .before .before in
+    rw (← called .before .is-domestic .ensures, called .if1 .left, c .if3 .left) (search needs)
 
 pub mark-of-spec : {M : Type 1} → statement M
 mark-of-spec =
