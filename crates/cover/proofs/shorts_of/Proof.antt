@@ -1,5 +1,5 @@
 -- `shorts_of` fills the columns of the shorts: each turn passes a holding, or writes one more short. Assumes nothing.
-use mathlib.Core.Logic.{⊎-elim}
+use mathlib.Core.Logic.{inl, inr}
 use Prim.{tt}
 use Prim.Native.Nat.{_-_}
 use native.Mathlib.Omega.{arith}
@@ -89,10 +89,10 @@ loop-again c =
     let filling = turn .before .loop .inv in
     let leg = c .before .before .leg-in .ensures in
     let priced = turn .before .before .before .before .pre .0 in
-    ⊎-elim
-    (λ w. rw (w .6, w .7, w .8, w .9, w .10) (filling-more filling leg (turn .loop-test .taken) priced (w .2 .ensures) (w .3 .ensures) (w .5 .ensures)))
-    (λ w. rw (w .1, w .2, w .3, w .4, w .5) (filling-other filling leg (turn .loop-test .taken) (w .0 .left)))
-    (c .if1 .came)
+    elim (c .if1 .came) [
+      | inl w ↦ rw (w .6, w .7, w .8, w .9, w .10) (filling-more filling leg (turn .loop-test .taken) priced (w .2 .ensures) (w .3 .ensures) (w .5 .ensures))
+      | inr w ↦ rw (w .1, w .2, w .3, w .4, w .5) (filling-other filling leg (turn .loop-test .taken) (w .0 .left))
+    ]
 
 returns : tie.Need-returns Inv-loop μ-loop
 returns c = filling-all (c .before .loop .inv) (c .loop-test .left)
