@@ -124,6 +124,14 @@ module _ {n : ℕ} {legs price marks strips rates prices : List ℕ} where
           };
         }
 
+-- the row of a long by the mark that it seeks: a bond's and any other's
+module _ {l : Leg} {mark price m : ℕ} {marks strips rates prices : List ℕ} (sought : mark ≡ soughtMark l) where
+  pub bond-row : l .kind ≡ 0 → Covered mark (l .rate) price strips rates prices m → RowCovered l price marks strips rates prices m
+  bond-row b c = record { bond = λ _. rw (← sought) c; other = λ f. absurd (f b) }
+
+  pub other-row : (l .kind ≡ 0 → ⊥) → Covered mark (l .rate) price marks rates prices m → RowCovered l price marks strips rates prices m
+  other-row f c = record { bond = λ b. absurd (f b); other = λ _. rw (← sought) c }
+
 -- what the scan finds covered is covered with every holding
 pub scan-closed : {n m : ℕ} {legs price marks strips rates prices : List ℕ} → Shorts n legs price marks strips rates prices m → (i : ℕ) {first : ℕ} {leg : Leg}
     → leg ≡ legAt legs i → first ≡ wordAt price i → RowCovered leg first marks strips rates prices m → (j : ℕ) → j < n → PairCovered legs price i j

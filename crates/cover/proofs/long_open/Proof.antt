@@ -2,6 +2,7 @@
 use borrow.Author.Needs.{needs}
 use Rattle.article.specs.Pair.{isBond}
 use Rattle.cover.specs.Cover.{soughtMark}
+use Rattle.cover.proofs.Filled.{bond-row, other-row}
 use Rattle.cover.proofs.long_open.Statement.{statement}
 use Rattle.cover.proofs.long_open.Tie as tie
 
@@ -16,20 +17,14 @@ row-open-requires c κs = search needs
 
 returns : tie.Need-returns
 unfolding soughtMark isBond
-returns c = λ e. record {
-  bond = λ _. rw (← c .before .before .before .before .mark-of .ensures) (c .row-open .ensures e);
-  other = λ f. absurd (f (c .before .if1 .taken));
-}
+returns c = λ e. bond-row (c .before .before .before .before .mark-of .ensures) (c .before .if1 .taken) (c .row-open .ensures e)
 
 row-open-requires-2 : tie.Need-row-open-requires-2
 row-open-requires-2 c κs = search needs
 
 returns-2 : tie.Need-returns-2
 unfolding soughtMark isBond
-returns-2 c = λ e. record {
-  bond = λ f. absurd (c .before .if1 .left f);
-  other = λ _. rw (← c .before .before .before .before .mark-of .ensures) (c .row-open2 .ensures e);
-}
+returns-2 c = λ e. other-row (c .before .before .before .before .mark-of .ensures) (c .before .if1 .left) (c .row-open2 .ensures e)
 
 pub long-open-spec : {M : Type 1} → statement M
 long-open-spec =
