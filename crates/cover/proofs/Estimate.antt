@@ -1,86 +1,121 @@
 -- What a pair saves at most, by the marks and the rates of its legs: the law of the scan's estimate. Assumes nothing.
-use mathlib.Core.Path.{_≡_, sym, ap, _∙_}
-use mathlib.Core.Logic.{_≢_}
-use mathlib.Core.Bool.{true, false, cond, false≢true, and-false}
-use Prim.Native.Nat.{ℕ, _+_, _-_, _*_, _/_, _%_, _≤_, min}
+use mathlib.Core.Path.{_≡_, refl, sym, ap, _∙_}
+use mathlib.Core.Logic.{⊎-elim}
+use mathlib.Core.Bool.{Bool, true, false, not, _&&_, _||_, and-eq-true-iff}
+use Prim.Native.Nat.{ℕ, _+_, _-_, _*_, _/_, _≤_, min}
 use native.Mathlib.Omega.{arith}
-use borrow.Author.Tests.{eqb-true}
-use Rattle.lists.specs.Choice.{firstOf}
-use Rattle.lists.proofs.Tests.{zero-out, by-test, same-or-not}
-use Rattle.article.specs.Pair.{isCanada, isProvince, kindsPair, sameClass, mixedClass, classRule, ruleOf, permits, allowed, ruleRate, pairRateOf, savingRateOf}
-use Rattle.article.proofs.Legs.{allowed-meets, bonds-no-rule, no-rule}
+use lib.Dec.{eqb}
+use borrow.Author.Tests.{ne-eqb, eqb-true}
+use Rattle.lists.specs.Choice.{within}
+use Rattle.lists.proofs.Tests.{within-true, by-test, one-of}
+use Rattle.article.specs.Pair.{isBond, isStrip, isCanada, isProvince, isUs, isGb, inCad, inUsd, inGbp, sameClass, mixedClass, oneBond, sameGovernment, bothCad, sameForeign}
+use Rattle.article.specs.Pair.{permits, allowed, ruleRate, pairRateOf, savingRateOf}
+use Rattle.article.proofs.Legs.{allowed-meets, bonds-no-rule, no-rule, Permitted, one-class, two-classes, one-government, permitted}
 use Rattle.article.specs.declared.pair.Rule.{Rule}
 use Rattle.article.specs.declared.pair.Leg.{Leg}
 use Rattle.savings.specs.Savings.{savingOf}
-use Rattle.cover.specs.Cover.{markOf, OtherClass, Marked, Asks}
-
--- what a mark says of its leg
-module _ {l : Leg} {mark rate : ℕ} (m : Marked l mark rate) where
-  says : (mark / 2 ≡ l .period) × (mark % 2 ≡ cond (isCanada l) 0 1)
-  unfolding markOf
-  says = by-test (λ (c : ℕ). mark ≡ 2 * l .period + c → (mark / 2 ≡ l .period) × (mark % 2 ≡ c)) (isCanada l)
-      (λ _ e. (omega (arith, e), omega (arith, e))) (λ _ e. (omega (arith, e), omega (arith, e))) (m .marked)
-
-  no-province : mark % 2 ≡ 0 → isProvince l ≡ false
-  unfolding isCanada isProvince
-  no-province h =
-      by-test (λ (c : ℕ). mark % 2 ≡ c → isProvince l ≡ false) (isCanada l)
-      (λ e _. zero-out 10 (l .issuer) (eqb-true _ _ e)) (λ _ e. absurd (omega (arith, h, e))) (says .1)
-
-  not-canada : mark % 2 ≢ 0 → isCanada l ≡ false
-  not-canada h = by-test (λ (c : ℕ). mark % 2 ≡ c → isCanada l ≡ false) (isCanada l) (λ _ e. absurd (h e)) (λ e _. e) (says .1)
-
-module _ {l s : Leg} {long a short b : ℕ} (ml : Marked l long a) (ms : Marked s short b) where
-  -- a pair that may be allowed saves by its rule, any other nothing
-  at-most : (x : ℕ) → (allowed l s ≡ true → sameClass l s ≡ true → 2 * min a b ≤ x)
-      → (allowed l s ≡ true → mixedClass l s ≡ true → (a + b + 1) / 2 ≤ x) → savingOf l s ≤ x
-  unfolding savingOf savingRateOf pairRateOf ruleOf classRule firstOf ruleRate
-  at-most x d h =
-      let Low : Rule → Type 0 = λ r. l .rate + s .rate - ruleRate r (l .rate) (s .rate) ≤ x in
-      by-test (λ (y : ℕ). y ≤ x) (allowed l s)
-      (λ e. by-test Low (kindsPair l s)
-      (λ _. by-test Low (sameClass l s) (λ c. omega (arith, ml .rated, ms .rated, d e c))
-      (λ _. by-test Low (mixedClass l s) (λ c. omega (arith, ml .rated, ms .rated, h e c)) (λ _. omega arith)))
-      (λ _. omega arith))
-      (λ _. omega arith)
-
-  nothing : (allowed l s ≡ true → ⊥) → savingOf l s ≤ 0
-  nothing f = at-most 0 (λ e _. absurd (f e)) (λ e _. absurd (f e))
-
-  by-difference : mixedClass l s ≡ false → savingOf l s ≤ 2 * min a b
-  by-difference f = at-most _ (λ _ _. omega arith) (λ _ c. absurd (false≢true (sym f ∙ c)))
-
-  by-half : sameClass l s ≡ false → savingOf l s ≤ (a + b + 1) / 2
-  by-half f = at-most _ (λ _ c. absurd (false≢true (sym f ∙ c))) (λ _ _. omega arith)
+use Rattle.cover.specs.Cover.{isDomestic, keyOf, markOf, shortMark, soughtMark, OtherClass, Asks}
 
 -- two bonds save nothing
 pub two-bonds : (l s : Leg) → l .kind ≡ 0 → s .kind ≡ 0 → savingOf l s ≡ 0
 unfolding savingOf
 two-bonds l s f g = rw (no-rule l s (ap permits (bonds-no-rule l s f g)))
 
+-- a number from 1 on is not 0
+positive : (high n : ℕ) → within 1 high n ≡ true → eqb n 0 ≡ false
+positive high n e = ne-eqb n 0 (λ z. omega (arith, within-true 1 high n e .0))
+
+-- two numbers that are both n
+both : (x y n : ℕ) → (eqb x n && eqb y n) ≡ true → x ≡ y
+both x y n e = let (a, b) = and-eq-true-iff _ _ .0 e in eqb-true x n a ∙ sym (eqb-true y n b)
+
+-- of two pairs of tests one holds
+one-pair : {P : Type 0} (a b c d : Bool) → ((a && b) || (c && d)) ≡ true → (a ≡ true → b ≡ true → P) → (c ≡ true → d ≡ true → P) → P
+one-pair a b c d e p q =
+    ⊎-elim (λ f. let (t, u) = and-eq-true-iff a b .0 f in p t u) (λ f. let (t, u) = and-eq-true-iff c d .0 f in q t u) (one-of (a && b) (c && d) e)
+
+-- the mark of a leg in CAD, of Canada or of a province, whichever kind is asked
+module _ (bond : Bool) (l : Leg) (cad : inCad l ≡ true) where
+  canada-mark : isCanada l ≡ true → markOf bond l ≡ 4 * l .period + 0
+  unfolding markOf keyOf isDomestic
+  canada-mark e = rw (cad, e) (omega arith)
+
+  province-mark : isProvince l ≡ true → markOf bond l ≡ 4 * l .period + 1
+  unfolding markOf keyOf isDomestic isCanada isProvince
+  province-mark e = rw (cad, e, positive 10 (l .issuer) e) (omega arith)
+
+-- the marks of two legs of one period
+module _ (l s : Leg) (p : l .period ≡ s .period) where
+  -- in CAD, of one class
+  one-mark : bothCad l s ≡ true → sameClass l s ≡ true → shortMark s ≡ soughtMark l
+  unfolding bothCad sameClass soughtMark shortMark
+  one-mark c e =
+      let (cl, cs) = and-eq-true-iff (inCad l) (inCad s) .0 c in
+      one-pair (isCanada l) (isCanada s) (isProvince l) (isProvince s) e
+      (λ a b. omega (arith, p, canada-mark (not (isBond l)) l cl a, canada-mark (isBond s) s cs b))
+      (λ a b. omega (arith, p, province-mark (not (isBond l)) l cl a, province-mark (isBond s) s cs b))
+
+  -- marks of one period and two classes
+  crossed : {x y : ℕ} (c d : ℕ) → x ≡ 4 * l .period + c → y ≡ 4 * s .period + d → c + d ≡ 1 → OtherClass x y
+  crossed c d e f h = record { key = omega (arith, p, e, f, h); class = omega (arith, p, e, f, h) }
+
+  -- in CAD, of two classes
+  two-marks : bothCad l s ≡ true → mixedClass l s ≡ true → OtherClass (soughtMark l) (shortMark s)
+  unfolding bothCad mixedClass soughtMark shortMark
+  two-marks c e =
+      let (cl, cs) = and-eq-true-iff (inCad l) (inCad s) .0 c in
+      one-pair (isCanada l) (isProvince s) (isProvince l) (isCanada s) e
+      (λ a b. crossed 0 1 (canada-mark (not (isBond l)) l cl a) (province-mark (isBond s) s cs b) refl)
+      (λ a b. crossed 1 0 (province-mark (not (isBond l)) l cl a) (canada-mark (isBond s) s cs b) refl)
+
+  -- just one is a bond: the short is what the long seeks
+  sought : oneBond l s ≡ true → isBond s ≡ not (isBond l)
+  unfolding oneBond isBond isStrip
+  sought e =
+      one-pair (isBond l) (isStrip s) (isStrip l) (isBond s) e (λ a b. rw (a, positive 2 (s .kind) b)) (λ a b. rw (b, positive 2 (l .kind) a))
+
+  -- paragraph 4 has two legs of one currency and one issuer
+  currency : sameForeign l s ≡ true → l .currency ≡ s .currency
+  unfolding sameForeign inUsd inGbp
+  currency e = ⊎-elim (both _ _ 1) (both _ _ 2) (one-of _ _ e)
+
+  issuer : sameGovernment l s ≡ true → l .issuer ≡ s .issuer
+  unfolding sameGovernment isCanada isUs isGb
+  issuer e = ⊎-elim (λ f. ⊎-elim (both _ _ 0) (both _ _ 11) (one-of _ _ f)) (both _ _ 12) (one-of _ _ e)
+
+  -- in the same foreign currency, of one government
+  foreign-mark : sameForeign l s ≡ true → oneBond l s ≡ true → sameGovernment l s ≡ true → shortMark s ≡ soughtMark l
+  unfolding shortMark soughtMark markOf keyOf isDomestic inCad isCanada isProvince isBond
+  foreign-mark c k e = rw (p, currency c, issuer e, sought k)
+
+  -- what a rule saves of two rates, by the marks
+  by-marks : {x : ℕ} {r : Rule} → (shortMark s ≡ soughtMark l → 2 * min (l .rate) (s .rate) ≤ x)
+      → (OtherClass (soughtMark l) (shortMark s) → (l .rate + s .rate + 1) / 2 ≤ x) → Permitted l s r → l .rate + s .rate - ruleRate r (l .rate) (s .rate) ≤ x
+  unfolding ruleRate
+  by-marks d h (one-class c k e) = omega (arith, d (one-mark c e))
+  by-marks d h (two-classes c k e) = omega (arith, h (two-marks c e))
+  by-marks d h (one-government c k e) = omega (arith, d (foreign-mark c k e))
+
 module _ {long a short b : ℕ} where
-  -- a mark that is neither the long's own nor that of the other class has another period, and legs of two periods save nothing
-  pub two-periods : {cross : ℕ} → OtherClass long cross → (short ≡ cross → ⊥) → (short ≡ long → ⊥) → Asks long a short b 0
-  two-periods {cross} o f g =
-      let ne-cross : short ≢ cross = f in
-      let ne-long : short ≢ long = g in
-      let ne-period : long / 2 ≢ short / 2 = λ e. omega (arith, o .period, o .class, e) in
-      record { enough = λ l s ml ms. nothing ml ms (λ e. ne-period (says ml .0 ∙ allowed-meets l s e .period ∙ sym (says ms .0))) }
-
-  -- legs of one class save twice the lesser rate
-  pub one-class : short ≡ long → Asks long a short b (2 * min a b)
-  unfolding mixedClass
-  one-class e = record {
-    enough = λ l s ml ms. by-difference ml ms (same-or-not (long % 2) 0
-        (λ f. rw (no-province ml f, no-province ms (rw e f), and-false (isCanada l)))
-        (λ f. rw (not-canada ml f, not-canada ms (rw e f), and-false (isProvince l))));
+  -- what is asked is enough where it is for equal marks and for marks of two classes
+  asks : {x : ℕ} → (short ≡ long → 2 * min a b ≤ x) → (OtherClass long short → (a + b + 1) / 2 ≤ x) → Asks long a short b x
+  unfolding savingOf savingRateOf pairRateOf
+  asks {x} d h = record {
+    enough = λ l s ml ms. by-test (λ (y : ℕ). y ≤ x) (allowed l s)
+        (λ e. let m = allowed-meets l s e in
+        by-marks l s (m .period) (rw (ml .marked, ms .marked, ml .rated, ms .rated) at d)
+        (rw (ml .marked, ms .marked, ml .rated, ms .rated) at h) (permitted l s (m .rule)))
+        (λ _. omega arith);
   }
 
-  -- legs of two classes half the sum
-  pub two-classes : OtherClass long short → Asks long a short b ((a + b + 1) / 2)
-  unfolding sameClass
-  two-classes o = record {
-    enough = λ l s ml ms. by-half ml ms (same-or-not (long % 2) 0
-        (λ f. rw (no-province ml f, not-canada ms (λ g. omega (arith, o .class, f, g)), and-false (isCanada l)))
-        (λ f. rw (not-canada ml f, no-province ms (omega (arith, o .class, f)), and-false (isProvince l))));
-  }
+  -- by any other mark nothing is asked
+  pub neither-mark : {cross : ℕ} → OtherClass long cross → (short ≡ cross → ⊥) → (short ≡ long → ⊥) → Asks long a short b 0
+  neither-mark {cross} o f g = asks (λ e. absurd (g e)) (λ q. absurd (f (omega (arith, o .key, o .class, q .key, q .class))))
+
+  -- by the mark that the long seeks, twice the lesser rate
+  pub equal-marks : short ≡ long → Asks long a short b (2 * min a b)
+  equal-marks e = asks (λ _. omega arith) (λ o. absurd (omega (arith, o .class, e)))
+
+  -- by that of the other class, half the sum
+  pub other-mark : OtherClass long short → Asks long a short b ((a + b + 1) / 2)
+  other-mark o = asks (λ e. absurd (omega (arith, o .class, e))) (λ _. omega arith)

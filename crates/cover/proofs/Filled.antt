@@ -15,7 +15,7 @@ use Rattle.article.specs.Pair.{isShort, isLong, allowed, rateLimit, RateInRange
 use Rattle.article.specs.declared.pair.Leg.{Leg}
 use Rattle.packed.specs.Packed.{legIn, legAt}
 use Rattle.savings.specs.Savings.{savingOf}
-use Rattle.cover.specs.Cover.{PairCovered, Priced, markOf, Marked, Covered, RowCovered, Places, Shorts}
+use Rattle.cover.specs.Cover.{PairCovered, Priced, soughtMark, shortMark, Seeks, Marked, Covered, RowCovered, Places, Shorts}
 use Rattle.cover.proofs.Estimate.{two-bonds}
 
 -- a holding that is not short saves nothing as the short
@@ -66,7 +66,7 @@ module _ {n : ℕ} {legs price marks strips rates prices : List ℕ} where
       }
 
       -- one more short
-      module _ (priced : Priced n legs price) {x y z : ℕ} (mark : x ≡ markOf leg) (strip : (leg .kind ≡ 0 → ⊥) → y ≡ x) (e : z ≡ wordAt price j) where
+      module _ (priced : Priced n legs price) {x y z : ℕ} (mark : x ≡ shortMark leg) (strip : (leg .kind ≡ 0 → ⊥) → y ≡ x) (e : z ≡ wordAt price j) where
         room : m < 256
         room = omega (arith, priced .bounded .few, f .shorts .few)
 
@@ -86,9 +86,9 @@ module _ {n : ℕ} {legs price marks strips rates prices : List ℕ} where
                 (c .covered k (omega arith) l t ml (rw (getD-set-other column m k w 0 ne, old-rate k g) mt));
           }
 
-          column-new : length column ≡ 256 → w ≡ x → {l : Leg} → Marked l long rate → savingOf l (legAt legs j) ≤ p + wordAt price j
+          column-new : length column ≡ 256 → w ≡ x → {l : Leg} → Seeks l long rate → savingOf l (legAt legs j) ≤ p + wordAt price j
           column-new held same {l} ml =
-              let marked : Marked (legAt legs j) w (leg .rate) = record { marked = same ∙ mark ∙ ap markOf found; rated = ap (λ (t : Leg). t .rate) found } in
+              let marked : Marked (legAt legs j) w (leg .rate) = record { marked = same ∙ mark ∙ ap shortMark found; rated = ap (λ (t : Leg). t .rate) found } in
               rw (getD-set-same prices m z 0 (omega (arith, room, f .places .prices-held)), e) at
               (c .covered m (omega arith) l (legAt legs j) ml (rw (getD-set-same column m w 0 (omega (arith, room, held)), new-rate) marked))
 
@@ -99,7 +99,7 @@ module _ {n : ℕ} {legs price marks strips rates prices : List ℕ} where
           -- a bond saves nothing with a bond, and the strips hold any other short
           row-new : savingOf l (legAt legs j) ≤ p + wordAt price j
           row-new =
-              let own : Marked l (markOf l) (l .rate) = record { marked = refl; rated = refl } in
+              let own : Seeks l (soughtMark l) (l .rate) = record { marked = refl; rated = refl } in
               same-or-not (l .kind) 0
               (λ b. same-or-not (leg .kind) 0
               (λ d. rw (two-bonds l (legAt legs j) b (rw found at d)) (omega arith))
@@ -123,6 +123,14 @@ module _ {n : ℕ} {legs price marks strips rates prices : List ℕ} where
             all = λ l p c. below-more _ _ (f .shorts .all l p (row-old c)) (row-new c);
           };
         }
+
+-- the row of a long by the mark that it seeks: a bond's and any other's
+module _ {l : Leg} {mark price m : ℕ} {marks strips rates prices : List ℕ} (sought : mark ≡ soughtMark l) where
+  pub bond-row : l .kind ≡ 0 → Covered mark (l .rate) price strips rates prices m → RowCovered l price marks strips rates prices m
+  bond-row b c = record { bond = λ _. rw (← sought) c; other = λ f. absurd (f b) }
+
+  pub other-row : (l .kind ≡ 0 → ⊥) → Covered mark (l .rate) price marks rates prices m → RowCovered l price marks strips rates prices m
+  other-row f c = record { bond = λ b. absurd (f b); other = λ _. rw (← sought) c }
 
 -- what the scan finds covered is covered with every holding
 pub scan-closed : {n m : ℕ} {legs price marks strips rates prices : List ℕ} → Shorts n legs price marks strips rates prices m → (i : ℕ) {first : ℕ} {leg : Leg}

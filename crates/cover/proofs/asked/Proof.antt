@@ -1,5 +1,5 @@
 -- `asked` asks enough, return by return: one law of the estimate for each. Assumes nothing.
-use Rattle.cover.proofs.Estimate.{two-periods, one-class, two-classes}
+use Rattle.cover.proofs.Estimate.{neither-mark, equal-marks, other-mark}
 use borrow.Author.Needs.{needs}
 use Rattle.cover.proofs.asked.Statement.{statement}
 use Rattle.cover.proofs.asked.Tie as tie
@@ -14,16 +14,16 @@ add-result-2 : tie.Need-add-result-2
 add-result-2 c = search needs
 
 returns : tie.Need-returns
-returns c = two-classes (rw (c .if1 .taken) (c .before .other-class .ensures))
+returns c = other-mark (rw (c .if1 .taken) (c .before .other-class .ensures))
 
 twice-lesser-requires : tie.Need-twice-lesser-requires
 twice-lesser-requires c κs = search needs
 
 returns-2 : tie.Need-returns-2
-returns-2 c = rw (c .twice-lesser .ensures) (one-class (c .before .if2 .taken))
+returns-2 c = rw (c .twice-lesser .ensures) (equal-marks (c .before .if2 .taken))
 
 returns-3 : tie.Need-returns-3
-returns-3 c = two-periods (c .before .before .other-class .ensures) (c .before .if1 .left) (c .if2 .left)
+returns-3 c = neither-mark (c .before .before .other-class .ensures) (c .before .if1 .left) (c .if2 .left)
 
 pub asked-spec : {M : Type 1} → statement M
 asked-spec =

@@ -1,5 +1,8 @@
 -- `long_open` finds a long covered where its column does: a bond by the strips, any other by all shorts. Assumes nothing.
 use borrow.Author.Needs.{needs}
+use Rattle.article.specs.Pair.{isBond}
+use Rattle.cover.specs.Cover.{soughtMark}
+use Rattle.cover.proofs.Filled.{bond-row, other-row}
 use Rattle.cover.proofs.long_open.Statement.{statement}
 use Rattle.cover.proofs.long_open.Tie as tie
 
@@ -13,19 +16,15 @@ row-open-requires : tie.Need-row-open-requires
 row-open-requires c κs = search needs
 
 returns : tie.Need-returns
-returns c = λ e. record {
-  bond = λ _. rw (← c .before .before .before .before .mark-of .ensures .0) (c .row-open .ensures e);
-  other = λ f. absurd (f (c .before .if1 .taken));
-}
+unfolding soughtMark isBond
+returns c = λ e. bond-row (c .before .before .before .before .mark-of .ensures) (c .before .if1 .taken) (c .row-open .ensures e)
 
 row-open-requires-2 : tie.Need-row-open-requires-2
 row-open-requires-2 c κs = search needs
 
 returns-2 : tie.Need-returns-2
-returns-2 c = λ e. record {
-  bond = λ f. absurd (c .before .if1 .left f);
-  other = λ _. rw (← c .before .before .before .before .mark-of .ensures .0) (c .row-open2 .ensures e);
-}
+unfolding soughtMark isBond
+returns-2 c = λ e. other-row (c .before .before .before .before .mark-of .ensures) (c .before .if1 .left) (c .row-open2 .ensures e)
 
 pub long-open-spec : {M : Type 1} → statement M
 long-open-spec =

@@ -1,10 +1,13 @@
 -- `mark_of` is `markOf`. Assumes nothing.
 use borrow.Author.Tests.{eq-eqb, ne-eqb}
 use Rattle.article.specs.Pair.{isCanada}
-use Rattle.cover.specs.Cover.{markOf}
+use Rattle.cover.specs.Cover.{keyOf, markOf}
 use borrow.Author.Needs.{needs}
 use Rattle.cover.proofs.mark_of.Statement.{statement}
 use Rattle.cover.proofs.mark_of.Tie as tie
+
+is-domestic-requires : tie.Need-is-domestic-requires
+is-domestic-requires c κs = search needs
 
 mul-result : tie.Need-mul-result
 mul-result c = search needs
@@ -13,8 +16,10 @@ cast-result : tie.Need-cast-result
 cast-result c = search needs
 
 returns : tie.Need-returns
-unfolding markOf isCanada
-returns c = rw (eq-eqb _ _ (c .before .if1 .taken)) (search needs)
+unfolding markOf keyOf isCanada
+returns c =
+    let called = c .before .before .before in
+    rw (← called .before .is-domestic .ensures, called .if1 .taken, eq-eqb _ _ (c .before .if2 .taken)) (search needs)
 
 mul-result-2 : tie.Need-mul-result-2
 mul-result-2 c = search needs
@@ -26,10 +31,70 @@ cast-result-2 : tie.Need-cast-result-2
 cast-result-2 c = search needs
 
 returns-2 : tie.Need-returns-2
-unfolding markOf isCanada
-returns-2 c = rw (ne-eqb _ _ (c .before .if1 .left)) (search needs)
+unfolding markOf keyOf isCanada
+returns-2 c =
+    let called = c .before .before .before in
+    rw (← called .before .is-domestic .ensures, called .if1 .taken, ne-eqb _ _ (c .before .if2 .left)) (search needs)
+
+mul-key : tie.Need-mul-key
+mul-key c = search needs
+
+add-key : tie.Need-add-key
+add-key c = search needs
+
+mul-key-2 : tie.Need-mul-key-2
+mul-key-2 c = search needs
+
+add-key-2 : tie.Need-add-key-2
+add-key-2 c = search needs
+
+mul-result-3 : tie.Need-mul-result-3
+mul-result-3 c = search needs
+
+cast-result-3 : tie.Need-cast-result-3
+cast-result-3 c = search needs
+
+returns-3 : tie.Need-returns-3
+unfolding markOf keyOf
+returns-3 c =
+    let called = c .before .before .before .before in
+    rw (← called .before .is-domestic .ensures, called .if1 .left, c .if3 .taken) (search needs)
+
+mul-result-4 : tie.Need-mul-result-4
+mul-result-4 c = search needs
+
+add-result-2 : tie.Need-add-result-2
+add-result-2 c = search needs
+
+cast-result-4 : tie.Need-cast-result-4
+cast-result-4 c = search needs
+
+returns-4 : tie.Need-returns-4
+unfolding markOf keyOf
+returns-4 c =
+    let called = c .before .before .before .before in
+    rw (← called .before .is-domestic .ensures, called .if1 .left, c .if3 .left) (search needs)
 
 pub mark-of-spec : {M : Type 1} → statement M
 mark-of-spec =
     tie.close
-    (tie.spec mul-result cast-result returns mul-result-2 add-result cast-result-2 returns-2)
+    (tie.spec
+    is-domestic-requires
+    mul-result
+    cast-result
+    returns
+    mul-result-2
+    add-result
+    cast-result-2
+    returns-2
+    mul-key
+    add-key
+    mul-key-2
+    add-key-2
+    mul-result-3
+    cast-result-3
+    returns-3
+    mul-result-4
+    add-result-2
+    cast-result-4
+    returns-4)

@@ -8,13 +8,13 @@ use borrow.Author.Tests.{ltb-false}
 use native.Mathlib.Nat.{le-trans, lt-of-lt-of-le}
 use Rattle.article.specs.declared.pair.Leg.{Leg}
 use Rattle.savings.specs.Savings.{savingOf}
-use Rattle.cover.specs.Cover.{Marked}
+use Rattle.cover.specs.Cover.{Seeks, Marked}
 use Rattle.cover.proofs.row_open.Statement.{statement}
 use Rattle.cover.proofs.row_open.Tie as tie
 
 abbrev Inv-loop : tie.InvT-loop
 Inv-loop m marks rates prices mark rate price worst₀ j₀ worst j =
-    (k : ℕ) → k < j → (l s : Leg) → Marked l mark rate → Marked s (getD marks k 0) (getD rates k 0) → savingOf l s - price - getD prices k 0 ≤ worst
+    (k : ℕ) → k < j → (l s : Leg) → Seeks l mark rate → Marked s (getD marks k 0) (getD rates k 0) → savingOf l s - price - getD prices k 0 ≤ worst
 
 abbrev μ-loop : tie.MeasureT-loop
 μ-loop m marks rates prices mark rate price worst₀ j₀ worst j = m - j
@@ -36,8 +36,8 @@ element-copy-out-asked-2 c = element-copy-out-asked (c .before)
 
 asked-requires : tie.Need-asked-requires Inv-loop μ-loop
 asked-requires c κs =
-    let (_, (mark, (rate, rates))) = c .before .before .before .before .pre in
-    (mark, (rate, rates _ (c .before .before .loop-test .taken)))
+    let (_, (rate, rates)) = c .before .before .before .before .pre in
+    (rate, rates _ (c .before .before .loop-test .taken))
 
 above-requires : tie.Need-above-requires Inv-loop μ-loop
 above-requires c κs = search needs

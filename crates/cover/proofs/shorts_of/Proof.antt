@@ -1,9 +1,11 @@
 -- `shorts_of` fills the columns of the shorts: each turn passes a holding, or writes one more short. Assumes nothing.
-use mathlib.Core.Logic.{⊎-elim}
+use mathlib.Core.Logic.{inl, inr}
 use Prim.{tt}
 use Prim.Native.Nat.{_-_}
 use native.Mathlib.Omega.{arith}
 use borrow.Author.Needs.{needs}
+use Rattle.article.specs.Pair.{isBond}
+use Rattle.cover.specs.Cover.{shortMark}
 use Rattle.cover.proofs.Filled.{Filling, filling-none, filling-other, filling-more, filling-all, period-low, rate-low}
 use Rattle.cover.proofs.shorts_of.Statement.{statement}
 use Rattle.cover.proofs.shorts_of.Tie as tie
@@ -27,7 +29,7 @@ leg-in-requires : tie.Need-leg-in-requires Inv-loop μ-loop
 leg-in-requires _ _ = tt
 
 mark-of-requires : tie.Need-mark-of-requires Inv-loop μ-loop
-mark-of-requires c κs = rw (c .before .before .leg-in .ensures) (period-low _)
+mark-of-requires c κs = rw (c .before .before .before .leg-in .ensures) (period-low _)
 
 mul-marks : tie.Need-mul-marks Inv-loop μ-loop
 mul-marks c = search needs
@@ -46,9 +48,9 @@ element-write-strips c = element-write-marks (c .before)
 
 cast-rates : tie.Need-cast-rates Inv-loop μ-loop
 cast-rates c =
-    let turn = c .before .before .before .before .before .before .before in
+    let turn = c .before .before .before .before .before .before .before .before in
     let start = turn .before .before .before .before in
-    omega (arith, rate-low _ (start .pre .0) (turn .loop-test .taken) (c .before .before .before .before .before .leg-in .ensures))
+    omega (arith, rate-low _ (start .pre .0) (turn .loop-test .taken) (c .before .before .before .before .before .before .leg-in .ensures))
 
 mul-rates : tie.Need-mul-rates Inv-loop μ-loop
 mul-rates c = mul-marks (c .before .before)
@@ -61,7 +63,7 @@ word-requires c κs = search needs
 
 cast-prices : tie.Need-cast-prices Inv-loop μ-loop
 cast-prices c =
-    let turn = c .before .before .before .before .before .before .before .before in
+    let turn = c .before .before .before .before .before .before .before .before .before in
     let start = turn .before .before .before .before in
     omega (arith, c .word .ensures, start .pre .0 .high _ (turn .loop-test .taken))
 
@@ -81,15 +83,16 @@ loop-less : tie.Need-loop-less Inv-loop μ-loop
 loop-less c = search needs
 
 loop-again : tie.Need-loop-again Inv-loop μ-loop
+unfolding shortMark isBond
 loop-again c =
     let turn = c .before .before .before .before in
     let filling = turn .before .loop .inv in
     let leg = c .before .before .leg-in .ensures in
     let priced = turn .before .before .before .before .pre .0 in
-    ⊎-elim
-    (λ w. rw (w .5, w .6, w .7, w .8, w .9) (filling-more filling leg (turn .loop-test .taken) priced (w .1 .ensures .0) (w .2 .ensures) (w .4 .ensures)))
-    (λ w. rw (w .1, w .2, w .3, w .4, w .5) (filling-other filling leg (turn .loop-test .taken) (w .0 .left)))
-    (c .if1 .came)
+    elim (c .if1 .came) [
+      | inl w ↦ rw (w .6, w .7, w .8, w .9, w .10) (filling-more filling leg (turn .loop-test .taken) priced (w .2 .ensures) (w .3 .ensures) (w .5 .ensures))
+      | inr w ↦ rw (w .1, w .2, w .3, w .4, w .5) (filling-other filling leg (turn .loop-test .taken) (w .0 .left))
+    ]
 
 returns : tie.Need-returns Inv-loop μ-loop
 returns c = filling-all (c .before .loop .inv) (c .loop-test .left)
