@@ -30,7 +30,7 @@ Parted reads s =
 -- after a P there is no H
 late : {r : List (List ℕ)} {rs : List (List (List ℕ))} {rows : List Row} {prices : List ℕ} → AreHoldings (r ∷ rs) rows prices → (count : ℕ → ℕ)
     → Comes (At 1) count (parse (formed r)) → ⊥
-late (holding-and {r} {row} {price} is rest) count c = false≢true ((rw (record-exactly r 0 (pricedNumbers row price) .1 is) at c) .0)
+late (holding-and {r} is rest) count c = false≢true ((rw (record-exactly r 0 _ .1 is) at c) .0)
 
 -- one record before them
 module _ (texts : List (List ℕ)) (reads : List Read) (last : Meaning) (count : ℕ → ℕ) where
