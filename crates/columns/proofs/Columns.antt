@@ -30,6 +30,7 @@ module _ (columns : List (List ℕ)) (k : ℕ) where
     issuer = ap (λ (r : Row). r .issuer) e ∙ number-at 2;
     days = ap (λ (r : Row). r .days) e ∙ number-at 3;
     value = ap (λ (r : Row). r .value) e ∙ number-at 4;
+    currency = ap (λ (r : Row). r .currency) e ∙ number-at 5;
   }
 
   pub line-at : (l : Line) → l ≡ lineBy (numbersAt columns k) → LineAt columns k l

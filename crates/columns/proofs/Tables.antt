@@ -1,15 +1,14 @@
 -- Entries that stand in a table, its columns, and the lists that they are copied to. Assumes nothing.
 use mathlib.Core.Path.{_≡_, refl, sym, ap, _∙_}
-use mathlib.Core.List.{List, [], _∷_, _++_, map, map-append}
+use mathlib.Core.List.{List, [], _∷_, _++_, map, map-append, map-map}
 use Prim.Native.Nat.{ℕ, suc, _+_, _*_, _≤_, _<_}
-use native.Mathlib.Nat.{add-zero}
 use native.Mathlib.Omega.{arith}
-use lib.ListN.{length, take, drop, length-append, length-take, length-drop, length-map}
+use lib.ListN.{length, getD, take, drop, length-append, length-take, length-drop, length-map}
 use lib.Seq.{length-take-le, take-take}
 use Rattle.lists.specs.Tables.{listTo, front}
-use Rattle.lists.proofs.Tables.{getD-to}
-use Rattle.holding.specs.Holding.{numbersOf, rowBy}
-use Rattle.proposal.specs.Submission.{lineNumbers, lineBy}
+use Rattle.lists.proofs.Tables.{to-back}
+use Rattle.holding.specs.Holding.{numbersOf}
+use Rattle.proposal.specs.Submission.{lineNumbers, lineBy, pricedRow, rowPrice}
 use Rattle.words.specs.Words.{encode}
 use Rattle.words.proofs.Encoded.{word-more}
 use Rattle.columns.specs.Columns.{Columns, makeColumns, column, filledFrom, filled, columnIn, Entered, EntryPut, copied}
@@ -66,47 +65,13 @@ pub copied-more : (rows n j : ℕ) (table old : List ℕ) (olds : List (List ℕ
 unfolding copied
 copied-more rows n j table old olds e p q = rw (p, e, q)
 
--- lists that are filled one after another
-filled-append : (values : List (List ℕ)) (j : ℕ) (olds more : List (List ℕ))
-    → filledFrom j values (olds ++ more) ≡ filledFrom j values olds ++ filledFrom (j + length olds) values more
-unfolding filledFrom
-filled-append values j [] more = rw add-zero
-filled-append values j (old ∷ olds) more =
-    let next : j + length (old ∷ olds) ≡ suc j + length olds = omega arith in
-    rw (next, filled-append values (suc j) olds more)
+-- the columns of a table of holdings, where the price's is the sixth, and of a table of lines
+abbrev pub byTables : List (List ℕ) → List (List ℕ) → Columns
+byTables book lines = makeColumns (take 5 book ++ drop 6 book) (getD book 5 []) lines
 
--- entries made of m numbers each have those numbers
-module _ {A : Type 0} (numbers : A → List ℕ) (by : List ℕ → A) (m : ℕ) (same : (vs : List ℕ) → numbers (by vs) ≡ listTo m (λ k. nth k vs)) where
-  same-number : (j : ℕ) → j < m → (values : List (List ℕ)) → map (nth j) values ≡ map (nth j) (map numbers (map by values))
-  same-number j h [] = refl
-  same-number j h (vs ∷ values) =
-      let first : nth j (numbers (by vs)) ≡ nth j vs = rw (same vs) (getD-to m (λ k. nth k vs) j 0 h) in
-      λ i. sym first i ∷ same-number j h values i
-
-  same-filled : (values : List (List ℕ)) (j : ℕ) (olds : List (List ℕ)) → j + length olds ≤ m → filledFrom j values olds ≡ filledFrom j (map numbers (map by values)) olds
-  unfolding filledFrom
-  same-filled values j [] h = refl
-  same-filled values j (old ∷ olds) h = λ i. column (same-number j (omega arith) values i) old ∷ same-filled values (suc j) olds (omega arith) i
-
--- values of holdings, each with its price, and of lines
-abbrev pub pricesOf : List (List ℕ) → List ℕ
-pricesOf values = map (nth 5) values
-
-pub values-filled : (values holdings : List (List ℕ)) (price : List ℕ) → length holdings ≡ 5
-    → filledFrom 0 values (holdings ++ (price ∷ [])) ≡ filledFrom 0 (map numbersOf (map rowBy values)) holdings ++ (column (pricesOf values) price ∷ [])
-unfolding numbersOf listTo filledFrom
-values-filled values holdings price e =
-    filled-append values 0 holdings (price ∷ [])
-    ∙ rw (e, same-filled numbersOf rowBy 5 (λ vs. refl) values 0 holdings (omega (arith, e)))
-
-pub line-values-filled : (values lines : List (List ℕ)) → length lines ≡ 3 → filledFrom 0 values lines ≡ filledFrom 0 (map lineNumbers (map lineBy values)) lines
-unfolding lineNumbers listTo
-line-values-filled values lines e = same-filled lineNumbers lineBy 3 (λ vs. refl) values 0 lines (omega (arith, e))
-
--- what is submitted by values fills the columns with them
-pub filled-values : (held lined : List (List ℕ)) (old : Columns) → length (old .holdings) ≡ 5 → length (old .lines) ≡ 3
-    → filled (record { rows = map rowBy held; prices = pricesOf held; lines = map lineBy lined }) old
-    ≡ makeColumns (filledFrom 0 held (old .holdings)) (column (pricesOf held) (old .price)) (filledFrom 0 lined (old .lines))
-unfolding filled numbersOf listTo
-filled-values held lined old e f =
-    rw (← same-filled numbersOf rowBy 5 (λ vs. refl) held 0 (old .holdings) (omega (arith, e)), ← line-values-filled lined (old .lines) f)
+-- what is submitted by values fills them as the values fill the tables
+pub filled-values : (held lined book lines : List (List ℕ)) → length book ≡ 7 → length lines ≡ 3
+    → filled (record { rows = map pricedRow held; prices = map rowPrice held; lines = map lineBy lined }) (byTables book lines)
+    ≡ byTables (filledFrom 0 held book) (filledFrom 0 lined lines)
+unfolding filled filledFrom numbersOf lineNumbers listTo
+filled-values held lined book lines e f = rw (← to-back 7 book [] e, ← to-back 3 lines [] f) (simp map-map)

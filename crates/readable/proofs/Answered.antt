@@ -11,8 +11,7 @@ use Rattle.lists.specs.Choice.{firstOf}
 use Rattle.lists.proofs.Tests.{same-or-not}
 use Rattle.lists.proofs.Firsts.{first-append, first-refused, first-of-none}
 use Rattle.article.specs.Answer.{Answer, makeAnswer}
-use Rattle.holding.specs.Holding.{rowBy}
-use Rattle.proposal.specs.Submission.{lineBy}
+use Rattle.proposal.specs.Submission.{pricedRow, lineBy}
 use Rattle.proposal.proofs.Clear.{number}
 use Rattle.csv.proofs.Places.{clash}
 use Rattle.reader.specs.File.{parsedIn, valuesBy, submissionOf, submissionIn, fileFaults, fileFault, readAnswer, contentsAnswer, contentsOf, ReadsFile}
@@ -86,7 +85,7 @@ module _ {text : List ℕ} {rows : ℕ} {book lines book′ lines′ : List ℕ}
     -- so are those of the values, which the tables hold
     pub holdings-held : length (valuesBy 0 (parsedIn text)) ≡ n
     unfolding submissionOf
-    holdings-held = sym (length-map (valuesBy 0 (parsedIn text)) rowBy) ∙ holdings-counted
+    holdings-held = sym (length-map (valuesBy 0 (parsedIn text)) pricedRow) ∙ holdings-counted
 
     pub lines-held : length (valuesBy 1 (parsedIn text)) ≡ m
     unfolding submissionOf

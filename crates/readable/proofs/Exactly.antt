@@ -5,8 +5,7 @@ use mathlib.Core.List.{List}
 use Prim.Native.Nat.{ℕ, _≤_}
 use native.Mathlib.Omega.{arith}
 use lib.ListN.{length, length-map}
-use Rattle.holding.specs.Holding.{rowBy}
-use Rattle.proposal.specs.Submission.{Submission, lineBy}
+use Rattle.proposal.specs.Submission.{Submission, pricedRow, lineBy}
 use Rattle.csv.specs.Reading.{recordsOf}
 use Rattle.grammar.proofs.Sound.{file-sound}
 use Rattle.grammar.proofs.Complete.{file-complete}
@@ -30,7 +29,7 @@ module _ (text : List ℕ) where
         rendering = file-sound text _ all;
         each-holding = each-holding;
         each-line = each-line;
-        few-holdings = omega (arith, length-map (valuesBy 0 (parsedIn text)) rowBy, few 0 (parsedIn text) (refused 0) (λ k. 0) order (omega arith));
+        few-holdings = omega (arith, length-map (valuesBy 0 (parsedIn text)) pricedRow, few 0 (parsedIn text) (refused 0) (λ k. 0) order (omega arith));
         few-lines = omega (arith, length-map (valuesBy 1 (parsedIn text)) lineBy, few 1 (parsedIn text) (refused 0) (λ k. 0) order (omega arith));
       }
 

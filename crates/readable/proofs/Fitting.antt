@@ -8,7 +8,7 @@ use Rattle.lists.proofs.Entries.{each-so, each-parts}
 use Rattle.holding.specs.Holding.{numbersOf}
 use Rattle.holding.specs.declared.Row.{Row}
 use Rattle.pairing.specs.declared.Line.{Line}
-use Rattle.proposal.specs.Submission.{lineNumbers}
+use Rattle.proposal.specs.Submission.{pricedNumbers, lineNumbers}
 use Rattle.columns.proofs.ReadBack.{Fits, SubmissionFits}
 use Rattle.layout.specs.Layout.{IsRecord}
 use Rattle.reader.specs.File.{submissionIn, fileFault}
@@ -27,11 +27,12 @@ record HoldingsFit (rows : List Row) (prices : List ℕ) : Type 0 where
   each-price : Fits prices
 
 holdings-fit : {rs : List (List (List ℕ))} {rows : List Row} {prices : List ℕ} → AreHoldings rs rows prices → HoldingsFit rows prices
+unfolding pricedNumbers numbersOf
 holdings-fit no-holdings = record { each-row = tt; each-price = tt }
 holdings-fit (holding-and {r} {row} {price} is rest) =
-    let (numbers, last) = each-parts (λ (x : ℕ). x < 2 ^ 64) (numbersOf row) (price ∷ []) (record-fits 0 r _ is) in
+    let (side, (kind, (issuer, (days, (value, (worth, (currency, none))))))) = record-fits 0 r (pricedNumbers row price) is in
     let more = holdings-fit rest in
-    record { each-row = (numbers, more .each-row); each-price = (last .0, more .each-price) }
+    record { each-row = ((side, (kind, (issuer, (days, (value, (currency, none)))))), more .each-row); each-price = (worth, more .each-price) }
 
 lines-fit : {rs : List (List (List ℕ))} {lines : List Line} → AreLines rs lines → Each (λ line. Fits (lineNumbers line)) lines
 lines-fit no-lines = tt

@@ -6,10 +6,9 @@ use Prim.Native.Nat.{ℕ, zero, suc, _+_, _≤_}
 use native.Mathlib.Omega.{arith}
 use lib.ListN.{length}
 use Rattle.lists.specs.Tables.{listTo}
-use Rattle.holding.specs.Holding.{numbersOf}
 use Rattle.holding.specs.declared.Row.{Row}
 use Rattle.pairing.specs.declared.Line.{Line}
-use Rattle.proposal.specs.Submission.{Submission, lineNumbers}
+use Rattle.proposal.specs.Submission.{Submission, pricedNumbers, lineNumbers}
 use Rattle.codes.specs.declared.Place.the-variants.{At}
 use Rattle.csv.specs.Reading.{Read, formed, broken}
 use Rattle.layout.specs.Layout.{padded, Meaning, good, refused, mayFollow, parse}
@@ -31,13 +30,13 @@ Parted reads s =
 -- after a P there is no H
 late : {r : List (List ℕ)} {rs : List (List (List ℕ))} {rows : List Row} {prices : List ℕ} → AreHoldings (r ∷ rs) rows prices → (count : ℕ → ℕ)
     → Comes (At 1) count (parse (formed r)) → ⊥
-late (holding-and {r} {row} {price} is rest) count c = false≢true ((rw (record-exactly r 0 (numbersOf row ++ (price ∷ [])) .1 is) at c) .0)
+late (holding-and {r} is rest) count c = false≢true ((rw (record-exactly r 0 _ .1 is) at c) .0)
 
 -- one record before them
 module _ (texts : List (List ℕ)) (reads : List Read) (last : Meaning) (count : ℕ → ℕ) where
   one-more : (m : Meaning) → parse (formed texts) ≡ m → InOrder last count (m ∷ map parse reads) → Parted reads (submissionOf (map parse reads))
       → Parted (formed texts ∷ reads) (submissionOf (m ∷ map parse reads))
-  unfolding valuesBy submissionOf numbersOf lineNumbers listTo
+  unfolding valuesBy submissionOf pricedNumbers lineNumbers listTo
   one-more (good zero vs) e o (hs, ls, all, h, l) = (texts ∷ hs, ls, ap (formed texts ∷_) all, holding-and (record-of texts 0 vs e) h, l)
   one-more (good (suc zero) vs) e o ([], ls, all, h, l) = ([], texts ∷ ls, ap (formed texts ∷_) all, h, line-and (record-of texts 1 vs e) l)
   one-more (good (suc zero) vs) e o (r ∷ hs, ls, all, h, l) = absurd (late h _ ((rw all at (o .1)) .0))
@@ -68,10 +67,10 @@ lines-give (line-and {r} {line} is rest) last count may l =
 pub records-give : {hs ls : List (List (List ℕ))} {rows : List Row} {prices : List ℕ} {lines : List Line} → AreHoldings hs rows prices → AreLines ls lines
     → (last : Meaning) (count : ℕ → ℕ) → mayFollow (letterOf last) 0 ≡ true → mayFollow (letterOf last) 1 ≡ true
     → count 0 + length rows ≤ 256 → count 1 + length lines ≤ 512 → Gives last count (map parse (map formed (hs ++ ls))) (record { rows = rows; prices = prices; lines = lines })
-unfolding valuesBy submissionOf numbersOf
+unfolding valuesBy submissionOf pricedNumbers
 records-give no-holdings ls last count first then k l = lines-give ls last count then l
 records-give (holding-and {r} {row} {price} is rest) ls last count first then k l =
-    let m : Meaning = good 0 (padded 0 (numbersOf row ++ (price ∷ []))) in
+    let m : Meaning = good 0 (padded 0 (pricedNumbers row price)) in
     let (order, same) = records-give rest ls m (plus count m) refl refl (omega arith) (omega arith) in
-    rw (record-exactly r 0 (numbersOf row ++ (price ∷ [])) .1 is)
+    rw (record-exactly r 0 (pricedNumbers row price) .1 is)
     (((first, λ z. omega arith), order), ap (λ (s : Submission). record { rows = row ∷ s .rows; prices = price ∷ s .prices; lines = s .lines }) same)

@@ -15,9 +15,9 @@ use Rattle.numerals.specs.Numerals.{numeralOf}
 use Rattle.numerals.specs.declared.Numeral.{Numeral}
 use Rattle.numerals.specs.declared.Numeral.the-variants.{Number, NotANumeral}
 use Rattle.numerals.proofs.Exactly.{numeral-exactly}
-use Rattle.layout.specs.Layout.{IsValue, AreValues, no-values, value-and, sides, kinds, issuers, byPlace, byNumeral, valueOf, Values, values, wrong, andValue, valuesOf}
+use Rattle.layout.specs.Layout.{IsValue, AreValues, no-values, value-and, sides, kinds, issuers, currencies, byPlace, byNumeral, valueOf, Values, values, wrong, andValue, valuesOf}
 use Rattle.layout.specs.declared.Sort.{Sort}
-use Rattle.layout.specs.declared.Sort.the-variants.{Side, Kind, Issuer, Six, Twelve, Empty}
+use Rattle.layout.specs.declared.Sort.the-variants.{Side, Kind, Issuer, Currency, Six, Twelve, Empty}
 use Rattle.layout.specs.declared.Value.{Value}
 use Rattle.layout.specs.declared.Value.the-variants.{Of, Wrong}
 
@@ -47,6 +47,7 @@ unfolding valueOf same
 value-exactly Side t v = Iff·trans (place-value (placeOf t sides) v) (distinct-exactly t sides refl v)
 value-exactly Kind t v = Iff·trans (place-value (placeOf t kinds) v) (distinct-exactly t kinds refl v)
 value-exactly Issuer t v = Iff·trans (place-value (placeOf t issuers) v) (distinct-exactly t issuers refl v)
+value-exactly Currency t v = Iff·trans (place-value (placeOf t currencies) v) (distinct-exactly t currencies refl v)
 value-exactly Six t v = Iff·trans (numeral-value (numeralOf 6 t) v) (numeral-exactly 6 t v)
 value-exactly Twelve t v = Iff·trans (numeral-value (numeralOf 12 t) v) (numeral-exactly 12 t v)
 value-exactly Empty t v = empty-value t v

@@ -4,12 +4,11 @@ use Rattle.columns.proofs.Tables.{column-fits, copied-none, copied-more
 use Rattle.columns.proofs.copy_book.Statement.{statement}
 use Rattle.columns.proofs.copy_book.Tie as tie
 
--- the side's copy, and the start, from where one of the last three columns is copied
-abbrev copied-side : tie.After-copy-arg4 → tie.After-copy
-copied-side c = c .before .before .before .before .before .before .before .before .before .before .before .before .before .before
-
+-- the start, from where one of the last four columns is copied
 abbrev of-days : tie.After-copy-arg4 → tie.Start
-of-days c = copied-side c .before .before .before .before .before .before .before .before .before .before
+of-days c =
+    let kind = c .before .before .before .before .before .before .before .before .before in
+    kind .before .before .before .before .before .before .before .before .before .before .before .before .before .before .before .before
 
 abbrev of-value : tie.After-copy-arg5 → tie.Start
 of-value c = of-days (c .before .before .before .before .before)
@@ -17,25 +16,41 @@ of-value c = of-days (c .before .before .before .before .before)
 abbrev of-price : tie.After-copy-arg6 → tie.Start
 of-price c = of-value (c .before .before .before .before .before)
 
-same-length : tie.Need-same-length
-same-length c =
-    let side = copied-side (c .before .before .before .before .before .before .before .before .before .before .before .before .before) in
-    search needs
+abbrev of-currency : tie.After-copy-arg7 → tie.Start
+of-currency c = of-price (c .before .before .before .before .before)
+
+-- all are copied: each copy, from the last back to the first
+module _ (c : tie.After-slice-known14) where
+  abbrev currency : tie.After-copy7
+  currency = c .before .before
+
+  abbrev price : tie.After-copy6
+  price = currency .before .before .before .before .before
+
+  abbrev value : tie.After-copy5
+  value = price .before .before .before .before .before
+
+  abbrev days : tie.After-copy4
+  days = value .before .before .before .before .before
+
+  abbrev issuer : tie.After-copy3
+  issuer = days .before .before .before .before .before
+
+  abbrev kind : tie.After-copy2
+  kind = issuer .before .before .before .before .before
+
+  abbrev side : tie.After-copy
+  side = kind .before .before .before .before .before
 
 returns : tie.Need-returns
 returns c =
-    let price = c .before .before in
-    let value = price .before .before .before .before .before in
-    let days = value .before .before .before .before .before in
-    let issuer = days .before .before .before .before .before in
-    let kind = issuer .before .before .before .before .before in
-    let side = kind .before .before .before .before .before in
-    copied-more _ _ 0 _ _ _ (side .before .before .column .ensures) (side .copy .ensures)
-    (copied-more _ _ 1 _ _ _ (kind .before .before .column2 .ensures) (kind .copy2 .ensures)
-    (copied-more _ _ 2 _ _ _ (issuer .before .before .column3 .ensures) (issuer .copy3 .ensures)
-    (copied-more _ _ 3 _ _ _ (days .before .before .column4 .ensures) (days .copy4 .ensures)
-    (copied-more _ _ 4 _ _ _ (value .before .before .column5 .ensures) (value .copy5 .ensures)
-    (copied-more _ _ 5 _ _ _ (price .before .before .column6 .ensures) (price .copy6 .ensures) (copied-none _ _ _ _))))))
+    copied-more _ _ 0 _ _ _ (side c .before .before .column .ensures) (side c .copy .ensures)
+    (copied-more _ _ 1 _ _ _ (kind c .before .before .column2 .ensures) (kind c .copy2 .ensures)
+    (copied-more _ _ 2 _ _ _ (issuer c .before .before .column3 .ensures) (issuer c .copy3 .ensures)
+    (copied-more _ _ 3 _ _ _ (days c .before .before .column4 .ensures) (days c .copy4 .ensures)
+    (copied-more _ _ 4 _ _ _ (value c .before .before .column5 .ensures) (value c .copy5 .ensures)
+    (copied-more _ _ 5 _ _ _ (price c .before .before .column6 .ensures) (price c .copy6 .ensures)
+    (copied-more _ _ 6 _ _ _ (currency c .before .before .column7 .ensures) (currency c .copy7 .ensures) (copied-none _ _ _ _)))))))
 
 pub copy-book-spec : {M : Type 1} → statement M
 copy-book-spec =
@@ -53,10 +68,13 @@ copy-book-spec =
     (λ c κs. let start = of-value c in search (needs, column-fits))
     (λ c κs. let start = of-value (c .before .before .before) in search needs)
     (λ c κs. let start = of-price c in search (needs, column-fits))
-    same-length
-    (λ c. search needs)
-    (λ c. search needs)
-    (λ c. search needs)
-    (λ c. search needs)
-    (λ c. search needs)
+    (λ c κs. let start = of-price (c .before .before .before) in search needs)
+    (λ c κs. let start = of-currency c in search (needs, column-fits))
+    (λ c. side c .copy .kept .1 .0)
+    (λ c. kind c .copy2 .kept .1 .0)
+    (λ c. issuer c .copy3 .kept .1 .0)
+    (λ c. days c .copy4 .kept .1 .0)
+    (λ c. value c .copy5 .kept .1 .0)
+    (λ c. price c .copy6 .kept .1 .0)
+    (λ c. currency c .copy7 .kept .1 .0)
     returns)
