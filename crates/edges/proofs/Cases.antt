@@ -85,6 +85,10 @@ flag b = cond b 1 0
 abbrev pub rate : String → Row → ℕ → Case
 rate name r n = record { name = name; computed = alone r; stated = 0 ∷ n ∷ [] }
 
+-- the rates of several rows
+abbrev pub rates : String → List Row → List ℕ → Case
+rates name rows expected = record { name = name; computed = flatMap alone rows; stated = flatMap (λ n. 0 ∷ n ∷ []) expected }
+
 abbrev pub fault : String → Row → ℕ → Case
 fault name r n = record { name = name; computed = alone r; stated = n ∷ [] }
 
@@ -93,6 +97,17 @@ pair name l s n saving = record { name = name; computed = together l s; stated =
 
 abbrev pub no-pair : String → Row → Row → ℕ → Case
 no-pair name l s n = record { name = name; computed = together l s; stated = n ∷ [] }
+
+-- several pairs of one rate and one saving rate, and several that are not allowed
+abbrev pub pairs : String → List (Row × Row) → ℕ → ℕ → Case
+pairs name rows n saving = record {
+  name = name;
+  computed = flatMap (λ p. together (p .0) (p .1)) rows;
+  stated = flatMap (λ p. 0 ∷ n ∷ saving ∷ []) rows;
+}
+
+abbrev pub no-pairs : String → List (Row × Row) → Case
+no-pairs name rows = record { name = name; computed = flatMap (λ p. together (p .0) (p .1)) rows; stated = map (λ p. 13) rows }
 
 abbrev pub proposal : String → List Row → List ℕ → List Line → List ℕ → Case
 proposal name rows prices lines expected = record { name = name; computed = judged false false rows prices lines; stated = expected }
@@ -134,23 +149,23 @@ encodes name numbers bytes = record { name = name; computed = encode numbers; st
 abbrev zeros : ℕ → List ℕ
 zeros n = replicate n 0
 
--- columns of so many zero bytes each: five of holdings, the prices, three of lines
+-- columns of so many zero bytes each: six of holdings, the prices, three of lines
 abbrev blank : List ℕ → Columns
-blank z = makeColumns (map zeros (take 5 z)) (zeros (getD z 5 0)) (map zeros (take 3 (drop 6 z)))
+blank z = makeColumns (map zeros (take 6 z)) (zeros (getD z 6 0)) (map zeros (take 3 (drop 7 z)))
 
--- the one number that the check gives to each of several lengths of what a host lends: of nine columns, the two lists and the answer
+-- the one number that the check gives to each of several lengths of what a host lends: of ten columns, the two lists and the answer
 abbrev pub lengths : String → List (List ℕ) → ℕ → Case
 lengths name zs n =
-    let found : List ℕ → ℕ = λ z. outcomeOf (blank z) (makeLent (zeros (getD z 9 0)) (zeros (getD z 10 0)) (zeros (getD z 11 0))) .number in
+    let found : List ℕ → ℕ = λ z. outcomeOf (blank z) (makeLent (zeros (getD z 10 0)) (zeros (getD z 11 0)) (zeros (getD z 12 0))) .number in
     record { name = name; computed = map found zs; stated = map (λ _. n) zs }
 
--- what is submitted, written into columns of two entries, 0 and 10: the numbers of each column in turn, and what the columns then hold, each number by
+-- what is submitted, written into columns of two entries, 0 and 11: the numbers of each column in turn, and what the columns then hold, each number by
 -- its name
 abbrev pub columns : String → List Row → List ℕ → List Line → List ℕ → Case
 columns name rows prices lines expected =
-    let old = encode (0 ∷ 10 ∷ []) in
-    let c = filled (record { rows = rows; prices = prices; lines = lines }) (makeColumns (replicate 5 old) old (replicate 3 old)) in
-    let named : Submission → List ℕ = λ s. flatMap (λ r. r .side ∷ r .kind ∷ r .issuer ∷ r .days ∷ r .value ∷ []) (s .rows) ++ s .prices ++ flatMap (λ l. l .long ∷ l .short ∷ l .amount ∷ []) (s .lines) in
+    let old = encode (0 ∷ 11 ∷ []) in
+    let c = filled (record { rows = rows; prices = prices; lines = lines }) (makeColumns (replicate 6 old) old (replicate 3 old)) in
+    let named : Submission → List ℕ = λ s. flatMap (λ r. r .side ∷ r .kind ∷ r .issuer ∷ r .days ∷ r .value ∷ r .currency ∷ []) (s .rows) ++ s .prices ++ flatMap (λ l. l .long ∷ l .short ∷ l .amount ∷ []) (s .lines) in
     record { name = name; computed = flatMap decode (c .holdings ++ (c .price ∷ c .lines)) ++ named (submission c); stated = expected }
 
 -- an answer slice after 16 at long 1 and short 2 was put into it
@@ -162,12 +177,15 @@ abbrev pub answers : String → List ℕ → List ℕ → ℕ → List ℕ → C
 answers name sizes text slice expected =
     record { name = name; computed = answerNumbers (readingAnswer text (blank sizes) (zeros slice)); stated = expected }
 
--- an H and a P of the file by the fields that are filled: the empty ones follow, and CRLF
+-- an H in a currency, an H in CAD, and a P of the file by the other fields that are filled: the empty ones follow, and CRLF
 abbrev pub emptyFields : List ℕ
-emptyFields = ascii ",,,"
+emptyFields = ascii ",,,,"
+
+abbrev pub H-in : String → String → List ℕ
+H-in currency filled = ascii "H," ++ ascii filled ++ ascii "," ++ ascii currency ++ ascii "\r\n"
 
 abbrev pub H : String → List ℕ
-H filled = ascii "H," ++ ascii filled ++ ascii "\r\n"
+H filled = H-in "CAD" filled
 
 abbrev pub P : String → List ℕ
 P filled = ascii "P," ++ ascii filled ++ emptyFields ++ ascii "\r\n"
@@ -180,9 +198,12 @@ unended text = take (length text - 2) text
 abbrev pub line : ℕ → ℕ → ℕ → Line
 line long short amount = record { long = long; short = short; amount = amount }
 
--- side, kind, issuer, days, value
+-- side, kind, issuer, days, value, in CAD; and the same in another currency
 abbrev pub row : ℕ → ℕ → ℕ → ℕ → ℕ → Row
-row side kind issuer days value = record { side = side; kind = kind; issuer = issuer; days = days; value = value }
+row side kind issuer days value = record { side = side; kind = kind; issuer = issuer; days = days; value = value; currency = 0 }
+
+abbrev pub of : ℕ → Row → Row
+of currency r = record { side = r .side; kind = r .kind; issuer = r .issuer; days = r .days; value = r .value; currency = currency }
 
 -- the letters and codes of the file's fields
 abbrev pub L : ℕ
@@ -208,6 +229,21 @@ ON = 7
 
 abbrev pub QC : ℕ
 QC = 9
+
+abbrev pub US : ℕ
+US = 11
+
+abbrev pub GB : ℕ
+GB = 12
+
+abbrev pub CAD : ℕ
+CAD = 0
+
+abbrev pub USD : ℕ
+USD = 1
+
+abbrev pub GBP : ℕ
+GBP = 2
 
 -- the file's book, and its lines by the first amount
 abbrev pub file : List Row

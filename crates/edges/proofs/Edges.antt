@@ -1,4 +1,4 @@
--- Document 01's worked cases in one table, and that each agrees: one test, computed from the definitions over each group. Assumes nothing.
+-- The worked cases of documents 01 and 02 in one table, and that each agrees: one test, computed from the definitions over each group. Assumes nothing.
 use mathlib.Core.Path.{_≡_, refl, ap}
 use mathlib.Core.Bool.{Bool, true, false, cond}
 use mathlib.Core.List.{List, [], _∷_, flatMap}
@@ -11,9 +11,10 @@ use Rattle.lists.specs.Order.{insert, ordered}
 use Rattle.lists.proofs.Entries.{each-so, same-true}
 use Rattle.words.specs.Words.{number, littleEndian, wordAt, entries, decode, encode}
 use Rattle.holding.specs.Holding as row
-use Rattle.holding.specs.Holding.{identityFaults, termFaults, worthFaults, rowFaults, faultOf, holdingOf, sideOf, kindOf, issuerOf, rowOf}
+use Rattle.holding.specs.Holding.{identityFaults, termFaults, worthFaults, moneyFaults, rowFaults, faultOf, holdingOf, sideOf, kindOf, issuerOf, currencyOf, rowOf}
 use Rattle.article.specs.Rate.{longerThan, atLeast, periodOf, percents, flatRate, bondRate, stripRate, kindRate, rateAt, rateOf}
-use Rattle.article.specs.Pair.{legOf, isLong, isShort, isBond, isStrip, isCanada, isProvince, kindsPair, sameClass, mixedClass, classRule, ruleOf, ruleRate, allowed, pairRateOf, savingRateOf, pairOf}
+use Rattle.article.specs.Pair.{legOf, isLong, isShort, isBond, isStrip, isCanada, isProvince, isUs, isGb, inCad, inUsd, inGbp, kindsPair, sameClass, mixedClass, classRule, domesticRule}
+use Rattle.article.specs.Pair.{oneBond, sameGovernment, governmentRule, foreignRule, bothCad, sameForeign, ruleOf, ruleRate, allowed, pairRateOf, savingRateOf, pairOf}
 use Rattle.pairing.specs.Pairing as theory
 use Rattle.pairing.specs.Pairing.{used, saving, pairUnits, pricedTotal}
 use Rattle.ranking.specs.Ranking.{ranksBefore, rankingOf}
@@ -35,28 +36,31 @@ use Rattle.printing.specs.Printed.{fileAnswer, printed}
 use Rattle.edges.proofs.Cases.{Case, Agrees, failing, alone, together, judged, worked}
 use Rattle.edges.proofs.Starred.{starred, starredFile}
 use Rattle.edges.proofs.Others.{single, thirdPrice, firstPrice, firstAmount, tooLong, files, recordFaults, tooMany, texts, lending, reading, proposals, refusals}
+use Rattle.edges.proofs.Foreign.{governments, paragraph4, notParagraph4, twoCurrencies, foreignProvinces, foreignDebt, bothParagraphs, foreignBooks, foreignFile, eighthField}
 
 -- the table, the starred cases first. A group is as large as the prover computes when it names a case that fails
 abbrev pub table : List (List Case)
 table =
     starred ∷ starredFile ∷ single ∷ thirdPrice ∷ firstPrice ∷ firstAmount ∷ tooLong ∷ files ∷ recordFaults ∷ tooMany ∷ texts ∷ lending ∷ reading
-    ∷ proposals ∷ refusals ∷ []
+    ∷ proposals ∷ refusals ∷ governments ∷ paragraph4 ∷ notParagraph4 ∷ twoCurrencies ∷ foreignProvinces ∷ foreignDebt ∷ bothParagraphs
+    ∷ foreignBooks ∷ foreignFile ∷ eighthField ∷ []
 
 -- no case of any group fails; where this is refused, the message names those that do
 none-fails : Each (λ cs. failing cs ≡ []) table
 unfolding
-    starred starredFile single thirdPrice firstPrice firstAmount tooLong files recordFaults tooMany texts lending reading proposals refusals failing alone together judged
-    worked within firstOf some count same insert ordered sumTo sumOf only listTo turns inTurn front holdingSizes lineSizes listsOf writtenLists two entriesOf unequal
-    differ tooShort outcomeIn outcomeOf countIn numbersAt rowsIn linesIn submission column filledFrom filled row.numbersOf lineNumbers answered readAnswer readingAnswer
-    identityFaults termFaults worthFaults rowFaults faultOf holdingOf sideOf kindOf issuerOf rowOf longerThan atLeast periodOf percents flatRate bondRate stripRate
-    kindRate rateAt rateOf legOf isLong isShort isBond isStrip isCanada isProvince kindsPair sameClass mixedClass classRule ruleOf ruleRate allowed pairRateOf
-    savingRateOf pairOf used theory.savingRate saving pairUnits pricedTotal ranksBefore rankingOf bookOf termsOf priced remainder margin unitsOf remaindersOf ranked
-    centsOf atPlace holdingFaults pairFaults lineFaults atHolding bookFaults atLine linesFaults uncovered atPair atLong uncoveredPairs totalsDiffer totalsFaults
-    sizeFaults faults accepted outcome lead digits valueFrom numeralOf placeFrom placeOf isText isQuotable part textFrom textEnd closeFrom closeAt followedBy followed
-    begins opens enclosed fieldAt fieldsFrom recordAt recordsFrom recordsAt recordsOf valueOf valuesOf parsedOf parse parsedIn valuesBy submissionOf atRecord fileFaults
-    fileFault afterComma lineOf answerNumbers refusalLine marginLine remainderLine printedLines bookLine printedOf fileAnswer printed flatMap number littleEndian wordAt
-    entries decode encode
-none-fails = (refl, (refl, (refl, (refl, (refl, (refl, (refl, (refl, (refl, (refl, (refl, (refl, (refl, (refl, (refl, tt)))))))))))))))
+    starred starredFile single thirdPrice firstPrice firstAmount tooLong files recordFaults tooMany texts lending reading proposals refusals governments paragraph4
+    notParagraph4 twoCurrencies foreignProvinces foreignDebt bothParagraphs foreignBooks foreignFile eighthField failing alone together judged worked within firstOf
+    some count same insert ordered sumTo sumOf only listTo turns inTurn front holdingSizes lineSizes listsOf writtenLists two entriesOf unequal differ tooShort
+    outcomeIn outcomeOf countIn numbersAt rowsIn linesIn submission column filledFrom filled row.numbersOf lineNumbers answered readAnswer readingAnswer identityFaults
+    termFaults worthFaults moneyFaults rowFaults faultOf holdingOf sideOf kindOf issuerOf currencyOf rowOf longerThan atLeast periodOf percents flatRate bondRate
+    stripRate kindRate rateAt rateOf legOf isLong isShort isBond isStrip isCanada isProvince isUs isGb inCad inUsd inGbp kindsPair sameClass mixedClass classRule
+    domesticRule oneBond sameGovernment governmentRule foreignRule bothCad sameForeign ruleOf ruleRate allowed pairRateOf savingRateOf pairOf used theory.savingRate
+    saving pairUnits pricedTotal ranksBefore rankingOf bookOf termsOf priced remainder margin unitsOf remaindersOf ranked centsOf atPlace holdingFaults pairFaults
+    lineFaults atHolding bookFaults atLine linesFaults uncovered atPair atLong uncoveredPairs totalsDiffer totalsFaults sizeFaults faults accepted outcome lead digits
+    valueFrom numeralOf placeFrom placeOf isText isQuotable part textFrom textEnd closeFrom closeAt followedBy followed begins opens enclosed fieldAt fieldsFrom
+    recordAt recordsFrom recordsAt recordsOf valueOf valuesOf parsedOf parse parsedIn valuesBy submissionOf atRecord fileFaults fileFault afterComma lineOf
+    answerNumbers refusalLine marginLine remainderLine printedLines bookLine printedOf fileAnswer printed flatMap number littleEndian wordAt entries decode encode
+none-fails = (refl, (refl, (refl, (refl, (refl, (refl, (refl, (refl, (refl, (refl, (refl, (refl, (refl, (refl, (refl, (refl, (refl, (refl, (refl, (refl, (refl, (refl, (refl, (refl, (refl, tt)))))))))))))))))))))))))
 
 -- cases of which none fails agree
 none-each : (cs : List Case) → failing cs ≡ [] → Each Agrees cs

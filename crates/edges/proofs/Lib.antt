@@ -1,4 +1,5 @@
 pub mod Cases
 pub mod Starred
 pub mod Others
+pub mod Foreign
 pub mod Edges

@@ -1,15 +1,15 @@
 -- Document 01, "Edges" without a star, "Shortcuts that cost margin or hide it", each refusal with its place, and each letter, code and byte of
--- the file. Assumes nothing.
+-- the file, with what document 02 a) adds to them. Assumes nothing.
 use mathlib.Core.Bool.{true, false}
 use mathlib.Core.List.{List, [], _∷_, _++_, map, flatMap}
 use Prim.Native.Nat.{ℕ}
 use lib.ListN.{take, drop, set, replicate}
 use Rattle.lists.specs.Tables.{ascii}
 use Rattle.holding.specs.declared.Row.{Row}
-use Rattle.layout.specs.declared.Sort.the-variants.{Side, Kind, Issuer}
+use Rattle.layout.specs.declared.Sort.the-variants.{Side, Kind, Issuer, Currency}
 use Rattle.layout.specs.Layout.{Meaning, good}
 use Rattle.edges.proofs.Cases.{Case, rate, fault, pair, no-pair, proposal, lent, figures, prints, record-at, code, letter, byte, decodes, encodes, lengths, columns, slice, answers, emptyFields, H, P, unended}
-use Rattle.edges.proofs.Cases.{line, row, L, S, B, C, R, CA, ON, QC, file, file-lines}
+use Rattle.edges.proofs.Cases.{line, row, of, L, S, B, C, R, CA, ON, QC, CAD, file, file-lines}
 
 -- the book of "Largest saving first", and prices that cover it
 abbrev four : List Row
@@ -28,18 +28,19 @@ bonds = row L B CA 1 2 ∷ row S B CA 1 2 ∷ []
 
 -- an H and a P as parsed
 abbrev holding : Meaning
-holding = good 0 (L ∷ B ∷ CA ∷ 1 ∷ 1 ∷ 0 ∷ [])
+holding = good 0 (L ∷ B ∷ CA ∷ 1 ∷ 1 ∷ 0 ∷ CAD ∷ [])
 
 abbrev pairing : Meaning
 pairing = good 1 (0 ∷ 0 ∷ 1 ∷ [])
 
--- the byte lengths for two holdings and one line: each column of the holdings, each of the lines, the two lists and the answer
+-- the byte lengths for two holdings and one line: each column of the holdings, the currency's sixth and the price's seventh, each of the lines, the two lists
+-- and the answer
 abbrev right : List ℕ
-right = replicate 6 16 ++ replicate 3 8 ++ replicate 3 16
+right = replicate 7 16 ++ replicate 3 8 ++ replicate 3 16
 
 -- for one holding and two lines
 abbrev moreLines : List ℕ
-moreLines = replicate 6 8 ++ replicate 3 16 ++ (8 ∷ 8 ∷ 16 ∷ [])
+moreLines = replicate 7 8 ++ replicate 3 16 ++ (8 ∷ 8 ∷ 16 ∷ [])
 
 -- one holding, one pair
 unfoldable pub single : List Case
@@ -52,13 +53,17 @@ single =
     -- each range by itself, at its ends, and the first of several
     ∷ fault "side 2" (row 2 B CA 1 1) 4
     ∷ fault "kind 3" (row L 3 CA 1 1) 5
-    ∷ fault "issuer 11" (row L B 11 1 1) 6
+    ∷ fault "issuer 13" (row L B 13 1 1) 6
     ∷ fault "value 0" (row L B CA 1 0) 8
+    ∷ fault "currency 3" (of 3 (row L B CA 1 1)) 23
+    ∷ fault "the largest number as a currency" (of 18446744073709551615 (row L B CA 1 1)) 23
     ∷ rate "side 1, kind 2, issuer 10" (row 1 2 10 1 1) 12
-    ∷ fault "side before kind, issuer, days and value" (row 2 3 11 0 0) 4
-    ∷ fault "kind before issuer, days and value" (row L 3 11 0 0) 5
-    ∷ fault "issuer before days and value" (row L B 11 0 0) 6
-    ∷ fault "days before value" (row L B CA 0 0) 7
+    ∷ rate "side 1, kind 2, issuer 12, currency 2" (of 2 (row 1 2 12 1 1)) 6
+    ∷ fault "side before kind, issuer, days, value and currency" (of 3 (row 2 3 13 0 0)) 4
+    ∷ fault "kind before issuer, days, value and currency" (of 3 (row L 3 13 0 0)) 5
+    ∷ fault "issuer before days, value and currency" (of 3 (row L B 13 0 0)) 6
+    ∷ fault "days before value and currency" (of 3 (row L B CA 0 0)) 7
+    ∷ fault "value before currency" (of 3 (row L B CA 1 0)) 8
     -- the rates on both sides of 4,015 days agree, and do not pair
     ∷ rate "Canada coupon 4,015 days" (row L C CA 4015 100) 8760
     ∷ rate "Canada coupon 4,016 days" (row S C CA 4016 100) 8760
@@ -73,14 +78,13 @@ single =
     ∷ pair "the highest saving rate" (row L R ON 36500 100) (row S R QC 7300 100) 0 43800
     -- the legs the wrong way round; a row with a fault is in no pair
     ∷ no-pair "the legs the wrong way round" (row S C ON 2000 1000) (row L C ON 2000 1000) 13
-    ∷ no-pair "a pair with a row at fault" (row L C ON 2000 1000) (row S C 11 2000 1000) 6
+    ∷ no-pair "a pair with a row at fault" (row L C ON 2000 1000) (row S C 13 2000 1000) 6
     ∷ []
 
--- the file with its third price 6,569: 16 at 0, 2; from its numbers and from its bytes
+-- the file with its third price 6,569: 16 at 0, 2; from its bytes
 unfoldable pub thirdPrice : List Case
 thirdPrice =
-    proposal "third price 6,569, from the numbers" file (0 ∷ 5840 ∷ 6569 ∷ []) (file-lines 600000) (16 ∷ 0 ∷ 2 ∷ [])
-    ∷ prints
+    prints
     "third price 6,569"
     (H "L,C,CA,2000,1000000,0" ++ H "S,B,CA,2000,600000,5840" ++ H "S,R,ON,2000,300000,6569" ++ P "0,1,600000" ++ P "0,2,300000")
     "X,16,0,2\r\n"
@@ -89,8 +93,7 @@ thirdPrice =
 -- with its first price 1: 17
 unfoldable pub firstPrice : List Case
 firstPrice =
-    proposal "first price 1, from the numbers" file (1 ∷ 5840 ∷ 6570 ∷ []) (file-lines 600000) (17 ∷ 0 ∷ 0 ∷ [])
-    ∷ prints
+    prints
     "first price 1"
     (H "L,C,CA,2000,1000000,1" ++ H "S,B,CA,2000,600000,5840" ++ H "S,R,ON,2000,300000,6570" ++ P "0,1,600000" ++ P "0,2,300000")
     "X,17,0,0\r\n"
@@ -99,8 +102,7 @@ firstPrice =
 -- with its first amount 600,001: 15
 unfoldable pub firstAmount : List Case
 firstAmount =
-    proposal "first amount 600,001, from the numbers" file (0 ∷ 5840 ∷ 6570 ∷ []) (file-lines 600001) (15 ∷ 0 ∷ 0 ∷ [])
-    ∷ prints
+    prints
     "first amount 600,001"
     (H "L,C,CA,2000,1000000,0" ++ H "S,B,CA,2000,600000,5840" ++ H "S,R,ON,2000,300000,6570" ++ P "0,1,600001" ++ P "0,2,300000")
     "X,15,0,0\r\n"
@@ -136,7 +138,7 @@ files =
 unfoldable pub recordFaults : List Case
 recordFaults =
     prints "an unknown letter" (ascii "Q" ++ drop 1 (H "L,B,CA,1,1,0")) "X,21,0,0\r\n"
-    ∷ prints "eight fields, at record 1" (H "L,B,CA,1,1,0" ++ H "L,B,CA,1,1,0,") "X,20,1,0\r\n"
+    ∷ prints "nine fields, at record 1" (H "L,B,CA,1,1,0" ++ H "L,B,CA,1,1,0,") "X,20,1,0\r\n"
     ∷ prints "days of seven digits" (H "L,B,CA,1000000,1,0") "X,21,0,0\r\n"
     ∷ prints "days of six digits" (H "L,B,CA,999999,1,0") "X,7,0,0\r\n"
     ∷ prints "a value of 13 digits" (H "L,B,CA,1,1000000000000,0") "X,21,0,0\r\n"
@@ -157,15 +159,16 @@ recordFaults =
 -- what columns hold; the answer slice
 unfoldable pub lending : List Case
 lending =
-    lengths "all lengths right, lists of 21 bytes, or more lines than holdings" (right ∷ (take 9 right ++ replicate 3 21) ∷ moreLines ∷ []) 7
-    ∷ lengths "nothing but the answer" ((replicate 11 0 ++ (16 ∷ [])) ∷ []) 0
-    ∷ lengths "1 before 2" (set (set right 5 8) 11 15 ∷ []) 1
-    ∷ lengths "one side, kind, issuer, days, value or price" (map (λ j. set right j 8) (0 ∷ 1 ∷ 2 ∷ 3 ∷ 4 ∷ 5 ∷ [])) 1
-    ∷ lengths "three prices, two longs, no short, or two amounts" (set right 5 24 ∷ set right 6 16 ∷ set right 7 0 ∷ set right 8 16 ∷ []) 1
-    ∷ lengths "holdings of 21 bytes, or lines of 13" ((replicate 6 21 ++ drop 6 right) ∷ (take 6 right ++ replicate 3 13 ++ drop 9 right) ∷ []) 1
-    ∷ lengths "one remainder, one rank, or an answer of 15 bytes" (set right 9 15 ∷ set right 10 15 ∷ set right 11 15 ∷ []) 2
-    ∷ columns "the columns, each number by its name" (row 1 2 3 4 5 ∷ []) (6 ∷ []) (line 7 8 9 ∷ [])
-    (flatMap (λ n. n ∷ 10 ∷ []) (1 ∷ 2 ∷ 3 ∷ 4 ∷ 5 ∷ 6 ∷ 7 ∷ 8 ∷ 9 ∷ []) ++ (1 ∷ 2 ∷ 3 ∷ 4 ∷ 5 ∷ 10 ∷ 10 ∷ 10 ∷ 10 ∷ 10 ∷ 6 ∷ 10 ∷ 7 ∷ 8 ∷ 9 ∷ 10 ∷ 10 ∷ 10 ∷ []))
+    lengths "all lengths right, lists of 21 bytes, or more lines than holdings" (right ∷ (take 10 right ++ replicate 3 21) ∷ moreLines ∷ []) 7
+    ∷ lengths "nothing but the answer" ((replicate 12 0 ++ (16 ∷ [])) ∷ []) 0
+    ∷ lengths "1 before 2" (set (set right 6 8) 12 15 ∷ []) 1
+    ∷ lengths "one side, kind, issuer, days, value, currency or price" (map (λ j. set right j 8) (0 ∷ 1 ∷ 2 ∷ 3 ∷ 4 ∷ 5 ∷ 6 ∷ [])) 1
+    ∷ lengths "three currencies, three prices, two longs, no short, or two amounts" (set right 5 24 ∷ set right 6 24 ∷ set right 7 16 ∷ set right 8 0 ∷ set right 9 16 ∷ []) 1
+    ∷ lengths "holdings of 21 bytes, or lines of 13" ((replicate 7 21 ++ drop 7 right) ∷ (take 7 right ++ replicate 3 13 ++ drop 10 right) ∷ []) 1
+    ∷ lengths "one remainder, one rank, or an answer of 15 bytes" (set right 10 15 ∷ set right 11 15 ∷ set right 12 15 ∷ []) 2
+    ∷ columns "the columns, each number by its name" (of 6 (row 1 2 3 4 5) ∷ []) (7 ∷ []) (line 8 9 10 ∷ [])
+    (flatMap (λ n. n ∷ 11 ∷ []) (1 ∷ 2 ∷ 3 ∷ 4 ∷ 5 ∷ 6 ∷ 7 ∷ 8 ∷ 9 ∷ 10 ∷ [])
+    ++ (1 ∷ 2 ∷ 3 ∷ 4 ∷ 5 ∷ 6 ∷ 11 ∷ 11 ∷ 11 ∷ 11 ∷ 11 ∷ 11 ∷ 7 ∷ 11 ∷ 8 ∷ 9 ∷ 10 ∷ 11 ∷ 11 ∷ 11 ∷ []))
     ∷ slice "15 bytes stay as they were" (replicate 15 9) (replicate 15 9)
     ∷ slice "20 bytes keep the last four" (replicate 20 9) (1 ∷ 0 ∷ 0 ∷ 0 ∷ 0 ∷ 0 ∷ 0 ∷ 0 ∷ 2 ∷ 0 ∷ 0 ∷ 0 ∷ 0 ∷ 0 ∷ 0 ∷ 0 ∷ 9 ∷ 9 ∷ 9 ∷ 9 ∷ [])
     ∷ []
@@ -176,8 +179,9 @@ reading =
     answers "read: two holdings, one line" right (H "L,B,CA,1,1,0" ++ H "L,B,CA,1,1,0" ++ P "0,0,1") 16 (0 ∷ 2 ∷ 1 ∷ [])
     ∷ answers "read: one holding, two lines" moreLines (H "L,B,CA,1,1,0" ++ P "0,0,1" ++ P "0,0,1") 16 (0 ∷ 1 ∷ 2 ∷ [])
     ∷ answers "read: an empty file into empty columns" [] [] 16 (0 ∷ 0 ∷ 0 ∷ [])
-    ∷ answers "read, and a price column too short" (set right 5 15) (H "L,B,CA,1,1,0" ++ H "L,B,CA,1,1,0") 16 (2 ∷ 0 ∷ 0 ∷ [])
-    ∷ answers "read, and a column of amounts too short" (set right 8 15) (H "L,B,CA,1,1,0" ++ P "0,0,1" ++ P "0,0,1") 16 (2 ∷ 0 ∷ 0 ∷ [])
+    ∷ answers "read, and a currency column too short" (set right 5 15) (H "L,B,CA,1,1,0" ++ H "L,B,CA,1,1,0") 16 (2 ∷ 0 ∷ 0 ∷ [])
+    ∷ answers "read, and a price column too short" (set right 6 15) (H "L,B,CA,1,1,0" ++ H "L,B,CA,1,1,0") 16 (2 ∷ 0 ∷ 0 ∷ [])
+    ∷ answers "read, and a column of amounts too short" (set right 9 15) (H "L,B,CA,1,1,0" ++ P "0,0,1" ++ P "0,0,1") 16 (2 ∷ 0 ∷ 0 ∷ [])
     ∷ answers "read, and an answer of 15 bytes" right (H "L,B,CA,1,1,0") 15 (2 ∷ 0 ∷ 0 ∷ [])
     ∷ answers "a bad record before a list and an answer too short" [] (H "L,B,CA,1,1,0" ++ H "L,B,CA,01,1,0") 15 (21 ∷ 1 ∷ 0 ∷ [])
     ∷ []
@@ -201,8 +205,11 @@ texts =
     ∷ code "no sides" Side ("s" ∷ []) []
     ∷ code "the kinds" Kind ("B" ∷ "C" ∷ "R" ∷ []) (0 ∷ 1 ∷ 2 ∷ [])
     ∷ code "no kinds" Kind ("c" ∷ "M" ∷ []) []
-    ∷ code "the issuers" Issuer ("CA" ∷ "AB" ∷ "BC" ∷ "MB" ∷ "NB" ∷ "NL" ∷ "NS" ∷ "ON" ∷ "PE" ∷ "QC" ∷ "SK" ∷ []) (0 ∷ 1 ∷ 2 ∷ 3 ∷ 4 ∷ 5 ∷ 6 ∷ 7 ∷ 8 ∷ 9 ∷ 10 ∷ [])
-    ∷ code "no issuers" Issuer ("YT" ∷ "NT" ∷ "NU" ∷ "ca" ∷ "C" ∷ "CAA" ∷ "" ∷ []) []
+    ∷ code "the issuers" Issuer ("CA" ∷ "AB" ∷ "BC" ∷ "MB" ∷ "NB" ∷ "NL" ∷ "NS" ∷ "ON" ∷ "PE" ∷ "QC" ∷ "SK" ∷ "US" ∷ "GB" ∷ [])
+    (0 ∷ 1 ∷ 2 ∷ 3 ∷ 4 ∷ 5 ∷ 6 ∷ 7 ∷ 8 ∷ 9 ∷ 10 ∷ 11 ∷ 12 ∷ [])
+    ∷ code "no issuers" Issuer ("YT" ∷ "NT" ∷ "NU" ∷ "UK" ∷ "ca" ∷ "C" ∷ "CAA" ∷ "" ∷ []) []
+    ∷ code "the currencies" Currency ("CAD" ∷ "USD" ∷ "GBP" ∷ []) (0 ∷ 1 ∷ 2 ∷ [])
+    ∷ code "no currencies" Currency ("EUR" ∷ "cad" ∷ "CA" ∷ "CADX" ∷ "" ∷ []) []
     ∷ byte "TEXTDATA, at its ends" 1 1 (0x20 ∷ 0x21 ∷ 0x23 ∷ 0x2B ∷ 0x2D ∷ 0x7E ∷ [])
     ∷ byte "LF, CR and the comma: in quotes alone" 0 1 (0x0A ∷ 0x0D ∷ 0x2C ∷ [])
     ∷ byte "a tab, the quote, DEL and what is not printed: neither" 0 0 (0x09 ∷ 0x1F ∷ 0x22 ∷ 0x7F ∷ 0x80 ∷ [])
@@ -213,8 +220,12 @@ texts =
 -- books and proposals from their numbers
 unfoldable pub proposals : List Case
 proposals =
+    -- the file with another price or amount
+    proposal "third price 6,569, from the numbers" file (0 ∷ 5840 ∷ 6569 ∷ []) (file-lines 600000) (16 ∷ 0 ∷ 2 ∷ [])
+    ∷ proposal "first price 1, from the numbers" file (1 ∷ 5840 ∷ 6570 ∷ []) (file-lines 600000) (17 ∷ 0 ∷ 0 ∷ [])
+    ∷ proposal "first amount 600,001, from the numbers" file (0 ∷ 5840 ∷ 6570 ∷ []) (file-lines 600001) (15 ∷ 0 ∷ 0 ∷ [])
     -- the empty book, and a line on it
-    proposal "the empty book" [] [] [] (0 ∷ 0 ∷ 0 ∷ [])
+    ∷ proposal "the empty book" [] [] [] (0 ∷ 0 ∷ 0 ∷ [])
     ∷ proposal "a line on the empty book" [] [] (line 0 0 1 ∷ []) (11 ∷ 0 ∷ 0 ∷ [])
     -- "Largest saving first": each coupon with the other side's bond gives 40 cents; coupon with coupon, which gives 80, is refused
     ∷ proposal "largest saving first: each coupon with the other side's bond" four four-prices (line 0 3 1000 ∷ line 1 2 1000 ∷ []) (0 ∷ 5840000 ∷ 40 ∷ 0 ∷ 0 ∷ 0 ∷ 0 ∷ 0 ∷ 1 ∷ 2 ∷ 3 ∷ [])
@@ -259,8 +270,11 @@ refusals =
     ∷ proposal "15 by the short leg alone" (two 2 1) (8 ∷ 0 ∷ []) (line 0 1 2 ∷ []) (15 ∷ 0 ∷ 0 ∷ [])
     ∷ proposal "13 at line 1" (row L C CA 1 2 ∷ row S B CA 1 2 ∷ row S C CA 366 2 ∷ []) (8 ∷ 0 ∷ 0 ∷ []) (line 0 1 1 ∷ line 0 2 1 ∷ []) (13 ∷ 1 ∷ 0 ∷ [])
     ∷ proposal "a line is finished before the next" (two 2 2) (8 ∷ 0 ∷ []) (line 0 1 3 ∷ line 0 2 1 ∷ []) (15 ∷ 0 ∷ 0 ∷ [])
-    -- a holding is finished before the next, its value before its price; holdings come before lines
+    -- a holding is finished before the next, its value before its currency before its price; holdings come before lines
     ∷ proposal "8 before 10, and holdings before lines" (two 2 0) (8 ∷ 43801 ∷ []) (line 0 2 1 ∷ []) (8 ∷ 1 ∷ 0 ∷ [])
+    ∷ proposal "23 before 10, at holding 1" (row L C CA 1 2 ∷ of 3 (row S B CA 1 2) ∷ []) (8 ∷ 43801 ∷ []) (line 0 2 1 ∷ []) (23 ∷ 1 ∷ 0 ∷ [])
+    ∷ proposal "23 before 4 of the next holding" (of 3 (row L C CA 1 2) ∷ row 2 B CA 1 2 ∷ []) (8 ∷ 0 ∷ []) [] (23 ∷ 0 ∷ 0 ∷ [])
+    ∷ proposal "10 before 23 of the next holding" (row L C CA 1 2 ∷ of 3 (row S B CA 1 2) ∷ []) (43801 ∷ 0 ∷ []) [] (10 ∷ 0 ∷ 0 ∷ [])
     ∷ proposal "10 at holding 1" (two 2 2) (43800 ∷ 43801 ∷ []) [] (10 ∷ 1 ∷ 0 ∷ [])
     ∷ proposal "a holding is finished before the next" (two 2 0) (43801 ∷ 0 ∷ []) (line 0 2 1 ∷ []) (10 ∷ 0 ∷ 0 ∷ [])
     -- 257 holdings: 3; 513 lines: 9; both: 3
@@ -272,5 +286,6 @@ refusals =
     ∷ lent "3 before 9, 2 and 4" false true (replicate 257 (row 2 B CA 1 1)) (replicate 513 (line 0 0 1)) (3 ∷ 0 ∷ 0 ∷ [])
     ∷ lent "9 before 2 and 4" false true (row 2 B CA 1 1 ∷ []) (replicate 513 (line 0 0 1)) (9 ∷ 0 ∷ 0 ∷ [])
     ∷ lent "2 before 4" false true (row 2 B CA 1 1 ∷ []) (line 0 0 1 ∷ []) (2 ∷ 0 ∷ 0 ∷ [])
+    ∷ lent "2 before 23" false true (of 3 (row L B CA 1 1) ∷ []) (line 0 0 1 ∷ []) (2 ∷ 0 ∷ 0 ∷ [])
     ∷ lent "4 before 11" false false (row 2 B CA 1 1 ∷ []) (line 0 0 1 ∷ []) (4 ∷ 0 ∷ 0 ∷ [])
     ∷ []
