@@ -46,27 +46,30 @@ module _ (bond : Bool) (l : Leg) (cad : inCad l ≡ true) where
 
 -- the marks of two legs of one period
 module _ (l s : Leg) (p : l .period ≡ s .period) where
+  -- marks of one class, and of two
+  alike : {x y : ℕ} (c : ℕ) → x ≡ 4 * l .period + c → y ≡ 4 * s .period + c → y ≡ x
+  alike c e f = omega (arith, p, e, f)
+
+  crossed : {x y : ℕ} (c d : ℕ) → x ≡ 4 * l .period + c → y ≡ 4 * s .period + d → c + d ≡ 1 → OtherClass x y
+  crossed c d e f h = record { key = omega (arith, p, e, f, h); class = omega (arith, p, e, f, h) }
+
   -- in CAD, of one class
   one-mark : bothCad l s ≡ true → sameClass l s ≡ true → shortMark s ≡ soughtMark l
   unfolding bothCad sameClass soughtMark shortMark
   one-mark c e =
-      let (cl, cs) = and-eq-true-iff (inCad l) (inCad s) .0 c in
+      let (f, g) = and-eq-true-iff (inCad l) (inCad s) .0 c in
       one-pair (isCanada l) (isCanada s) (isProvince l) (isProvince s) e
-      (λ a b. omega (arith, p, canada-mark (not (isBond l)) l cl a, canada-mark (isBond s) s cs b))
-      (λ a b. omega (arith, p, province-mark (not (isBond l)) l cl a, province-mark (isBond s) s cs b))
-
-  -- marks of one period and two classes
-  crossed : {x y : ℕ} (c d : ℕ) → x ≡ 4 * l .period + c → y ≡ 4 * s .period + d → c + d ≡ 1 → OtherClass x y
-  crossed c d e f h = record { key = omega (arith, p, e, f, h); class = omega (arith, p, e, f, h) }
+      (λ a b. alike 0 (canada-mark _ l f a) (canada-mark _ s g b))
+      (λ a b. alike 1 (province-mark _ l f a) (province-mark _ s g b))
 
   -- in CAD, of two classes
   two-marks : bothCad l s ≡ true → mixedClass l s ≡ true → OtherClass (soughtMark l) (shortMark s)
   unfolding bothCad mixedClass soughtMark shortMark
   two-marks c e =
-      let (cl, cs) = and-eq-true-iff (inCad l) (inCad s) .0 c in
+      let (f, g) = and-eq-true-iff (inCad l) (inCad s) .0 c in
       one-pair (isCanada l) (isProvince s) (isProvince l) (isCanada s) e
-      (λ a b. crossed 0 1 (canada-mark (not (isBond l)) l cl a) (province-mark (isBond s) s cs b) refl)
-      (λ a b. crossed 1 0 (province-mark (not (isBond l)) l cl a) (canada-mark (isBond s) s cs b) refl)
+      (λ a b. crossed 0 1 (canada-mark _ l f a) (province-mark _ s g b) refl)
+      (λ a b. crossed 1 0 (province-mark _ l f a) (canada-mark _ s g b) refl)
 
   -- just one is a bond: the short is what the long seeks
   sought : oneBond l s ≡ true → isBond s ≡ not (isBond l)

@@ -125,7 +125,7 @@ module _ {n : ℕ} {legs price marks strips rates prices : List ℕ} where
         }
 
 -- the row of a long by the mark that it seeks: a bond's and any other's
-module _ {l : Leg} {mark price m : ℕ} {marks strips rates prices : List ℕ} (sought : mark ≡ soughtMark l) where
+module _ (l : Leg) {mark price m : ℕ} {marks strips rates prices : List ℕ} (sought : mark ≡ soughtMark l) where
   pub bond-row : l .kind ≡ 0 → Covered mark (l .rate) price strips rates prices m → RowCovered l price marks strips rates prices m
   bond-row b c = record { bond = λ _. rw (← sought) c; other = λ f. absurd (f b) }
 

@@ -17,14 +17,18 @@ row-open-requires c κs = search needs
 
 returns : tie.Need-returns
 unfolding soughtMark isBond
-returns c = λ e. bond-row (c .before .before .before .before .mark-of .ensures) (c .before .if1 .taken) (c .row-open .ensures e)
+returns c =
+    let marked = c .before .before .before .before in
+    λ e. bond-row (marked .before .before .args .long) (marked .mark-of .ensures) (c .before .if1 .taken) (c .row-open .ensures e)
 
 row-open-requires-2 : tie.Need-row-open-requires-2
 row-open-requires-2 c κs = search needs
 
 returns-2 : tie.Need-returns-2
 unfolding soughtMark isBond
-returns-2 c = λ e. other-row (c .before .before .before .before .mark-of .ensures) (c .before .if1 .left) (c .row-open2 .ensures e)
+returns-2 c =
+    let marked = c .before .before .before .before in
+    λ e. other-row (marked .before .before .args .long) (marked .mark-of .ensures) (c .before .if1 .left) (c .row-open2 .ensures e)
 
 pub long-open-spec : {M : Type 1} → statement M
 long-open-spec =
