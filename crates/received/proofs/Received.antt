@@ -6,18 +6,17 @@ use mathlib.Core.List.{List, [], _∷_, _++_, map}
 use Prim.Native.Nat.{ℕ, suc, _*_, _/_, _≤_}
 use native.Mathlib.Omega.{arith}
 use lib.Dec.{eqb}
-use lib.ListN.{length, take, drop, length-map, length-append}
-use lib.Seq.{take-at, drop-at}
+use lib.ListN.{length, take, drop, length-map, length-append, length-take, length-drop}
 use borrow.Author.Tests.{ne-eqb}
-use Rattle.lists.specs.Tables.{Each, front}
+use Rattle.lists.specs.Tables.{Each, listTo, front}
+use Rattle.lists.proofs.Tables.{to-back}
 use Rattle.lists.proofs.Entries.{each-so, each-parts, each-back}
 use Rattle.article.specs.Answer.{Answer, makeAnswer}
-use Rattle.proposal.specs.Submission.{Submission, lineNumbers}
+use Rattle.proposal.specs.Submission.{Submission}
 use Rattle.proposal.proofs.Clear.{number}
-use Rattle.holding.specs.Holding.{numbersOf, rowBy}
 use Rattle.words.specs.Words.{encode}
 use Rattle.columns.specs.Columns.{Columns, makeColumns, holdingSizes, lineSizes, listsOf, column, filledFrom, filled, copied, CopyRoom}
-use Rattle.columns.proofs.Tables.{entered-copied, values-filled, line-values-filled}
+use Rattle.columns.proofs.Tables.{entered-copied, byTables, filled-values}
 use Rattle.columns.proofs.ReadBack.{price-read, rows-read, lines-read}
 use Rattle.sizes.specs.Sizes.{Room, tooShort}
 use Rattle.sizes.proofs.Sizes.{room-exactly}
@@ -51,26 +50,24 @@ with-room n lists h =
     each-so (λ (c : List ℕ). Holds (n, length c)) (λ c. 8 * n ≤ length c) (λ c l. omega arith) lists
     (each-back (λ (size : ℕ). Holds (n, size)) length lists (each-back Holds (λ (size : ℕ). (n, size)) (map length lists) h))
 
--- filling keeps the number of columns
-filled-length : (j : ℕ) (numbers olds : List (List ℕ)) → length (filledFrom j numbers olds) ≡ length olds
-unfolding filledFrom
-filled-length j numbers [] = refl
-filled-length j numbers (old ∷ olds) = ap suc (filled-length (suc j) numbers olds)
+-- a table of holdings has seven columns, all but the price's those of its holdings
+module _ (P : List ℕ → Type 0) (table lined : List (List ℕ)) (seven : length table ≡ 7) where
+  in-order : Each P (byTables table lined .holdings ++ (byTables table lined .price ∷ [])) → Each P table
+  unfolding listTo
+  in-order =
+      rw (← to-back 7 table [] seven) (λ (side, (kind, (issuer, (days, (value, (currency, (price, _))))))).
+      (side, (kind, (issuer, (days, (value, (price, (currency, tt))))))))
 
--- five columns and one are six
-many : (old : List ℕ) (xs : List (List ℕ)) → length xs ≡ 5 → length (xs ++ (old ∷ [])) ≡ 6
-many old xs f = length-append xs (old ∷ []) ∙ omega (arith, f)
+six : (table lined : List (List ℕ)) → length table ≡ 7 → length (byTables table lined .holdings) ≡ 6
+six table lined h = length-append (take 5 table) (drop 6 table) ∙ omega (arith, length-take 5 table, length-drop 6 table, h)
 
--- lists with one more at their ends are equal, and so are those, where the whole lists are
-parted : (n : ℕ) (xs ys : List (List ℕ)) {x y : List ℕ} → length xs ≡ n → length ys ≡ n → xs ++ (x ∷ []) ≡ ys ++ (y ∷ []) → (xs ≡ ys) × (x ≡ y)
-parted n xs ys {x} {y} l m e =
-    let ends : x ∷ [] ≡ y ∷ [] = sym (drop-at xs (x ∷ []) n l) ∙ ap (drop n) e ∙ drop-at ys (y ∷ []) n m in
-    (sym (take-at xs (x ∷ []) n l) ∙ ap (take n) e ∙ take-at ys (y ∷ []) n m, cc)
-
--- a text, and what is lent
-module _ (text : List ℕ) (before : Columns) (out : List ℕ) where
+-- a text, and what is lent: columns of holdings in the order of a table's, of lines, and an answer slice
+module _ (text : List ℕ) (table lined : List (List ℕ)) (out : List ℕ) where
   abbrev s : Submission
   s = submissionIn text
+
+  abbrev before : Columns
+  before = byTables table lined
 
   abbrev pub short : Bool
   short = tooShort (listsOf s before) (length out)
@@ -132,14 +129,14 @@ module _ (text : List ℕ) (before : Columns) (out : List ℕ) where
               (room-exactly (listsOf s before) (length out) .0 (sym same ∙ fits) .each) in
               (rw (← holdings-counted from-file e) (with-room _ (before .holdings ++ (before .price ∷ [])) book), rw (← lines-counted from-file e) (with-room _ (before .lines) lines))
 
-          pub book-room : length (before .holdings) ≡ 5 → CopyRoom rows n book′ (before .holdings ++ (before .price ∷ []))
-          book-room five = record {
+          pub book-room : length table ≡ 7 → CopyRoom rows n book′ table
+          book-room seven = record {
             few = few-holdings from-file e;
-            whole = from-file .each-holding (was-read from-file e) .long ∙ room .whole-book ∙ rw (many (before .price) (before .holdings) five);
-            each = each-list .0;
+            whole = from-file .each-holding (was-read from-file e) .long ∙ room .whole-book ∙ rw seven;
+            each = in-order _ table lined seven (each-list .0);
           }
 
-          pub lines-room : length (before .lines) ≡ 3 → CopyRoom rows m lines′ (before .lines)
+          pub lines-room : length lined ≡ 3 → CopyRoom rows m lines′ lined
           lines-room three = record {
             few = few-lines from-file e;
             whole = from-file .each-line (was-read from-file e) .long ∙ room .whole-lines ∙ rw three;
@@ -147,33 +144,20 @@ module _ (text : List ℕ) (before : Columns) (out : List ℕ) where
           }
 
       -- copied, the tables are what is submitted
-      book-copied : {holdings′ : List (List ℕ)} {price′ : List ℕ} → length (before .holdings) ≡ 5 → length holdings′ ≡ 5
-          → holdings′ ++ (price′ ∷ []) ≡ copied rows n book′ 0 (before .holdings ++ (before .price ∷ []))
-          → (holdings′ ≡ filledFrom 0 (map numbersOf (s .rows)) (before .holdings)) × (price′ ≡ column (s .prices) (before .price))
+      all-filled : {table′ lined′ : List (List ℕ)} → length table ≡ 7 → length lined ≡ 3 → table′ ≡ copied rows n book′ 0 table → lined′ ≡ copied rows m lines′ 0 lined
+          → byTables table′ lined′ ≡ filled s before
       unfolding submissionOf
-      book-copied {holdings′} five five′ c =
-          let values = valuesBy 0 (parsedIn text) in
-          let all = before .holdings ++ (before .price ∷ []) in
-          let entered = entered-copied (from-file .each-holding (was-read from-file e)) (holdings-held from-file e) 0 all (omega (arith, many (before .price) (before .holdings) five)) in
-          parted 5 holdings′ _ five′ (filled-length 0 (map numbersOf (map rowBy values)) (before .holdings) ∙ five)
-          (c ∙ entered ∙ values-filled values (before .holdings) (before .price) five)
+      all-filled seven three f g =
+          let held = entered-copied (from-file .each-holding (was-read from-file e)) (holdings-held from-file e) 0 table (omega (arith, seven)) in
+          let taken = entered-copied (from-file .each-line (was-read from-file e)) (lines-held from-file e) 0 lined (omega (arith, three)) in
+          (λ i. byTables ((f ∙ held) i) ((g ∙ taken) i)) ∙ sym (filled-values (valuesBy 0 (parsedIn text)) (valuesBy 1 (parsedIn text)) table lined seven three)
 
-      lines-copied : {news : List (List ℕ)} → length (before .lines) ≡ 3 → news ≡ copied rows m lines′ 0 (before .lines)
-          → news ≡ filledFrom 0 (map lineNumbers (s .lines)) (before .lines)
-      unfolding submissionOf
-      lines-copied three c =
-          let entered = entered-copied (from-file .each-line (was-read from-file e)) (lines-held from-file e) 0 (before .lines) (omega (arith, three)) in
-          c ∙ entered ∙ line-values-filled (valuesBy 1 (parsedIn text)) (before .lines) three
-
-      pub all-read : {two : Bool} {holdings′ news : List (List ℕ)} {price′ : List ℕ} (out′ : List ℕ) (r : ℕ) → two ≡ short → two ≡ false
-          → length (before .holdings) ≡ 5 → length holdings′ ≡ 5 → length (before .lines) ≡ 3
-          → holdings′ ++ (price′ ∷ []) ≡ copied rows n book′ 0 (before .holdings ++ (before .price ∷ []))
-          → news ≡ copied rows m lines′ 0 (before .lines)
-          → Answers (makeAnswer 0 n m) out out′ r → Reads text before (makeColumns holdings′ price′ news) out out′ r
+      pub all-read : {two : Bool} {table′ lined′ : List (List ℕ)} (out′ : List ℕ) (r : ℕ) → two ≡ short → two ≡ false
+          → length table ≡ 7 → length lined ≡ 3 → table′ ≡ copied rows n book′ 0 table → lined′ ≡ copied rows m lines′ 0 lined
+          → Answers (makeAnswer 0 n m) out out′ r → Reads text before (byTables table′ lined′) out out′ r
       unfolding readingAnswer filled
-      all-read out′ r same fits five five′ three book lined answered =
-          let (held-in, prices-in) = book-copied five five′ book in
-          let lined-in = lines-copied three lined in
+      all-read out′ r same fits seven three f g answered =
+          let after = all-filled seven three f g in
           let whole : readingAnswer text before out ≡ makeAnswer 0 n m =
           answer-none text short (no-fault from-file e) ∙ rw (sym same ∙ fits, holdings-counted from-file e, lines-counted from-file e) in
           let zero : filling text before out ≡ s = filling-by {t = true} (rw whole) in
@@ -181,11 +165,11 @@ module _ (text : List ℕ) (before : Columns) (out : List ℕ) where
           let as-many : length (s .prices) ≡ length (s .rows) = unfold submissionOf in simp length-map in
           record {
             returned = rw whole answered;
-            columns = rw zero (λ i. makeColumns (held-in i) (prices-in i) (lined-in i));
+            columns = rw zero after;
             untouched = λ h. absurd (h (answered .number));
-            holding = λ _ k h. rw held-in (rows-read (s .rows) (fit .rows) k h (before .holdings) five);
-            price = λ _ k h. rw prices-in (price-read (s .prices) (before .price) (fit .prices) k (omega (arith, as-many)));
-            line = λ _ k h. rw lined-in (lines-read (s .lines) (fit .lines) k h (before .lines) three);
+            holding = λ _ k h. rw after (rows-read (s .rows) (fit .rows) k h (before .holdings) (six table lined seven));
+            price = λ _ k h. rw after (price-read (s .prices) (before .price) (fit .prices) k (omega (arith, as-many)));
+            line = λ _ k h. rw after (lines-read (s .lines) (fit .lines) k h lined three);
             exactly = rw (answered .number ∙ sym (ap number whole)) read-when;
             only = read-exactly text .only;
           }

@@ -3,7 +3,7 @@ use mathlib.Core.Path.{_≡_, refl}
 use mathlib.Core.List.{List, [], _∷_}
 use Prim.Native.Nat.{ℕ}
 use borrow.Author.Needs.{needs}
-use Rattle.columns.specs.Columns.{Columns, makeColumns, holdingSizes, lineSizes}
+use Rattle.columns.specs.Columns.{holdingSizes, lineSizes}
 use Rattle.received.proofs.Received.{short, record-refused, measured, list-refused, book-room, lines-room, all-read}
 use Rattle.received.proofs.read_into.Statement.{statement}
 use Rattle.received.proofs.read_into.Tie as tie
@@ -11,7 +11,7 @@ use Rattle.received.proofs.read_into.Tie as tie
 -- from where the text was read back to what is lent
 module _ (c : tie.After-read) where
   abbrev start : tie.Start
-  start = c .before .before .before .before .before .before .before .before .before .before .before .before .before .before .before .before
+  start = c .before .before .before .before .before .before .before .before .before .before .before .before .before .before .before .before .before
 
   abbrev text : List ℕ
   text = start .args .text .now
@@ -19,18 +19,21 @@ module _ (c : tie.After-read) where
   abbrev answer : List ℕ
   answer = start .args .answer .now
 
-  abbrev lent : Columns
-  lent =
+  abbrev held : List (List ℕ)
+  held =
       let a = start .args in
-      makeColumns (a .side .now ∷ a .kind .now ∷ a .issuer .now ∷ a .days .now ∷ a .value .now ∷ []) (a .price .now) (a .long .now ∷ a .short .now ∷ a .amount .now ∷ [])
+      a .side .now ∷ a .kind .now ∷ a .issuer .now ∷ a .days .now ∷ a .value .now ∷ a .price .now ∷ a .currency .now ∷ []
+
+  abbrev taken : List (List ℕ)
+  taken = start .args .long .now ∷ start .args .short .now ∷ start .args .amount .now ∷ []
 
 -- from where the lists were measured back to there
 abbrev file : tie.After-columns-too-short → tie.After-read
 file c = c .before .before .before .before .before .before .before .before
 
-same : (c : tie.After-columns-too-short) → c .columns-too-short .result ≡ short (text (file c)) (lent (file c)) (answer (file c))
+same : (c : tie.After-columns-too-short) → c .columns-too-short .result ≡ short (text (file c)) (held (file c)) (taken (file c)) (answer (file c))
 unfolding holdingSizes lineSizes
-same c = measured (text (file c)) (lent (file c)) (answer (file c)) (file c .read .ensures) (c .before .before .contents2 .given .1) (c .columns-too-short .ensures)
+same c = measured (text (file c)) (held (file c)) (taken (file c)) (answer (file c)) (file c .read .ensures) (c .before .before .contents2 .given .1) (c .columns-too-short .ensures)
 
 -- from the answer to a list too short back to the lists, and from that to a record back to the text
 abbrev too-short : tie.After-slice-known16 → tie.Then1
@@ -64,26 +67,26 @@ returns : tie.Need-returns
 returns c =
     let asked = too-short c .before in
     let f = file asked in
-    list-refused (text f) (lent f) (answer f) (f .read .ensures) (asked .before .before .contents2 .given .1) (same asked) _ _ (too-short c .if1 .taken)
+    list-refused (text f) (held f) (taken f) (answer f) (f .read .ensures) (asked .before .before .contents2 .given .1) (same asked) _ _ (too-short c .if1 .taken)
     (c .before .before .put-answer2 .ensures)
 
 copy-book-requires : tie.Need-copy-book-requires
 copy-book-requires c κs =
     let asked = fitting c .before in
     let f = file asked in
-    book-room (text f) (lent f) (answer f) (f .read .ensures) (asked .before .before .contents2 .given .1) (same asked) (fitting c .if1 .left) (start f .pre) refl
+    book-room (text f) (held f) (taken f) (answer f) (f .read .ensures) (asked .before .before .contents2 .given .1) (same asked) (fitting c .if1 .left) (start f .pre) refl
 
 copy-lines-requires : tie.Need-copy-lines-requires
 copy-lines-requires c κs =
     let fits = fitting (booked c .before) in
     let asked = fits .before in
     let f = file asked in
-    lines-room (text f) (lent f) (answer f) (f .read .ensures) (asked .before .before .contents2 .given .1) (same asked) (fits .if1 .left) (start f .pre) refl
+    lines-room (text f) (held f) (taken f) (answer f) (f .read .ensures) (asked .before .before .contents2 .given .1) (same asked) (fits .if1 .left) (start f .pre) refl
 
 returns-2 : tie.Need-returns-2
 returns-2 c =
     let f = refused-file c in
-    record-refused (text f) (lent f) (answer f) (f .read .ensures) _ _ (refused c .contents .given .1) (c .before .before .put-answer .ensures)
+    record-refused (text f) (held f) (taken f) (answer f) (f .read .ensures) _ _ (refused c .contents .given .1) (c .before .before .put-answer .ensures)
 
 returns-3 : tie.Need-returns-3
 returns-3 c =
@@ -91,9 +94,9 @@ returns-3 c =
     let f = file asked in
     let b = book-copied c .copy-book .last .1 .1 .1 in
     let l = lined c .copy-lines .last .1 .1 .1 in
-    all-read (text f) (lent f) (answer f) (f .read .ensures) (asked .before .before .contents2 .given .1)
-    {holdings′ = b .0 ∷ b .1 .0 ∷ b .1 .1 .0 ∷ b .1 .1 .1 .0 ∷ b .1 .1 .1 .1 .0 ∷ []} {news = l .0 ∷ l .1 .0 ∷ l .1 .1 .0 ∷ []} {price′ = b .1 .1 .1 .1 .1 .0}
-    _ _ (same asked) (fits c .if1 .left) refl refl refl (book-copied c .copy-book .ensures) (lined c .copy-lines .ensures) (c .before .before .put-answer3 .ensures)
+    all-read (text f) (held f) (taken f) (answer f) (f .read .ensures) (asked .before .before .contents2 .given .1)
+    {table′ = b .0 ∷ b .1 .0 ∷ b .1 .1 .0 ∷ b .1 .1 .1 .0 ∷ b .1 .1 .1 .1 .0 ∷ b .1 .1 .1 .1 .1 .0 ∷ b .1 .1 .1 .1 .1 .1 .0 ∷ []} {lined′ = l .0 ∷ l .1 .0 ∷ l .1 .1 .0 ∷ []}
+    _ _ (same asked) (fits c .if1 .left) refl refl (book-copied c .copy-book .ensures) (lined c .copy-lines .ensures) (c .before .before .put-answer3 .ensures)
 
 pub read-into-spec : {M : Type 1} → statement M
 read-into-spec =
@@ -124,6 +127,7 @@ read-into-spec =
     (λ c. book-copied c .copy-book .kept .1 .1 .1 .1 .1 .1 .0)
     (λ c. book-copied c .copy-book .kept .1 .1 .1 .1 .1 .1 .1 .0)
     (λ c. book-copied c .copy-book .kept .1 .1 .1 .1 .1 .1 .1 .1 .0)
+    (λ c. book-copied c .copy-book .kept .1 .1 .1 .1 .1 .1 .1 .1 .1 .0)
     (λ c. lined c .copy-lines .kept .1 .1 .1 .0)
     (λ c. lined c .copy-lines .kept .1 .1 .1 .1 .0)
     (λ c. lined c .copy-lines .kept .1 .1 .1 .1 .1 .0)
