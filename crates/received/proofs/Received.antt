@@ -1,21 +1,21 @@
 -- From what was read of a text to what is promised of what is lent. Assumes nothing.
-use mathlib.Core.Path.{_≡_, refl, sym, ap, _∙_}
+use mathlib.Core.Path.{_≡_, refl, sym, ap, subst, _∙_}
 use mathlib.Core.Logic.{_↔_, _≢_}
 use mathlib.Core.Bool.{Bool, true, false, cond}
 use mathlib.Core.List.{List, [], _∷_, _++_, map}
 use Prim.Native.Nat.{ℕ, suc, _*_, _/_, _≤_}
 use native.Mathlib.Omega.{arith}
 use lib.Dec.{eqb}
-use lib.ListN.{length, take, drop, length-map, length-append, length-take, length-drop}
+use lib.ListN.{length, getD, take, drop, length-map, length-append, length-take, length-drop}
 use borrow.Author.Tests.{ne-eqb}
 use Rattle.lists.specs.Tables.{Each, listTo, front}
 use Rattle.lists.proofs.Tables.{to-back}
 use Rattle.lists.proofs.Entries.{each-so, each-parts, each-back}
 use Rattle.article.specs.Answer.{Answer, makeAnswer}
-use Rattle.proposal.specs.Submission.{Submission}
+use Rattle.proposal.specs.Submission.{Submission, noRow, noLine}
 use Rattle.proposal.proofs.Clear.{number}
-use Rattle.words.specs.Words.{encode}
-use Rattle.columns.specs.Columns.{Columns, makeColumns, holdingSizes, lineSizes, listsOf, column, filledFrom, filled, copied, CopyRoom}
+use Rattle.words.specs.Words.{wordAt, encode}
+use Rattle.columns.specs.Columns.{Columns, makeColumns, holdingSizes, lineSizes, listsOf, column, filledFrom, filled, copied, CopyRoom, RowAt, LineAt}
 use Rattle.columns.proofs.Tables.{entered-copied, byTables, filled-values}
 use Rattle.columns.proofs.ReadBack.{price-read, rows-read, lines-read}
 use Rattle.sizes.specs.Sizes.{Room, tooShort}
@@ -167,9 +167,9 @@ module _ (text : List ℕ) (table lined : List (List ℕ)) (out : List ℕ) wher
             returned = rw whole answered;
             columns = rw zero after;
             untouched = λ h. absurd (h (answered .number));
-            holding = λ _ k h. rw after (rows-read (s .rows) (fit .rows) k h (before .holdings) (six table lined seven));
-            price = λ _ k h. rw after (price-read (s .prices) (before .price) (fit .prices) k (omega (arith, as-many)));
-            line = λ _ k h. rw after (lines-read (s .lines) (fit .lines) k h lined three);
+            holding = λ _ k h. subst (λ (c : Columns). RowAt (c .holdings) k (getD (s .rows) k noRow)) (sym after) (rows-read (s .rows) (fit .rows) k h (before .holdings) (six table lined seven));
+            price = λ _ k h. ap (λ (c : Columns). wordAt (c .price) k) after ∙ price-read (s .prices) (before .price) (fit .prices) k (omega (arith, as-many));
+            line = λ _ k h. subst (λ (c : Columns). LineAt (c .lines) k (getD (s .lines) k noLine)) (sym after) (lines-read (s .lines) (fit .lines) k h lined three);
             exactly = rw (answered .number ∙ sym (ap number whole)) read-when;
             only = read-exactly text .only;
           }

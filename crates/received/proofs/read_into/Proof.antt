@@ -36,24 +36,24 @@ unfolding holdingSizes lineSizes
 same c = measured (text (file c)) (held (file c)) (taken (file c)) (answer (file c)) (file c .read .ensures) (c .before .before .contents2 .given .1) (c .columns-too-short .ensures)
 
 -- from the answer to a list too short back to the lists, and from that to a record back to the text
-abbrev too-short : tie.After-slice-known16 → tie.Then1
+abbrev too-short : tie.After-slice-known17 → tie.Then1
 too-short c = c .before .before .before .before
 
-abbrev refused : tie.After-slice-known15 → tie.After-contents
+abbrev refused : tie.After-slice-known16 → tie.After-contents
 refused c = c .before .before .before .before .before
 
-abbrev refused-file : tie.After-slice-known15 → tie.After-read
+abbrev refused-file : tie.After-slice-known16 → tie.After-read
 refused-file c = refused c .before .before .before .before .before .before
 
 -- from the tables copied back to the lists that have room
-abbrev fitting : tie.After-copy-book-arg7 → tie.Else1
-fitting c = c .before .before .before .before .before .before .before
+abbrev fitting : tie.After-copy-book-arg8 → tie.Else1
+fitting c = c .before .before .before .before .before .before .before .before
 
 abbrev booked : tie.After-copy-lines-arg4 → tie.After-copy-book
-booked c = c .before .before .before .before .before .before .before .before .before .before .before .before .before .before .before .before
+booked c = c .before .before .before .before .before .before .before .before .before .before .before .before .before .before .before .before .before .before
 
 -- from the answer to a text that was read back to the tables copied
-module _ (c : tie.After-slice-known26) where
+module _ (c : tie.After-slice-known28) where
   abbrev lined : tie.After-copy-lines
   lined = c .before .before .before .before .before .before .before .before .before .before
 
@@ -102,7 +102,7 @@ pub read-into-spec : {M : Type 1} → statement M
 read-into-spec =
     tie.close
     (tie.spec
-    (λ c κs. c .before .before .before .before .before .before .before .before .before .before .before .before .before .before .before .pre)
+    (λ c κs. c .before .before .before .before .before .before .before .before .before .before .before .before .before .before .before .before .pre)
     (λ c. search needs)
     (λ c κs. tt)
     (λ c. search needs)
