@@ -6,11 +6,11 @@ use Rattle.host.proofs.margin_read.Statement.{statement}
 use Rattle.host.proofs.margin_read.Tie as tie
 
 -- from the end of each way back to where the text was read
-abbrev read-small : tie.After-slice-known20 → tie.After-read-into
-read-small c = c .before .before .before .before .before .before .before .before .before .before .before .before .before .before .before .before .before .before .before .before .before .before
+abbrev read-small : tie.After-slice-known22 → tie.After-read-into
+read-small c = c .before .before .before .before .before .before .before .before .before .before .before .before .before .before .before .before .before .before .before .before .before .before .before .before
 
-abbrev read-large : tie.After-slice-known30 → tie.After-read-into2
-read-large c = c .before .before .before .before .before .before .before .before .before .before .before .before .before .before .before .before .before .before .before .before .before .before
+abbrev read-large : tie.After-slice-known33 → tie.After-read-into2
+read-large c = c .before .before .before .before .before .before .before .before .before .before .before .before .before .before .before .before .before .before .before .before .before .before .before .before
 
 -- up to 64 bytes are up to 64 records
 pub margin-read-spec : {M : Type 1} → statement M
@@ -20,7 +20,7 @@ margin-read-spec =
     (λ c. search needs)
     (λ c. search needs)
     (λ c κs.
-    record { whole-book = refl; whole-lines = refl; enough = λ _. c .before .before .before .before .before .before .before .before .before .before .before .before .if1 .taken })
+    record { whole-book = refl; whole-lines = refl; enough = λ _. c .before .before .before .before .before .before .before .before .before .before .before .before .before .if1 .taken })
     (λ c. read-small c .read-into .kept .1 .1 .1 .1 .0)
     (λ c. read-small c .read-into .kept .1 .1 .1 .1 .1 .0)
     (λ c. read-small c .read-into .kept .1 .1 .1 .1 .1 .1 .0)
@@ -31,6 +31,7 @@ margin-read-spec =
     (λ c. read-small c .read-into .kept .1 .1 .1 .1 .1 .1 .1 .1 .1 .1 .1 .0)
     (λ c. read-small c .read-into .kept .1 .1 .1 .1 .1 .1 .1 .1 .1 .1 .1 .1 .0)
     (λ c. read-small c .read-into .kept .1 .1 .1 .1 .1 .1 .1 .1 .1 .1 .1 .1 .1 .0)
+    (λ c. read-small c .read-into .kept .1 .1 .1 .1 .1 .1 .1 .1 .1 .1 .1 .1 .1 .1 .0)
     (λ c. read-small c .read-into .ensures)
     (λ c. search needs)
     (λ c. search needs)
@@ -45,4 +46,5 @@ margin-read-spec =
     (λ c. read-large c .read-into2 .kept .1 .1 .1 .1 .1 .1 .1 .1 .1 .1 .1 .0)
     (λ c. read-large c .read-into2 .kept .1 .1 .1 .1 .1 .1 .1 .1 .1 .1 .1 .1 .0)
     (λ c. read-large c .read-into2 .kept .1 .1 .1 .1 .1 .1 .1 .1 .1 .1 .1 .1 .1 .0)
+    (λ c. read-large c .read-into2 .kept .1 .1 .1 .1 .1 .1 .1 .1 .1 .1 .1 .1 .1 .1 .0)
     (λ c. read-large c .read-into2 .ensures))
