@@ -76,6 +76,8 @@ single =
     ∷ pair "the file's first pair" (row L C CA 2000 1000000) (row S B CA 2000 600000) 1460 5840
     ∷ pair "the file's second pair" (row L C CA 2000 1000000) (row S R ON 2000 300000) 6570 6570
     ∷ pair "the highest saving rate" (row L R ON 36500 100) (row S R QC 7300 100) 0 43800
+    -- the first and the last province
+    ∷ pair "AB coupon with SK residual" (row L C 1 2000 100) (row S R 10 2000 100) 0 17520
     -- the legs the wrong way round; a row with a fault is in no pair
     ∷ no-pair "the legs the wrong way round" (row S C ON 2000 1000) (row L C ON 2000 1000) 13
     ∷ no-pair "a pair with a row at fault" (row L C ON 2000 1000) (row S C 13 2000 1000) 6
