@@ -1,17 +1,19 @@
 -- Columns that are checked are printed as their outcome, and those of tables that a file was read into hold what it submits. Assumes nothing.
 use mathlib.Core.Path.{_≡_, refl, sym, _∙_}
-use mathlib.Core.Bool.{false}
+use mathlib.Core.Bool.{true, false}
 use mathlib.Core.List.{List, [], _∷_, map}
-use Prim.Native.Nat.{ℕ, _*_, _/_, _≤_, _<_}
+use Prim.Native.Nat.{ℕ, _*_, _/_, _≤_}
 use native.Mathlib.Omega.{arith}
-use lib.ListN.{length}
-use Rattle.lists.specs.Tables.{Each}
-use Rattle.lists.proofs.Entries.{each-map}
-use Rattle.holding.specs.Holding.{rowBy}
-use Rattle.proposal.specs.Submission.{Submission, lineBy}
-use Rattle.columns.specs.Columns.{Columns, makeColumns, columnAt, submission, holdingSizes, lineSizes, column, filledFrom, columnIn, Entered}
+use lib.Dec.{ltb}
+use lib.ListN.{length, replicate}
+use borrow.Author.Tests.{ltb-true}
+use Rattle.lists.specs.Tables.{listTo}
+use Rattle.lists.proofs.Entries.{every, each-by, each-map}
+use Rattle.lists.proofs.Tables.{to-eq}
+use Rattle.proposal.specs.Submission.{Submission, lineBy, pricedRow, rowPrice}
+use Rattle.columns.specs.Columns.{Columns, columnAt, submission, holdingSizes, lineSizes, column, filledFrom, filled, columnIn, Entered}
 use Rattle.columns.proofs.Columns.{column-entries}
-use Rattle.columns.proofs.Tables.{column-long, entered-column, filled-values, pricesOf}
+use Rattle.columns.proofs.Tables.{column-long, entered-column, byTables, filled-values}
 use Rattle.columns.proofs.ReadBack.{SubmissionFits, nth, bare, bare-column, submission-filled}
 use Rattle.sizes.specs.Sizes.{entriesOf, Equal}
 use Rattle.sizes.proofs.Sizes.{differ-exactly}
@@ -29,51 +31,38 @@ columns-printed c before after judges (p, few) =
     let same = report-judged c before after _ _ judges (sym (column-entries c .holdings)) in
     record { prints = rw (← same) p; room = rw (← same) few }
 
--- columns of n entries each are even
-abbrev Full : ℕ → List ℕ → Type 0
-Full n column = length column ≡ 8 * n
+-- the columns of one table are equally long
+equal : (n count : ℕ) (table : List ℕ) → n ≤ 512 → length table ≡ 8 * (512 * count) → (j : ℕ) (js : List ℕ) → every (λ k. ltb k count) (j ∷ js) ≡ true
+    → Equal (map (λ k. length (columnIn 512 n table k)) (j ∷ js))
+unfolding entriesOf
+equal n count table few whole j js within =
+    let long : ℕ → ℕ = λ k. length (columnIn 512 n table k) in
+    let full = each-by (λ k. long k ≡ 8 * n) (λ k. ltb k count) (λ k e. column-long 512 n k table (omega (arith, ltb-true k count e))) (j ∷ js) within in
+    let entries : long j / 8 ≡ n = omega (arith, full .0) in
+    rw entries (each-map (λ size. size ≡ 8 * n) long (j ∷ js) full)
 
-equal : (n : ℕ) (c : List ℕ) (cs : List (List ℕ)) → Each (Full n) (c ∷ cs) → Equal (map length (c ∷ cs))
-equal n c cs h =
-    let first : entriesOf (map length (c ∷ cs)) ≡ n = unfold entriesOf in omega (arith, h .0) in
-    rw first (each-map (λ size. size ≡ 8 * n) length (c ∷ cs) h)
+-- where numbers were entered, the columns of a table are what columns that held nothing are filled to
+bare-columns : {count n : ℕ} {numbers : List (List ℕ)} {old now : List ℕ} → Entered count 512 numbers old now → length numbers ≡ n
+    → listTo count (columnIn 512 n now) ≡ listTo count (λ j. column (map (nth j) numbers) [])
+bare-columns {numbers = numbers} e many = to-eq _ _ _ (λ j l. entered-column e many j l ∙ sym (bare-column (map (nth j) numbers)))
 
 -- the columns of two tables
 module _ (n m : ℕ) (book lines : List ℕ) where
-  abbrev held : ℕ → List ℕ
-  held j = columnIn 512 n book j
-
-  abbrev lined : ℕ → List ℕ
-  lined j = columnIn 512 m lines j
-
-  pub same-columns : {side kind issuer days value price long short amount : List ℕ} → side ≡ held 0 → kind ≡ held 1 → issuer ≡ held 2 → days ≡ held 3 → value ≡ held 4
-      → price ≡ held 5 → long ≡ lined 0 → short ≡ lined 1 → amount ≡ lined 2
-      → makeColumns (side ∷ kind ∷ issuer ∷ days ∷ value ∷ []) price (long ∷ short ∷ amount ∷ []) ≡ columnsOf n m book lines
-  same-columns a b c d e f g h i = rw (a, b, c, d, e, f, g, h, i)
-
   pub tables-even : TablesHold n m book lines → columnsDiffer (columnsOf n m book lines) ≡ false
   unfolding holdingSizes lineSizes
   tables-even h =
-      let full : (j : ℕ) → j < 6 → Full n (held j) = λ j l. column-long 512 n j book (omega (arith, h .few-holdings, h .whole-book)) in
-      let whole : (j : ℕ) → j < 3 → Full m (lined j) = λ j l. column-long 512 m j lines (omega (arith, h .few-lines, h .whole-lines)) in
-      differ-exactly _ _ .1 (
-        equal n (held 0) (held 1 ∷ held 2 ∷ held 3 ∷ held 4 ∷ held 5 ∷ [])
-            (full 0 (omega arith), (full 1 (omega arith), (full 2 (omega arith), (full 3 (omega arith), (full 4 (omega arith), (full 5 (omega arith), tt)))))),
-        equal m (lined 0) (lined 1 ∷ lined 2 ∷ []) (whole 0 (omega arith), (whole 1 (omega arith), (whole 2 (omega arith), tt))),
-      )
+      differ-exactly _ _ .1
+      (equal n 7 book (h .few-holdings) (h .whole-book) 0 (1 ∷ 2 ∷ 3 ∷ 4 ∷ 6 ∷ 5 ∷ []) refl, equal m 3 lines (h .few-lines) (h .whole-lines) 0 (1 ∷ 2 ∷ []) refl)
 
   -- where values were entered they hold what these submit
   module _ (hs ls : List (List ℕ)) where
     abbrev submitted : Submission
-    submitted = record { rows = map rowBy hs; prices = pricesOf hs; lines = map lineBy ls }
+    submitted = record { rows = map pricedRow hs; prices = map rowPrice hs; lines = map lineBy ls }
 
-    pub tables-submitted : {old oldLines : List ℕ} → Entered 6 512 hs old book → Entered 3 512 ls oldLines lines → length hs ≡ n → length ls ≡ m
+    pub tables-submitted : {old oldLines : List ℕ} → Entered 7 512 hs old book → Entered 3 512 ls oldLines lines → length hs ≡ n → length ls ≡ m
         → SubmissionFits submitted → submission (columnsOf n m book lines) ≡ submitted
-    unfolding filledFrom
+    unfolding listTo filledFrom
     tables-submitted e f p q fit =
-        let in-book : (j : ℕ) → j < 6 → held j ≡ column (map (nth j) hs) [] = λ j l. entered-column e p j l ∙ sym (bare-column (map (nth j) hs)) in
-        let in-lines : (j : ℕ) → j < 3 → lined j ≡ column (map (nth j) ls) [] = λ j l. entered-column f q j l ∙ sym (bare-column (map (nth j) ls)) in
-        let filling : columnsOf n m book lines ≡ makeColumns (filledFrom 0 hs (bare .holdings)) (column (pricesOf hs) []) (filledFrom 0 ls (bare .lines)) =
-        λ i. makeColumns (in-book 0 (omega arith) i ∷ in-book 1 (omega arith) i ∷ in-book 2 (omega arith) i ∷ in-book 3 (omega arith) i ∷ in-book 4 (omega arith) i ∷ [])
-        (in-book 5 (omega arith) i) (in-lines 0 (omega arith) i ∷ in-lines 1 (omega arith) i ∷ in-lines 2 (omega arith) i ∷ []) in
-        rw (filling ∙ sym (filled-values hs ls bare refl refl)) (submission-filled submitted fit)
+        let filling : columnsOf n m book lines ≡ filled submitted bare =
+        (λ i. byTables (bare-columns e p i) (bare-columns f q i)) ∙ sym (filled-values hs ls (replicate 7 []) (replicate 3 []) refl refl) in
+        rw filling (submission-filled submitted fit)

@@ -1,13 +1,13 @@
 -- `print_tables` prints the columns of the first entries of two tables. Assumes nothing.
 use borrow.Author.Needs.{needs}
-use Rattle.printing.proofs.Columns.{same-columns}
 use Rattle.printing.proofs.print_tables.Statement.{statement}
 use Rattle.printing.proofs.print_tables.Tie as tie
 
 returns : tie.Need-returns
 returns c =
     let printed = c .before .before in
-    let c9 = printed .before .before in
+    let c10 = printed .before .before in
+    let c9 = c10 .before in
     let c8 = c9 .before in
     let c7 = c8 .before in
     let c6 = c7 .before in
@@ -16,9 +16,18 @@ returns c =
     let c3 = c4 .before in
     let c2 = c3 .before in
     let c1 = c2 .before in
-    let a = c1 .before .before .before .before .args in
-    rw (same-columns (a .n) (a .m) (a .book .now) (a .lines .now) (c1 .column .ensures) (c2 .column2 .ensures) (c3 .column3 .ensures) (c4 .column4 .ensures) (c5 .column5 .ensures)
-    (c6 .column6 .ensures) (c7 .column7 .ensures) (c8 .column8 .ensures) (c9 .column9 .ensures)) at (printed .print-columns .ensures)
+    rw (
+      c1 .column .ensures,
+      c2 .column2 .ensures,
+      c3 .column3 .ensures,
+      c4 .column4 .ensures,
+      c5 .column5 .ensures,
+      c6 .column6 .ensures,
+      c7 .column7 .ensures,
+      c8 .column8 .ensures,
+      c9 .column9 .ensures,
+      c10 .column10 .ensures,
+    ) at (printed .print-columns .ensures)
 
 pub print-tables-spec : {M : Type 1} → statement M
 print-tables-spec =
@@ -33,6 +42,7 @@ print-tables-spec =
     (λ c κs. search needs)
     (λ c κs. search needs)
     (λ c κs. search needs)
+    (λ c κs. let start = c .before .before .before .before .before .before .before .before .before .before .before .before in search needs)
     (λ c κs. search needs)
     (λ c. search needs)
     returns)
