@@ -24,8 +24,8 @@ pub struct Accepted {
 
 /// Checks a proposal on a book.
 ///
-/// The call needs about 11 KB of stack, whatever the size of the book: 10,968 bytes of a stack that was
-/// filled before were written, by a book of 1, of 16, of 17 and of 256 holdings. The tests call it on a
+/// The call needs about 11 KB of stack, whatever the size of the book: at most 11,200 bytes of a stack that
+/// was filled before were written, by a book of 1, of 16, of 17 and of 256 holdings. The tests call it on a
 /// thread of 24 KiB.
 ///
 /// # Errors

@@ -125,8 +125,8 @@ pub fn margin_check(
 /// one for each line; what comes after is kept, and a refusal keeps all ten. An answer slice of 16 bytes or
 /// more gets the number of holdings and the number of lines, or the place and 0; a shorter one is kept.
 ///
-/// The call needs less than 44 KB of stack, whatever the size of the file: when tried with one holding and
-/// with 256 holdings and 512 lines, threads of 44,000 bytes were enough, and 42,000 were not for the latter.
+/// The call needs less than 48 KB of stack, whatever the size of the file: when tried with one holding and
+/// with 256 holdings and 512 lines, threads of 48,000 bytes were enough, and 46,000 were not.
 ///
 /// ```
 /// use margin_host::{Columns, raw};

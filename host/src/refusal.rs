@@ -7,8 +7,8 @@ use std::fmt;
 #[derive(Clone, Copy, Debug, PartialEq, Eq, Hash)]
 #[non_exhaustive]
 pub enum Refusal {
-    /// 1: the holding columns, price and currency among them, or the line columns differ in length or hold no whole
-    /// numbers.
+    /// 1: the holding columns, price and currency among them, or the line columns differ in length or hold no
+    /// whole numbers.
     ColumnsDiffer,
     /// 2: a list to be written is shorter than what must be written.
     ListTooShort,
@@ -24,7 +24,7 @@ pub enum Refusal {
         /// The holding at fault.
         holding: u64,
     },
-    /// 6: an issuer that is neither Canada nor a province, the United States or the United Kingdom.
+    /// 6: an issuer that is none of Canada, the provinces, the United States and the United Kingdom.
     IssuerUnknown {
         /// The holding at fault.
         holding: u64,
@@ -274,8 +274,8 @@ impl Refusal {
     fn fault(&self) -> &'static str {
         match self {
             Refusal::ColumnsDiffer => {
-                "the columns of the holdings, those of prices and currencies among them, must all have \
-                 the same length in whole numbers, and so must the columns of the lines"
+                "the columns of the holdings, price and currency among them, must all have the same \
+                 length in whole numbers, and so must the columns of the lines"
             }
             Refusal::ListTooShort => {
                 "a list lent for the results is too short: remainder, ranking and the columns of \

@@ -191,8 +191,8 @@ fn parts_and_back() {
 const SENTENCES: [((u64, u64, u64), &str); 23] = [
     (
         (1, 0, 0),
-        "the columns of the holdings, those of prices and currencies among them, must all \
-         have the same length in whole numbers, and so must the columns of the lines",
+        "the columns of the holdings, price and currency among them, must all have the same \
+         length in whole numbers, and so must the columns of the lines",
     ),
     (
         (2, 0, 0),
