@@ -1,6 +1,6 @@
 //! A book and a proposal on it.
 
-use crate::{Issuer, Kind, Side};
+use crate::{Currency, Issuer, Kind, Side};
 
 /// One holding. Its ranges are the check's to judge.
 #[derive(Clone, Copy, Debug, PartialEq, Eq, Hash)]
@@ -9,18 +9,20 @@ pub struct Holding {
     pub side: Side,
     /// Bond, stripped coupon or residual.
     pub kind: Kind,
-    /// Canada or a province.
+    /// Canada, a province, the United States or the United Kingdom.
     pub issuer: Issuer,
     /// Days to maturity, for a coupon to its payment date: 1 to 36,500.
     pub days: u64,
-    /// Market value in cents, 1 to 100,000,000,000.
+    /// Market value in Canadian cents, 1 to 100,000,000,000.
     pub value: u64,
+    /// What it is denominated in.
+    pub currency: Currency,
 }
 
 /// A book: up to 256 holdings, numbered from 0. Two may be alike in everything.
 ///
 /// ```
-/// use margin_host::{Book, Holding, Issuer, Kind, Side};
+/// use margin_host::{Book, Currency, Holding, Issuer, Kind, Side};
 ///
 /// let records = [("ON", 1_000), ("QC", 2_000)];
 /// let book: Result<Book, _> = records
@@ -32,6 +34,7 @@ pub struct Holding {
 ///             issuer: issuer.parse()?,
 ///             days: 400,
 ///             value,
+///             currency: Currency::Cad,
 ///         })
 ///     })
 ///     .collect();
@@ -47,7 +50,7 @@ impl Book {
     /// A book of these holdings.
     ///
     /// ```
-    /// use margin_host::{Book, Holding, Issuer, Kind, Side};
+    /// use margin_host::{Book, Currency, Holding, Issuer, Kind, Side};
     ///
     /// let bond = Holding {
     ///     side: Side::Long,
@@ -55,6 +58,7 @@ impl Book {
     ///     issuer: Issuer::Canada,
     ///     days: 365,
     ///     value: 1_000,
+    ///     currency: Currency::Cad,
     /// };
     /// let coupon = Holding { kind: Kind::Coupon, ..bond };
     /// assert_eq!(Book::new([bond, coupon]).holdings, vec![bond, coupon]);

@@ -1,4 +1,4 @@
-//! Side, kind and issuer: each value has a text in the file and a number in a column.
+//! Side, kind, issuer and currency: each value has a text in the file and a number in a column.
 
 use std::error::Error;
 use std::fmt;
@@ -119,7 +119,8 @@ coded! {
 }
 
 coded! {
-    /// Who owes the debt: Canada or a province, in the file by its ISO 3166-2:CA code.
+    /// Who owes the debt: Canada, a province, the United States or the United Kingdom, in the file by its
+    /// ISO 3166-1 or ISO 3166-2:CA code.
     Issuer, "issuer", such as Ontario 7 "ON":
     /// 0, `CA` in the file.
     Canada "CA",
@@ -143,9 +144,25 @@ coded! {
     Quebec "QC",
     /// 10, `SK` in the file.
     Saskatchewan "SK",
+    /// 11, `US` in the file.
+    UnitedStates "US",
+    /// 12, `GB` in the file.
+    UnitedKingdom "GB",
 }
 
-/// A text that no side, no kind or no issuer has.
+coded! {
+    /// What the debt is denominated in, in the file by its ISO 4217 code. Market values are in Canadian
+    /// cents whatever the currency.
+    Currency, "currency", such as Usd 1 "USD":
+    /// Canadian dollars: 0, `CAD` in the file.
+    Cad "CAD",
+    /// US dollars: 1, `USD` in the file.
+    Usd "USD",
+    /// Pounds sterling: 2, `GBP` in the file.
+    Gbp "GBP",
+}
+
+/// A text that no side, no kind, no issuer or no currency has.
 ///
 /// ```
 /// use margin_host::Side;

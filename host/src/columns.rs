@@ -1,6 +1,6 @@
 //! A book and a proposal as columns.
 
-use crate::{Book, Holding, Issuer, Kind, Line, Proposal, Side};
+use crate::{Book, Currency, Holding, Issuer, Kind, Line, Proposal, Side};
 
 /// Defines the columns by their names, in the order in which they are lent.
 macro_rules! columns {
@@ -8,7 +8,7 @@ macro_rules! columns {
         holdings { $($(#[$of_a_holding:meta])* $holding:ident,)+ }
         lines { $($(#[$of_a_line:meta])* $line:ident,)+ }
     ) => {
-        /// The columns of a book and of a proposal on it: entry `i` of `side` to `price` belongs to
+        /// The columns of a book and of a proposal on it: entry `i` of `side` to `currency` belongs to
         /// holding `i`, and entry `i` of `long` to `amount` to line `i`.
         ///
         /// What a column is, is left open: `Columns<&[u64]>` and `Columns<Vec<u64>>` have numbers,
@@ -24,6 +24,7 @@ macro_rules! columns {
         ///     days: &[2_000, 2_000, 2_000],
         ///     value: &[1_000_000, 600_000, 300_000],
         ///     price: &[0, 5_840, 6_570],
+        ///     currency: &[0, 0, 0],
         ///     long: &[0, 0],
         ///     short: &[1, 2],
         ///     amount: &[600_000, 300_000],
@@ -45,7 +46,7 @@ macro_rules! columns {
             /// use margin_host::Columns;
             ///
             /// let counts = Columns::by_group(256, 512);
-            /// assert_eq!((counts.side, counts.price, counts.long), (256, 256, 512));
+            /// assert_eq!((counts.side, counts.currency, counts.long), (256, 256, 512));
             /// ```
             #[must_use]
             pub fn by_group(holdings: C, lines: C) -> Columns<C>
@@ -135,14 +136,17 @@ columns! {
         side,
         /// 0 bond or debenture, 1 stripped coupon, 2 residual: [`Kind::number`].
         kind,
-        /// 0 Canada, 1 to 10 a province: [`Issuer::number`].
+        /// 0 Canada, 1 to 10 a province, 11 the United States, 12 the United Kingdom:
+        /// [`Issuer::number`].
         issuer,
         /// Days to maturity, 1 to 36,500.
         days,
-        /// Market value in cents, 1 to 100,000,000,000.
+        /// Market value in Canadian cents, 1 to 100,000,000,000.
         value,
         /// The proposal's price of each holding, 0 to 43,800.
         price,
+        /// 0 CAD, 1 USD, 2 GBP: [`Currency::number`].
+        currency,
     }
     lines {
         /// The long of each line.
@@ -158,7 +162,7 @@ impl Columns<Vec<u64>> {
     /// The columns of a book and a proposal.
     ///
     /// ```
-    /// use margin_host::{Book, Columns, Holding, Issuer, Kind, Proposal, Side};
+    /// use margin_host::{Book, Columns, Currency, Holding, Issuer, Kind, Proposal, Side};
     ///
     /// let holding = Holding {
     ///     side: Side::Short,
@@ -166,6 +170,7 @@ impl Columns<Vec<u64>> {
     ///     issuer: Issuer::Ontario,
     ///     days: 2_000,
     ///     value: 300_000,
+    ///     currency: Currency::Cad,
     /// };
     /// let columns = Columns::of(&Book::new([holding]), &Proposal::new([6_570], []));
     /// assert_eq!((columns.side, columns.kind, columns.issuer), (vec![1], vec![2], vec![7]));
@@ -181,14 +186,15 @@ impl Columns<Vec<u64>> {
             days: holdings(|holding| holding.days),
             value: holdings(|holding| holding.value),
             price: proposal.prices.clone(),
+            currency: holdings(|holding| holding.currency.number()),
             long: lines(|line| line.long),
             short: lines(|line| line.short),
             amount: lines(|line| line.amount),
         }
     }
 
-    /// The book and the proposal of columns as long as they must be, if every side, kind and issuer is
-    /// known.
+    /// The book and the proposal of columns as long as they must be, if every side, kind, issuer and
+    /// currency is known.
     pub(crate) fn book_and_proposal(self) -> Option<(Book, Proposal)> {
         let holding = |at: usize| {
             Some(Holding {
@@ -197,6 +203,7 @@ impl Columns<Vec<u64>> {
                 issuer: Issuer::from_number(self.issuer[at])?,
                 days: self.days[at],
                 value: self.value[at],
+                currency: Currency::from_number(self.currency[at])?,
             })
         };
         let line = |at: usize| Line {

@@ -1,15 +1,18 @@
 //! The desk's side of the margin check on paired strip bond holdings (article 7204, Groups I, II and XI).
+//! In Canadian dollars it pairs debt of Canada and its provinces; in US dollars or sterling a bond of Canada,
+//! the United States or the United Kingdom with a strip of the same government.
 //!
 //! A desk makes a [`Book`] of [`Holding`]s and a [`Proposal`] on it, or reads both from a file with
 //! [`read()`]; [`check()`] gives the least margin, or the [`Refusal`]. Both are done by code that was
 //! proved: this package lends it the memory and names its answers. Callers that keep [`Columns`] of
 //! numbers use [`check_columns`], and [`raw`] has both calls on bytes.
 //!
-//! The file that document 01, the customer's scope, prints:
+//! The file that document 01, the customer's scope, prints, in Canadian dollars:
 //!
 //! ```
 //! use margin_host::{
-//!     Book, Figures, Holding, Issuer, Kind, Line, Proposal, Refusal, Side, check, check_file,
+//!     Book, Currency, Figures, Holding, Issuer, Kind, Line, Proposal, Refusal, Side, check,
+//!     check_file,
 //! };
 //!
 //! let coupon = Holding {
@@ -18,6 +21,7 @@
 //!     issuer: Issuer::Canada,
 //!     days: 2_000,
 //!     value: 1_000_000,
+//!     currency: Currency::Cad,
 //! };
 //! let bond = Holding { side: Side::Short, kind: Kind::Bond, value: 600_000, ..coupon };
 //! let residual = Holding {
@@ -38,11 +42,11 @@
 //! assert_eq!(accepted.remainder, vec![100_000, 0, 0]);
 //! assert_eq!(accepted.ranking, vec![0, 1, 2]);
 //!
-//! let text = "H,L,C,CA,2000,1000000,0\r\n\
-//!             H,S,B,CA,2000,600000,5840\r\n\
-//!             H,S,R,ON,2000,300000,6570\r\n\
-//!             P,0,1,600000,,,\r\n\
-//!             P,0,2,300000,,,\r\n";
+//! let text = "H,L,C,CA,2000,1000000,0,CAD\r\n\
+//!             H,S,B,CA,2000,600000,5840,CAD\r\n\
+//!             H,S,R,ON,2000,300000,6570,CAD\r\n\
+//!             P,0,1,600000,,,,\r\n\
+//!             P,0,2,300000,,,,\r\n";
 //! assert_eq!(check_file(text.as_bytes())?, accepted);
 //!
 //! proposal.prices[2] = 6_569;
@@ -62,7 +66,7 @@ mod refusal;
 
 pub use book::{Book, Holding, Line, Proposal};
 pub use check::{Accepted, Figures, check, check_columns};
-pub use codes::{Issuer, Kind, Side, UnknownCode};
+pub use codes::{Currency, Issuer, Kind, Side, UnknownCode};
 pub use columns::Columns;
 pub use read::{check_file, read};
 pub use refusal::Refusal;

@@ -3,7 +3,7 @@
 use crate::Columns;
 
 unsafe extern "C" {
-    // Eleven slices, each a pointer and then its length in bytes.
+    // Twelve slices, each a pointer and then its length in bytes.
     #[link_name = "margin_read"]
     fn exported_read(
         text: *const u8,
@@ -20,6 +20,8 @@ unsafe extern "C" {
         value_length: usize,
         price: *mut u8,
         price_length: usize,
+        currency: *mut u8,
+        currency_length: usize,
         long: *mut u8,
         long_length: usize,
         short: *mut u8,
@@ -30,7 +32,7 @@ unsafe extern "C" {
         answer_length: usize,
     ) -> u64;
 
-    // Twelve slices, each a pointer and then its length in bytes.
+    // Thirteen slices, each a pointer and then its length in bytes.
     #[link_name = "margin_check"]
     fn exported_check(
         side: *const u8,
@@ -45,6 +47,8 @@ unsafe extern "C" {
         value_length: usize,
         price: *const u8,
         price_length: usize,
+        currency: *const u8,
+        currency_length: usize,
         long: *const u8,
         long_length: usize,
         short: *const u8,
@@ -103,6 +107,7 @@ pub fn margin_check(
             c.days.as_ptr(), c.days.len(),
             c.value.as_ptr(), c.value.len(),
             c.price.as_ptr(), c.price.len(),
+            c.currency.as_ptr(), c.currency.len(),
             c.long.as_ptr(), c.long.len(),
             c.short.as_ptr(), c.short.len(),
             c.amount.as_ptr(), c.amount.len(),
@@ -116,12 +121,12 @@ pub fn margin_check(
 
 /// Calls the reader and returns the refusal number, 0 for a file that was read.
 ///
-/// A file that is read goes to the front of the lists, six with an entry for each holding and three with
-/// one for each line; what comes after is kept, and a refusal keeps all nine. An answer slice of 16 bytes or
+/// A file that is read goes to the front of the lists, seven with an entry for each holding and three with
+/// one for each line; what comes after is kept, and a refusal keeps all ten. An answer slice of 16 bytes or
 /// more gets the number of holdings and the number of lines, or the place and 0; a shorter one is kept.
 ///
-/// The call needs less than 44 KB of stack, whatever the size of the file: when tried with one holding and
-/// with 256 holdings and 512 lines, threads of 44,000 bytes were enough, and 42,000 were not for the latter.
+/// The call needs less than 48 KB of stack, whatever the size of the file: when tried with one holding and
+/// with 256 holdings and 512 lines, threads of 48,000 bytes were enough, and 46,000 were not.
 ///
 /// ```
 /// use margin_host::{Columns, raw};
@@ -129,9 +134,10 @@ pub fn margin_check(
 /// let mut room = Columns::by_group(vec![0; 8], vec![0; 8]);
 /// let mut columns = room.each_mut().map(Vec::as_mut_slice);
 /// let mut answer = [0; 16];
-/// let text = b"H,S,B,CA,2000,600000,5840\r\n";
+/// let text = b"H,S,B,US,2000,600000,5840,USD\r\n";
 /// assert_eq!(raw::margin_read(text, &mut columns, &mut answer), 0);
 /// assert_eq!(columns.value, 600_000_u64.to_le_bytes());
+/// assert_eq!(columns.currency, 1_u64.to_le_bytes());
 /// assert_eq!(answer.as_chunks().0, [1_u64.to_le_bytes(), [0; 8]]);
 ///
 /// assert_eq!(raw::margin_read(b"\r\n", &mut columns, &mut answer), 20);
@@ -140,7 +146,7 @@ pub fn margin_check(
 pub fn margin_read(text: &[u8], columns: &mut Columns<&mut [u8]>, answer: &mut [u8]) -> u64 {
     let c = columns;
     // SAFETY: each pointer comes from a slice that is borrowed for the whole call, beside that slice's
-    // own length. The ten lists are borrowed alone, so nothing else refers to them meanwhile. The reader
+    // own length. The eleven lists are borrowed alone, so nothing else refers to them meanwhile. The reader
     // presumes nothing of the bytes and keeps no pointer.
     #[rustfmt::skip]
     let number = unsafe {
@@ -152,6 +158,7 @@ pub fn margin_read(text: &[u8], columns: &mut Columns<&mut [u8]>, answer: &mut [
             c.days.as_mut_ptr(), c.days.len(),
             c.value.as_mut_ptr(), c.value.len(),
             c.price.as_mut_ptr(), c.price.len(),
+            c.currency.as_mut_ptr(), c.currency.len(),
             c.long.as_mut_ptr(), c.long.len(),
             c.short.as_mut_ptr(), c.short.len(),
             c.amount.as_mut_ptr(), c.amount.len(),

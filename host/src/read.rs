@@ -22,7 +22,7 @@ const MOST_LINES: usize = 512;
 /// ```
 /// use margin_host::{Issuer, Line, Refusal, read};
 ///
-/// let text = "H,L,C,ON,2000,1000,0\r\nH,S,R,QC,2000,400,17520\r\nP,0,1,400,,,\r\n";
+/// let text = "H,L,C,ON,2000,1000,0,CAD\r\nH,S,R,QC,2000,400,17520,CAD\r\nP,0,1,400,,,,\r\n";
 /// let (book, proposal) = read(text.as_bytes())?;
 /// assert_eq!(book.holdings[1].issuer, Issuer::Quebec);
 /// assert_eq!(proposal.prices, vec![0, 17_520]);
@@ -44,9 +44,9 @@ pub fn read(text: &[u8]) -> Result<(Book, Proposal), Refusal> {
             list.truncate(count as usize);
         }
         let known = columns.book_and_proposal();
-        return Ok(
-            known.expect("the reader's contract is proved: it knows each side, kind and issuer")
-        );
+        return Ok(known.expect(
+            "the reader's contract is proved: it knows each side, kind, issuer and currency",
+        ));
     }
     match Refusal::from_parts(number, first, second) {
         Some(refusal) if matches!(number, 3 | 9 | 18..=22) => Err(refusal),
@@ -72,7 +72,7 @@ pub fn read(text: &[u8]) -> Result<(Book, Proposal), Refusal> {
 /// ```
 /// use margin_host::{Refusal, check_file};
 ///
-/// let text = "H,L,C,ON,2000,1000,0\r\nH,S,R,QC,2000,400,17520\r\nP,0,1,400,,,\r\n";
+/// let text = "H,L,C,ON,2000,1000,0,CAD\r\nH,S,R,QC,2000,400,17520,CAD\r\nP,0,1,400,,,,\r\n";
 /// assert_eq!(check_file(text.as_bytes())?.figures.cents, 36);
 ///
 /// let refused = check_file(text.replace("17520", "17519").as_bytes());

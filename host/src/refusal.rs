@@ -7,8 +7,8 @@ use std::fmt;
 #[derive(Clone, Copy, Debug, PartialEq, Eq, Hash)]
 #[non_exhaustive]
 pub enum Refusal {
-    /// 1: the holding columns, price among them, or the line columns differ in length or hold no whole
-    /// numbers.
+    /// 1: the holding columns, price and currency among them, or the line columns differ in length or hold no
+    /// whole numbers.
     ColumnsDiffer,
     /// 2: a list to be written is shorter than what must be written.
     ListTooShort,
@@ -24,7 +24,7 @@ pub enum Refusal {
         /// The holding at fault.
         holding: u64,
     },
-    /// 6: an issuer that is neither Canada nor a province.
+    /// 6: an issuer that is none of Canada, the provinces, the United States and the United Kingdom.
     IssuerUnknown {
         /// The holding at fault.
         holding: u64,
@@ -87,8 +87,8 @@ pub enum Refusal {
         /// The record at fault.
         record: u64,
     },
-    /// 20: a record that has not seven fields.
-    NotSevenFields {
+    /// 20: a record that has not eight fields.
+    WrongNumberOfFields {
         /// The record at fault.
         record: u64,
     },
@@ -103,10 +103,15 @@ pub enum Refusal {
         /// The record at fault.
         record: u64,
     },
+    /// 23: a currency that is neither CAD nor USD nor GBP.
+    CurrencyUnknown {
+        /// The holding at fault.
+        holding: u64,
+    },
 }
 
 impl Refusal {
-    /// The number, 1 to 22.
+    /// The number, 1 to 23.
     ///
     /// ```
     /// use margin_host::Refusal;
@@ -135,9 +140,10 @@ impl Refusal {
             Refusal::TotalsDiffer => 17,
             Refusal::FileTooLong => 18,
             Refusal::RecordIllFormed { .. } => 19,
-            Refusal::NotSevenFields { .. } => 20,
+            Refusal::WrongNumberOfFields { .. } => 20,
             Refusal::FieldNotOfItsSort { .. } => 21,
             Refusal::HoldingAfterLine { .. } => 22,
+            Refusal::CurrencyUnknown { .. } => 23,
         }
     }
 
@@ -163,6 +169,7 @@ impl Refusal {
             | Refusal::IssuerUnknown { holding }
             | Refusal::DaysOutOfRange { holding }
             | Refusal::ValueOutOfRange { holding }
+            | Refusal::CurrencyUnknown { holding }
             | Refusal::PriceTooHigh { holding } => holding,
             Refusal::NotInBook { line }
             | Refusal::WrongSide { line }
@@ -171,7 +178,7 @@ impl Refusal {
             | Refusal::AmountAboveRemainder { line } => line,
             Refusal::PairNotCovered { long, .. } => long,
             Refusal::RecordIllFormed { record }
-            | Refusal::NotSevenFields { record }
+            | Refusal::WrongNumberOfFields { record }
             | Refusal::FieldNotOfItsSort { record }
             | Refusal::HoldingAfterLine { record } => record,
         }
@@ -228,9 +235,10 @@ impl Refusal {
             17 => Refusal::TotalsDiffer,
             18 => Refusal::FileTooLong,
             19 => Refusal::RecordIllFormed { record },
-            20 => Refusal::NotSevenFields { record },
+            20 => Refusal::WrongNumberOfFields { record },
             21 => Refusal::FieldNotOfItsSort { record },
             22 => Refusal::HoldingAfterLine { record },
+            23 => Refusal::CurrencyUnknown { holding },
             _ => return None,
         };
         (refusal.place() == place && refusal.second() == second).then_some(refusal)
@@ -249,7 +257,7 @@ impl fmt::Display for Refusal {
     fn fmt(&self, f: &mut fmt::Formatter<'_>) -> fmt::Result {
         let (place, second, fault) = (self.place(), self.second(), self.fault());
         match self.number() {
-            4..=8 | 10 => write!(f, "holding {place}, counting from 0, {fault}"),
+            4..=8 | 10 | 23 => write!(f, "holding {place}, counting from 0, {fault}"),
             11..=15 => write!(f, "line {place}, counting from 0, {fault}"),
             16 => write!(
                 f,
@@ -266,7 +274,7 @@ impl Refusal {
     fn fault(&self) -> &'static str {
         match self {
             Refusal::ColumnsDiffer => {
-                "the columns of the holdings, the price column among them, must all have the same \
+                "the columns of the holdings, price and currency among them, must all have the same \
                  length in whole numbers, and so must the columns of the lines"
             }
             Refusal::ListTooShort => {
@@ -283,11 +291,15 @@ impl Refusal {
                  or 2 for a residual"
             }
             Refusal::IssuerUnknown { .. } => {
-                "has an unknown issuer: it must be 0 for Canada or 1 to 10 for a province"
+                "has an unknown issuer: it must be 0 for Canada, 1 to 10 for a province, 11 for the \
+                 United States or 12 for the United Kingdom"
             }
             Refusal::DaysOutOfRange { .. } => "has days to maturity outside 1 to 36,500",
             Refusal::ValueOutOfRange { .. } => {
                 "has a market value outside 1 to 100,000,000,000 cents"
+            }
+            Refusal::CurrencyUnknown { .. } => {
+                "has an unknown currency: it must be 0 for CAD, 1 for USD or 2 for GBP"
             }
             Refusal::TooManyLines => "the proposal has more than 512 lines",
             Refusal::PriceTooHigh { .. } => "has a price outside 0 to 43,800",
@@ -302,7 +314,9 @@ impl Refusal {
                 "must name a long holding first and a short holding second"
             }
             Refusal::PairNotAllowed { .. } => {
-                "pairs two holdings that lie in different periods or are both bonds"
+                "pairs two holdings that may not be paired: both must lie in one period and be in one \
+                 currency; in CAD they must be of Canada or a province and not both bonds; in USD or \
+                 GBP they must be of the same government, Canada, US or GB, and exactly one a bond"
             }
             Refusal::AmountZero { .. } => "has amount 0, and the least is 1 cent",
             Refusal::AmountAboveRemainder { .. } => {
@@ -323,7 +337,7 @@ impl Refusal {
             Refusal::RecordIllFormed { .. } => {
                 "has quotes, line ends or characters that the grammar of RFC 4180 does not allow"
             }
-            Refusal::NotSevenFields { .. } => "does not have seven fields",
+            Refusal::WrongNumberOfFields { .. } => "does not have eight fields",
             Refusal::FieldNotOfItsSort { .. } => {
                 "begins with neither H nor P, has a field that is no value of its sort, or fills \
                  one that must be empty"

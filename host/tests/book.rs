@@ -3,20 +3,21 @@
 use margin_calculator::samples::{Random, SHAPES, best_sheet, holdings};
 use margin_calculator::{Row, Rows, Sheet};
 use margin_host::{
-    Accepted, Book, Columns, Figures, Holding, Issuer, Kind, Line, Proposal, Refusal, Side, check,
-    check_columns,
+    Accepted, Book, Columns, Currency, Figures, Holding, Issuer, Kind, Line, Proposal, Refusal,
+    Side, check, check_columns,
 };
 
-/// A Canada coupon of 2,000 days.
+/// A Canada coupon of 2,000 days in CAD.
 const COUPON: Holding = Holding {
     side: Side::Long,
     kind: Kind::Coupon,
     issuer: Issuer::Canada,
     days: 2_000,
     value: 1_000_000,
+    currency: Currency::Cad,
 };
 
-/// The book and the proposal of a sheet whose sides, kinds and issuers are known.
+/// The book and the proposal of a sheet whose sides, kinds, issuers and currencies are known.
 fn named(sheet: &Sheet) -> (Book, Proposal) {
     let holding = |number| {
         let row = sheet.row(number);
@@ -26,6 +27,7 @@ fn named(sheet: &Sheet) -> (Book, Proposal) {
             issuer: Issuer::ALL[row.issuer as usize],
             days: row.days,
             value: row.value,
+            currency: Currency::ALL[row.currency as usize],
         }
     };
     let book = (0..sheet.side.len()).map(holding).collect();
@@ -58,21 +60,25 @@ fn the_columns_are_the_numbers() {
     for side in Side::ALL {
         for kind in Kind::ALL {
             for issuer in Issuer::ALL {
-                let holding = Holding {
-                    side,
-                    kind,
-                    issuer,
-                    ..COUPON
-                };
-                let row = Row {
-                    side: side.number(),
-                    kind: kind.number(),
-                    issuer: issuer.number(),
-                    days: 2_000,
-                    value: 1_000_000,
-                };
-                let columns = Columns::of(&Book::new([holding]), &Proposal::new([5], []));
-                assert_eq!(columns, Sheet::of_rows(&[row], 5));
+                for currency in Currency::ALL {
+                    let holding = Holding {
+                        side,
+                        kind,
+                        issuer,
+                        currency,
+                        ..COUPON
+                    };
+                    let row = Row {
+                        side: side.number(),
+                        kind: kind.number(),
+                        issuer: issuer.number(),
+                        days: 2_000,
+                        value: 1_000_000,
+                        currency: currency.number(),
+                    };
+                    let columns = Columns::of(&Book::new([holding]), &Proposal::new([5], []));
+                    assert_eq!(columns, Sheet::of_rows(&[row], 5));
+                }
             }
         }
     }
@@ -140,6 +146,44 @@ fn refusals_that_names_leave_possible() {
     assert_eq!(far, Refusal::NotInBook { line: 1 });
     let uncovered = refusal(&pair, &[8_759, 0], &[line]);
     assert_eq!(uncovered, Refusal::PairNotCovered { long: 0, short: 1 });
+    let dollars = Holding {
+        currency: Currency::Usd,
+        ..short
+    };
+    let apart = refusal(&[COUPON, dollars], &[8_760, 0], &[line]);
+    assert_eq!(apart, Refusal::PairNotAllowed { line: 0 });
+}
+
+#[test]
+fn a_bond_and_its_strip_in_a_foreign_currency() {
+    // At 2,000 days a bond asks 2 and a strip 3 per cent, so the pair asks 1, of a government of Group I.
+    let line = Line {
+        long: 0,
+        short: 1,
+        amount: 1_000_000,
+    };
+    let proposal = Proposal::new([0, 5_840], [line]);
+    for currency in [Currency::Usd, Currency::Gbp] {
+        for issuer in Issuer::ALL {
+            let strip = Holding {
+                issuer,
+                currency,
+                ..COUPON
+            };
+            let bond = Holding {
+                side: Side::Short,
+                kind: Kind::Bond,
+                ..strip
+            };
+            let cents = check(&Book::new([strip, bond]), &proposal);
+            let cents = cents.map(|accepted| accepted.figures.cents);
+            let wanted = match issuer {
+                Issuer::Canada | Issuer::UnitedStates | Issuer::UnitedKingdom => Ok(10_000),
+                _ => Err(Refusal::PairNotAllowed { line: 0 }),
+            };
+            assert_eq!(cents, wanted, "{issuer} in {currency}");
+        }
+    }
 }
 
 #[test]
@@ -177,7 +221,7 @@ fn columns_of_any_sort_are_checked_alike() {
 
 #[test]
 fn the_order_in_which_columns_are_lent() {
-    let places = Columns::from_array([0, 1, 2, 3, 4, 5, 6, 7, 8]);
+    let places = Columns::from_array([0, 1, 2, 3, 4, 5, 6, 7, 8, 9]);
     let named = Columns {
         side: 0,
         kind: 1,
@@ -185,10 +229,11 @@ fn the_order_in_which_columns_are_lent() {
         days: 3,
         value: 4,
         price: 5,
-        long: 6,
-        short: 7,
-        amount: 8,
+        currency: 6,
+        long: 7,
+        short: 8,
+        amount: 9,
     };
     assert_eq!(places, named);
-    assert_eq!(places.into_array(), [0, 1, 2, 3, 4, 5, 6, 7, 8]);
+    assert_eq!(places.into_array(), [0, 1, 2, 3, 4, 5, 6, 7, 8, 9]);
 }

@@ -3,7 +3,7 @@
 mod support;
 
 use margin_calculator::samples::{Random, SHAPES, Shape, best_sheet, holdings};
-use margin_calculator::{Position, Row, pair_rate};
+use margin_calculator::{Position, Row, Sheet, pair_rate};
 use support::Run;
 
 /// Two holdings that may be paired, and their rate.
@@ -62,22 +62,58 @@ fn small_book(random: &mut Random, shape: &Shape, size: usize, values: u64) -> V
     book
 }
 
+/// Whether a sheet has a line of paragraph 2, and whether it has one of paragraph 4.
+fn paragraphs(sheet: &Sheet) -> [bool; 2] {
+    let mut lines = sheet.long.iter().map(|long| sheet.currency[*long as usize]);
+    let domestic = lines.clone().any(|currency| currency == 0);
+    [domestic, lines.any(|currency| currency > 0)]
+}
+
+/// Draws a book of this size and with values up to this, and demands that the best proposal on it is accepted
+/// with the least sum.
+fn least_is_found(run: &mut Run, shape: &Shape, size: usize, values: u64) -> Sheet {
+    let book = small_book(&mut run.random, shape, size, values);
+    let rates: Vec<u64> = book
+        .iter()
+        .map(|holding| Position::of(holding).rate)
+        .collect();
+    let mut left: Vec<u64> = book.iter().map(|holding| holding.value).collect();
+    let found = least(&rates, &mut left, &pairs(&book));
+    let best = best_sheet(&book);
+    let units = run.units(&best, format_args!("{}", shape.name));
+    assert_eq!(units, found, "{}\n{book:?}", shape.name);
+    best
+}
+
 #[test]
 fn no_pairing_needs_less() {
     let mut run = Run::new("no pairing needs less", 0x0201);
     for shape in &SHAPES {
         for (size, values) in [(1, 4), (2, 4), (3, 4), (4, 4), (5, 3), (6, 2)] {
             for _ in 0..40 {
-                let book = small_book(&mut run.random, shape, size, values);
-                let rates: Vec<u64> = book
-                    .iter()
-                    .map(|holding| Position::of(holding).rate)
-                    .collect();
-                let mut left: Vec<u64> = book.iter().map(|holding| holding.value).collect();
-                let found = least(&rates, &mut left, &pairs(&book));
-                let units = run.units(&best_sheet(&book), format_args!("{}", shape.name));
-                assert_eq!(units, found, "{}\n{book:?}", shape.name);
+                least_is_found(&mut run, shape, size, values);
             }
         }
     }
+}
+
+#[test]
+fn no_pairing_by_either_paragraph_needs_less() {
+    let mut run = Run::new("either paragraph", 0x0202);
+    let (mut foreign, mut both) = (0, 0);
+    for shape in SHAPES.iter().filter(|shape| shape.currencies.len() > 1) {
+        for (size, values) in [(5, 3), (6, 2), (8, 2), (10, 1)] {
+            for _ in 0..400 {
+                let best = least_is_found(&mut run, shape, size, values);
+                let [by_2, by_4] = paragraphs(&best);
+                foreign += usize::from(by_4);
+                both += usize::from(by_2 && by_4);
+            }
+        }
+    }
+    assert!(
+        foreign >= 2_000,
+        "{foreign} books are paired by paragraph 4"
+    );
+    assert!(both >= 300, "{both} books are paired by both paragraphs");
 }

@@ -5,15 +5,15 @@ mod support;
 use margin_calculator::samples::{ANY, best_sheet, holdings};
 use margin_calculator::{Row, Rows, Sheet};
 use support::Run;
-use support::faults::{Fault, HOLDINGS, PAIRS, plant, sound};
-use support::lent::{Lent, NAMES};
+use support::faults::{Fault, HOLDINGS, NUMBERS, PAIRS, plant, sound};
+use support::lent::{Lent, NAMES, OF_HOLDINGS};
 
 /// Margin units of the sound sheet: two bonds of 500 cents at 5 per cent.
 const SOUND_UNITS: u64 = 50 * 146_000;
 const BYTES: usize = 8 * HOLDINGS as usize;
 
 /// The columns of the holdings and those of the lines.
-const GROUPS: [std::ops::Range<usize>; 2] = [0..6, 6..9];
+const GROUPS: [std::ops::Range<usize>; 2] = [0..OF_HOLDINGS, OF_HOLDINGS..NAMES.len()];
 
 #[test]
 fn one_column_of_another_length() {
@@ -118,6 +118,7 @@ fn lists_of_the_largest_book() {
         issuer: 0,
         days: 1,
         value: 1,
+        currency: 0,
     };
     let mut lent = Lent::of(&Sheet::of_rows(&[bond; 256], 0));
     for short in [2_047, 2_040] {
@@ -143,7 +144,7 @@ fn answers_of_every_length() {
         } else {
             run.accepted(&lent, SOUND_UNITS, what);
         }
-        for number in 1..=17 {
+        for number in NUMBERS {
             let fault = Fault::at(number, 3, PAIRS + 2);
             let mut lent = plant(&[fault]);
             lent.answer(length);
@@ -161,7 +162,16 @@ fn answers_of_every_length() {
 #[test]
 fn short_lists_come_after_the_counts() {
     let mut run = Run::fixed("short lists and counts");
-    for (number, first) in [(1, 1), (3, 3), (9, 9), (4, 2), (11, 2), (16, 2), (17, 2)] {
+    for (number, first) in [
+        (1, 1),
+        (3, 3),
+        (9, 9),
+        (4, 2),
+        (11, 2),
+        (16, 2),
+        (17, 2),
+        (23, 2),
+    ] {
         for (remainder, ranking, answer) in [
             (0, 0, 0),
             (0, 3_000, 16),

@@ -1,14 +1,15 @@
-//! Sides, kinds and issuers: their texts and numbers.
+//! Sides, kinds, issuers and currencies: their texts and numbers.
 
 use std::fmt::{Debug, Display};
 use std::str::FromStr;
 
-use margin_calculator::{ISSUERS, KINDS, SIDES};
-use margin_host::{Issuer, Kind, Side, UnknownCode};
+use margin_calculator::{CURRENCIES, ISSUERS, KINDS, SIDES};
+use margin_host::{Currency, Issuer, Kind, Side, UnknownCode};
 
-/// Texts that are no side, kind or issuer.
-const FOREIGN: [&str; 14] = [
-    "", " ", "l", "s", "b", "c", "ca", "Ca", "on", "YT", "NT", "NU", "CAN", "0",
+/// Texts that are no side, kind, issuer or currency.
+const UNKNOWN: [&str; 20] = [
+    "", " ", "l", "s", "b", "c", "ca", "Ca", "on", "YT", "NT", "NU", "CAN", "UK", "USA", "EUR",
+    "usd", "Gbp", "$", "0",
 ];
 
 /// Every value has the text and the number of its place among all, and no other text or number has one.
@@ -37,10 +38,10 @@ fn there_and_back<T>(
             assert!(changed.parse::<T>().is_err(), "{changed:?}");
         }
     }
-    for number in [all.len() as u64, 11, 256, 1 << 32, u64::MAX] {
+    for number in [all.len() as u64, 13, 256, 1 << 32, u64::MAX] {
         assert_eq!(from_number(number), None);
     }
-    for text in FOREIGN {
+    for text in UNKNOWN {
         assert!(text.parse::<T>().is_err(), "{text:?}");
     }
 }
@@ -62,7 +63,7 @@ fn kinds() {
 #[test]
 fn issuers() {
     let texts = [
-        "CA", "AB", "BC", "MB", "NB", "NL", "NS", "ON", "PE", "QC", "SK",
+        "CA", "AB", "BC", "MB", "NB", "NL", "NS", "ON", "PE", "QC", "SK", "US", "GB",
     ];
     there_and_back(&Issuer::ALL, &texts, Issuer::number, Issuer::from_number);
     let named = [
@@ -77,8 +78,23 @@ fn issuers() {
         Issuer::PrinceEdwardIsland,
         Issuer::Quebec,
         Issuer::Saskatchewan,
+        Issuer::UnitedStates,
+        Issuer::UnitedKingdom,
     ];
     assert_eq!(named, Issuer::ALL);
+}
+
+#[test]
+fn currencies() {
+    let texts = ["CAD", "USD", "GBP"];
+    there_and_back(
+        &Currency::ALL,
+        &texts,
+        Currency::number,
+        Currency::from_number,
+    );
+    let named = [Currency::Cad, Currency::Usd, Currency::Gbp];
+    assert_eq!(named.map(Currency::number), [0, 1, 2]);
 }
 
 #[test]
@@ -86,6 +102,8 @@ fn the_calculator_has_the_same_texts() {
     assert_eq!(Side::ALL.map(|side| side.to_string()), SIDES);
     assert_eq!(Kind::ALL.map(|kind| kind.to_string()), KINDS);
     assert_eq!(Issuer::ALL.map(|issuer| issuer.to_string()), ISSUERS);
+    let currencies = Currency::ALL.map(|currency| currency.to_string());
+    assert_eq!(currencies, CURRENCIES);
 }
 
 #[test]
@@ -111,7 +129,11 @@ fn an_unknown_text_in_words() {
         Err("unknown kind \"\": it must be B, C or R".to_string())
     );
     let issuer = "YT".parse::<Issuer>().map_err(words);
-    let wanted = "unknown issuer \"YT\": it must be CA, AB, BC, MB, NB, NL, NS, ON, PE, QC or SK"
-        .to_string();
+    let wanted =
+        "unknown issuer \"YT\": it must be CA, AB, BC, MB, NB, NL, NS, ON, PE, QC, SK, US or GB"
+            .to_string();
     assert_eq!(issuer, Err(wanted));
+    let currency = "EUR".parse::<Currency>().map_err(words);
+    let wanted = "unknown currency \"EUR\": it must be CAD, USD or GBP".to_string();
+    assert_eq!(currency, Err(wanted));
 }

@@ -25,13 +25,14 @@ fn large() -> Vec<u64> {
 }
 
 /// The limit of each column of the sound sheet, and the number of the refusal above it.
-const LIMITS: [(u64, u64); 9] = [
+const LIMITS: [(u64, u64); NAMES.len()] = [
     (1, 4),
     (2, 5),
-    (10, 6),
+    (12, 6),
     (36_500, 7),
     (100_000_000_000, 8),
     (43_800, 10),
+    (2, 23),
     (13, 11),
     (13, 11),
     (1_000, 15),
@@ -62,7 +63,7 @@ fn large_numbers_in_every_column() {
 #[test]
 fn zero_where_the_least_is_one() {
     let mut run = Run::fixed("zero where the least is one");
-    for (at, refusal) in [(3, 7), (4, 8), (8, 14)] {
+    for (at, refusal) in [(3, 7), (4, 8), (9, 14)] {
         let length = column(&mut sound(), at).len();
         for entry in 0..length {
             let mut sheet = sound();
@@ -167,13 +168,14 @@ fn amounts_that_would_wrap_around() {
 fn largest(run: &mut Run, shape: &Shape) -> Sheet {
     let mut book = holdings(&mut run.random, shape, 254);
     for side in [0, 1] {
-        let (kind, issuer, days, value) = (1, 0, 100, 50_000);
+        let (kind, issuer, days, value, currency) = (1, 0, 100, 50_000, 0);
         book.push(Row {
             side,
             kind,
             issuer,
             days,
             value,
+            currency,
         });
     }
     let mut sheet = best_sheet(&book);
@@ -244,13 +246,14 @@ fn faults_of_the_largest() {
 fn the_largest_totals() {
     // 256 holdings of the highest value and the highest rate: all long, all short, and half with half.
     let mut run = Run::fixed("the largest totals");
-    let (kind, issuer, days, value) = (2, 10, 36_500, 100_000_000_000);
+    let (kind, issuer, days, value, currency) = (2, 10, 36_500, 100_000_000_000, 0);
     let residual = |side| Row {
         side,
         kind,
         issuer,
         days,
         value,
+        currency,
     };
     let longs = Sheet::of_rows(&[residual(0); 256], 0);
     run.accepted(
@@ -286,6 +289,7 @@ fn one_uncovered_pair_among_all() {
         issuer: 0,
         days: 9_000,
         value: 1,
+        currency: 0,
     };
     for long in [0, 1, 64, 126, 127] {
         for short in [128, 129, 200, 254, 255] {
@@ -305,13 +309,14 @@ fn one_uncovered_pair_among_all() {
 #[test]
 fn ties_go_to_the_lower_number() {
     let mut run = Run::fixed("ties in the ranking");
-    let (side, issuer, value) = (0, 0, 50);
+    let (side, issuer, value, currency) = (0, 0, 50, 0);
     let holding = |kind, days| Row {
         side,
         kind,
         issuer,
         days,
         value,
+        currency,
     };
     // 6 units a day against 4: the same margin twice, and a larger one between.
     let book = [

@@ -2,11 +2,12 @@
 
 mod support;
 
-use margin_calculator::texts::{PRINTED, holding, joined, of_width, quoted, quoted_at};
+use margin_calculator::texts::{PRINTED, holding, holding_in, joined, of_width, quoted, quoted_at};
 use margin_calculator::{FIELDS, Row, Rows, Sheet};
 use margin_host::Line;
 use support::column;
 use support::file::{File, Files, with_field};
+use support::lent::OF_HOLDINGS;
 
 fn printed() -> Sheet {
     Sheet {
@@ -16,13 +17,14 @@ fn printed() -> Sheet {
         days: vec![2_000, 2_000, 2_000],
         value: vec![1_000_000, 600_000, 300_000],
         price: vec![0, 5_840, 6_570],
+        currency: vec![0, 0, 0],
         long: vec![0, 0],
         short: vec![1, 2],
         amount: vec![600_000, 300_000],
     }
 }
 
-fn one_holding(side: u64, kind: u64, issuer: u64) -> Sheet {
+fn one_holding(side: u64, kind: u64, issuer: u64, currency: u64) -> Sheet {
     let (days, value) = (2_000, 1_000);
     let holding = Row {
         side,
@@ -30,6 +32,7 @@ fn one_holding(side: u64, kind: u64, issuer: u64) -> Sheet {
         issuer,
         days,
         value,
+        currency,
     };
     Sheet::of_rows(&[holding], 0)
 }
@@ -112,14 +115,21 @@ fn every_letter_and_code() {
         ("PE", 8),
         ("QC", 9),
         ("SK", 10),
+        ("US", 11),
+        ("GB", 12),
     ];
+    let currencies = [("CAD", 0), ("USD", 1), ("GBP", 2)];
     for (side, side_number) in [("L", 0), ("S", 1)] {
         for (kind, kind_number) in [("B", 0), ("C", 1), ("R", 2)] {
             for (issuer, issuer_number) in issuers {
-                let record = holding(&format!("{side},{kind},{issuer},2000,1000,0"));
-                let sheet = one_holding(side_number, kind_number, issuer_number);
-                for text in [joined(&[&record]), joined(&[quoted(&record)])] {
-                    files.accepted(&File::exact(&text, 1, 0), &sheet, format_args!("{record}"));
+                for (currency, currency_number) in currencies {
+                    let fields = format!("{side},{kind},{issuer},2000,1000,0");
+                    let record = holding_in(currency, &fields);
+                    let sheet =
+                        one_holding(side_number, kind_number, issuer_number, currency_number);
+                    for text in [joined(&[&record]), joined(&[quoted(&record)])] {
+                        files.accepted(&File::exact(&text, 1, 0), &sheet, format_args!("{record}"));
+                    }
                 }
             }
         }
@@ -136,7 +146,16 @@ fn texts_that_are_no_letter_or_code() {
         (
             3,
             &[
-                "", "ca", "Ca", "C", "CAN", "ON ", " ON", "YT", "NT", "NU", "NF", "US", "0", "7",
+                "", "ca", "Ca", "C", "CAN", "ON ", " ON", "YT", "NT", "NU", "NF", "us", "U", "USA",
+                "UK", "gb", "CAD", "0", "7",
+            ],
+        ),
+        (
+            7,
+            &[
+                "", "cad", "usd", "gbp", "Cad", "C", "CA", "US", "GB", "AD", "CADU", "CADUSD",
+                "USDGBP", "ADU", "CAD ", " USD", "US D", "EUR", "JPY", "0", "1", "2", "124", "840",
+                "826", "$",
             ],
         ),
     ];
@@ -165,9 +184,9 @@ const NUMERALS: [(&str, usize, usize, usize); 6] = [
     (PRINTED[0], 4, 3, 6),
     (PRINTED[0], 5, 4, 12),
     (PRINTED[0], 6, 5, 6),
-    (PRINTED[3], 1, 6, 6),
-    (PRINTED[3], 2, 7, 6),
-    (PRINTED[3], 3, 8, 12),
+    (PRINTED[3], 1, 7, 6),
+    (PRINTED[3], 2, 8, 6),
+    (PRINTED[3], 3, 9, 12),
 ];
 
 #[test]
@@ -181,10 +200,11 @@ fn numerals() {
             texts.push("1234567890123"[..digits].to_string());
         }
         for text in texts {
-            let (holdings, lines) = if at < 6 { (1, 0) } else { (0, 1) };
+            let of_holding = at < OF_HOLDINGS;
+            let (holdings, lines) = if of_holding { (1, 0) } else { (0, 1) };
             let mut sheet = Sheet::default();
-            if at < 6 {
-                sheet = one_holding(0, 1, 0);
+            if of_holding {
+                sheet = one_holding(0, 1, 0, 0);
                 sheet.value[0] = 1_000_000;
             } else {
                 let (long, short, amount) = (0, 1, 600_000);
@@ -305,7 +325,7 @@ fn a_line_end_in_quotes_ends_no_record() {
         );
     }
     // A later fault is counted in records and not in lines.
-    let many = of_width("\"\r\n\r\n\r\n\",1,2,3,4,5,6", FIELDS);
+    let many = of_width("\"\r\n\r\n\r\n\",1,2,3,4,5,6,7", FIELDS);
     files.refused(
         &File::of(&joined(&[&many, PRINTED[0]])),
         (21, 0),

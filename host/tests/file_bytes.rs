@@ -1,4 +1,4 @@
-//! Lengths in bytes: the nine lists that the reader fills, and its answer slice.
+//! Lengths in bytes: the lists that the reader fills, and its answer slice.
 
 mod support;
 
@@ -6,7 +6,7 @@ use margin_calculator::samples::{ANY, best_sheet, holdings};
 use margin_calculator::texts::{PRINTED, holding, joined, line, text_of};
 use margin_calculator::{Row, Rows, Sheet};
 use margin_host::Line;
-use support::file::{File, Files};
+use support::file::{File, Files, LISTS};
 use support::lent::NAMES;
 
 /// Three holdings and two lines.
@@ -92,7 +92,7 @@ fn lists_of_the_empty_file() {
     for length in 0..=24 {
         let mut file = exact();
         file.text.clear();
-        file.lists = [length; 9];
+        file.lists = [length; LISTS];
         let what = format_args!("lists of {length} bytes");
         files.accepted(&file, &Sheet::default(), what);
     }
@@ -130,6 +130,7 @@ fn lists_of_the_largest_file() {
         issuer: 0,
         days: 1,
         value: 1,
+        currency: 2,
     };
     let mut sheet = Sheet::of_rows(&[holding; 256], 0);
     for line in 0..512 {

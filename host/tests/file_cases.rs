@@ -30,7 +30,7 @@ fn each_case_prints_its_stated_line() {
 
 #[test]
 fn the_cases_reach_every_refusal_of_a_file() {
-    let mut seen = [0; 23];
+    let mut seen = [0; 24];
     for case in all() {
         let line = first_line(&case);
         let number = match line.strip_prefix("X,") {
@@ -48,7 +48,8 @@ fn the_cases_reach_every_refusal_of_a_file() {
         assert!(seen[number] > 0, "no case with {number}: {seen:?}");
     }
     assert!(seen[0] >= 50, "{} cases are accepted", seen[0]);
-    assert_eq!(seen[4] + seen[5] + seen[6], 0, "no file reaches 4 to 6");
+    let unreached = [4, 5, 6, 23].map(|number| seen[number]);
+    assert_eq!(unreached, [0; 4], "no file reaches 4 to 6 or 23");
 }
 
 #[test]
@@ -64,7 +65,7 @@ fn titles_and_lengths_fit_the_framing() {
         assert!(case.text.len() <= 65_537, "{}", case.title);
         assert!(titles.insert(&case.title), "{} twice", case.title);
     }
-    assert!((150..=300).contains(&cases.len()), "{} cases", cases.len());
+    assert!((150..=350).contains(&cases.len()), "{} cases", cases.len());
     assert!(stdin(&cases).len() < 1_500_000);
 }
 

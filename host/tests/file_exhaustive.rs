@@ -2,8 +2,8 @@
 
 mod support;
 
-use margin_calculator::FIELDS;
 use margin_calculator::texts::{PRINTED, joined, quoted};
+use margin_calculator::{CURRENCIES, FIELDS};
 use support::file::{File, Files, with_field};
 
 /// Every text of so many letters.
@@ -41,7 +41,7 @@ fn every_byte_as_a_field() {
                 (1, 1) => 2,
                 (1, 2) => 3,
                 (_, 0) => 1,
-                (1, 3) | (0, 4..) => 0,
+                (1, 3 | 7) | (0, 4..) => 0,
                 _ => 10,
             };
             assert_eq!(
@@ -61,12 +61,40 @@ fn every_two_bytes_as_an_issuer() {
             files.compare(&File::exact(&text, 1, 0), format_args!("{one}, {other}"));
         }
     }
-    assert_eq!(files.seen[0], 11, "eleven codes");
+    assert_eq!(files.seen[0], 13, "thirteen codes");
     assert_eq!(
         files.seen[20],
         2 * 93 + 2,
         "a comma beside text, two commas, and a line end"
     );
+}
+
+#[test]
+fn every_three_capitals_as_a_currency() {
+    let mut files = Files::fixed("every three capitals as a currency");
+    let capitals: Vec<u8> = (b'A'..=b'Z').collect();
+    for currency in texts(&capitals, 3) {
+        let text = with_field(PRINTED[0], 7, &currency);
+        files.compare(&File::exact(&text, 1, 0), format_args!("{currency:?}"));
+    }
+    assert_eq!(files.seen[0], 3, "three codes");
+    assert_eq!(files.seen[21], 26 * 26 * 26 - 3, "no other text");
+}
+
+#[test]
+fn every_byte_in_a_currency() {
+    let mut files = Files::fixed("every byte in a currency");
+    for currency in CURRENCIES {
+        for at in 0..3 {
+            for byte in 0..=255 {
+                let mut changed = currency.as_bytes().to_vec();
+                changed[at] = byte;
+                let text = with_field(PRINTED[0], 7, &changed);
+                files.compare(&File::exact(&text, 1, 0), format_args!("{changed:?}"));
+            }
+        }
+    }
+    assert_eq!(files.seen[0], 9, "each currency as it is, at each place");
 }
 
 #[test]
@@ -130,7 +158,12 @@ fn every_short_field() {
     let letters = b"\",\r\n1\x7F";
     for length in 0..=5 {
         for field in texts(letters, length) {
-            for (record, at) in [(PRINTED[0], 6), (PRINTED[3], 4), (PRINTED[0], 5)] {
+            for (record, at) in [
+                (PRINTED[0], 6),
+                (PRINTED[3], 4),
+                (PRINTED[0], 5),
+                (PRINTED[0], 7),
+            ] {
                 let text = with_field(record, at, &field);
                 files.compare(&File::exact(&text, 1, 1), format_args!("field {at}"));
             }

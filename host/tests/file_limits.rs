@@ -91,6 +91,7 @@ fn the_longest_file_that_is_read() {
         issuer: 10,
         days: 999_999,
         value: 999_999_999_999,
+        currency: 2,
     };
     let mut sheet = Sheet::of_rows(&[holding; 256], 999_999);
     for _ in 0..512 {
@@ -105,7 +106,7 @@ fn the_longest_file_that_is_read() {
         .map(|record| quoted(record))
         .collect();
     let text = joined(&all);
-    assert_eq!(text.len(), 37_120);
+    assert_eq!(text.len(), 40_192);
     files.accepted(
         &File::exact(&text, 256, 512),
         &sheet,

@@ -2,22 +2,22 @@
 
 mod support;
 
-use margin_calculator::FIELDS;
 use margin_calculator::samples::Random;
-use margin_calculator::texts;
-use support::file::{File, Files};
+use margin_calculator::{CURRENCIES, FIELDS, ISSUERS, KINDS, SIDES, texts};
+use support::file::{File, Files, LISTS};
 
 /// Fields at which something changes in the paper, and some that are none.
 #[rustfmt::skip]
-const PROBES: [&str; 46] = [
+const PROBES: [&str; 54] = [
     "", "0", "00", "007", "+1", "-1", " 1", "1 ", "1", "9", "12", "255", "256", "365", "36500", "43801",
     "999999", "1000000", "0000000", "999999999999", "1000000000000", "18446744073709551616",
     "H", "P", "h", "p", "L", "S", "l", "B", "C", "R", "CA", "ON", "SK", "YT", "NU", "on",
+    "US", "GB", "UK", "CAD", "USD", "GBP", "EUR", "usd",
     "\"\"", "x\"\"y", "\r\n", "a,b", "\t", "\u{7F}", "\u{80}", "\"",
 ];
 
 /// Bytes at which something changes in the grammar.
-const BYTES: &[u8] = b"\"\"\"\",,,,\r\n\r\n\r\n01 9HPLSCA\t\x00\x1F\x7E\x7F\x80\xFF\xEF!#+-";
+const BYTES: &[u8] = b"\"\"\"\",,,,\r\n\r\n\r\n01 9HPLSCAD\t\x00\x1F\x7E\x7F\x80\xFF\xEF!#+-";
 
 /// A file as records of fields.
 type Records = Vec<Vec<String>>;
@@ -33,17 +33,15 @@ fn numeral(random: &mut Random, most: u32) -> String {
 }
 
 fn holding(random: &mut Random) -> Vec<String> {
-    let issuers = [
-        "CA", "AB", "BC", "MB", "NB", "NL", "NS", "ON", "PE", "QC", "SK",
-    ];
     let mut fields = vec![
         "H".to_string(),
-        random.pick(&["L", "S"]).to_string(),
-        random.pick(&["B", "C", "R"]).to_string(),
-        random.pick(&issuers).to_string(),
+        random.pick(&SIDES).to_string(),
+        random.pick(&KINDS).to_string(),
+        random.pick(&ISSUERS).to_string(),
         numeral(random, 6),
         numeral(random, 12),
         numeral(random, 6),
+        random.pick(&CURRENCIES).to_string(),
     ];
     fields.resize(FIELDS, String::new());
     fields
@@ -154,7 +152,7 @@ fn lend(random: &mut Random, text: &[u8], records: &Records) -> File {
         }
     }
     if random.below(12) == 0 {
-        let at = random.place(9);
+        let at = random.place(LISTS);
         file.lists[at] = random.place(file.lists[at] + 1);
     }
     file.answer = match random.below(12) {
@@ -257,7 +255,7 @@ fn random_bytes() {
         BYTES,
         b"\",\r\n0",
         b",,,,,,,,,,,,,,,,,,\r\n\"0HP",
-        b"HPLSBCRON,,,,,,,0123456789",
+        b"HPLSBCRONUSD,,,,,,,,0123456789",
         b",\"",
     ];
     for round in 0..80_000 {

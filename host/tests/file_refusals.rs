@@ -3,7 +3,7 @@
 mod support;
 
 use margin_calculator::FIELDS;
-use margin_calculator::texts::{holding, joined, line, of_width};
+use margin_calculator::texts::{holding, holding_in, joined, line, of_width};
 use support::file::{File, Files};
 
 /// A holding and a line, by their fields.
@@ -11,6 +11,8 @@ const HOLDING: &str = "L,C,ON,2000,1000,8760";
 const LINE: &str = "0,3,1000";
 /// Faults of one record, from the first in the reader's order.
 const OF_A_RECORD: [u64; 4] = [19, 20, 21, 22];
+/// Where 3, 9 and 2 stand among the faults of a record: after all of its own.
+const LAST: u64 = u64::MAX;
 
 /// A file to be made: holdings, lines, faults of records by number and record, the number of bytes to
 /// which it is filled up, and whether a list is too short.
@@ -63,13 +65,13 @@ impl Plan {
             events.push((at, number, (number, at as u64)));
         }
         if self.holdings > 256 {
-            events.push((256, 23, (3, 0)));
+            events.push((256, LAST, (3, 0)));
         }
         if self.lines > 512 {
-            events.push((self.holdings + 512, 23, (9, 0)));
+            events.push((self.holdings + 512, LAST, (9, 0)));
         }
         if self.short_list {
-            events.push((usize::MAX, 23, (2, 0)));
+            events.push((usize::MAX, LAST, (2, 0)));
         }
         events.into_iter().min().expect("there is a fault").2
     }
@@ -206,13 +208,13 @@ fn the_grammar_is_judged_on_the_whole_record() {
     let mut files = Files::fixed("the whole record");
     let good = &holding(HOLDING);
     for record in [
-        "H,L,C,CA,1,1,0,,\t",
+        "H,L,C,CA,1,1,0,CAD,,\t",
         "x,\u{7F}",
         "a,b,c,\"d\"e",
-        "H,L,C,CA,007,1,\"",
-        "P,0,1,1,,,\u{80}",
+        "H,L,C,CA,007,1,0,\"",
+        "P,0,1,1,,,,\u{80}",
         ",,,,,,,,,,,\n",
-        "H,L,C,CA,1,1,0,\"\r\n",
+        "H,L,C,CA,1,1,0,CAD,\"\r\n",
     ] {
         for before in 0..3 {
             let mut records = vec![good.as_str(); before];
@@ -244,6 +246,46 @@ fn records_of_other_widths() {
                 files.refused(&File::of(&text), (20, 0), format_args!("{count} fields"));
             }
         }
+    }
+}
+
+#[test]
+fn seven_and_nine_fields() {
+    let mut files = Files::fixed("seven and nine fields");
+    for record in [
+        "H,L,C,ON,2000,1000,8760",
+        "H,L,C,ON,2000,1000,8760,CAD,",
+        "H,L,C,ON,2000,1000,8760,,",
+        "P,0,3,1000,,,",
+        "P,0,3,1000,,,,,",
+    ] {
+        for before in 0..3 {
+            let mut records = vec![holding(HOLDING); before];
+            records.push(record.to_string());
+            let what = format_args!("{record} after {before}");
+            files.refused(&File::of(&joined(&records)), (20, before as u64), what);
+        }
+    }
+}
+
+#[test]
+fn a_currency_that_is_none_in_its_turn() {
+    let mut files = Files::fixed("the turn of a currency that is none");
+    for currency in ["", "EUR", "cad", "USDX"] {
+        let bad = holding_in(currency, HOLDING);
+        let what = format_args!("{currency:?}");
+        for at in [0, 1, 255, 256] {
+            // The 257th holding comes after what is wrong with it.
+            let mut records = vec![holding(HOLDING); 257];
+            records[at] = bad.clone();
+            files.refused(&File::of(&joined(&records)), (21, at as u64), what);
+        }
+        let late = joined(&[holding(HOLDING), line(LINE), bad.clone()]);
+        files.refused(&File::of(&late), (21, 2), what);
+        let wide = joined(&[bad.clone() + ","]);
+        files.refused(&File::of(&wide), (20, 0), what);
+        let quote = joined(&[bad + "\""]);
+        files.refused(&File::of(&quote), (19, 0), what);
     }
 }
 

@@ -5,8 +5,8 @@ use margin_calculator::samples::{Random, SHAPES, best_sheet, holdings};
 use margin_calculator::texts::{PRINTED, holding, joined, line, of_width, text_of};
 use margin_calculator::{self as calculator, FIELDS, Position, Rows, Sheet, print};
 use margin_host::{
-    Accepted, Book, Columns, Figures, Holding, Issuer, Kind, Line, Proposal, Refusal, Side, check,
-    check_file, read,
+    Accepted, Book, Columns, Currency, Figures, Holding, Issuer, Kind, Line, Proposal, Refusal,
+    Side, check, check_file, read,
 };
 
 /// The printed file with another record at one place.
@@ -30,6 +30,7 @@ fn the_printed_file() {
     assert_eq!(sheet.days, [2_000; 3]);
     assert_eq!(sheet.value, [1_000_000, 600_000, 300_000]);
     assert_eq!(sheet.price, [0, 5_840, 6_570]);
+    assert_eq!(sheet.currency, [0; 3]);
     assert_eq!((sheet.long, sheet.short), (vec![0, 0], vec![1, 2]));
     assert_eq!(sheet.amount, [600_000, 300_000]);
     let wanted = Accepted {
@@ -51,6 +52,7 @@ fn the_printed_file_by_its_names() {
         issuer,
         days: 2_000,
         value,
+        currency: Currency::Cad,
     };
     let book = Book::new([
         holding(Side::Long, Kind::Coupon, Issuer::Canada, 1_000_000),
@@ -69,6 +71,70 @@ fn the_printed_file_by_its_names() {
 }
 
 #[test]
+fn both_paragraphs_by_their_names() {
+    let coupon = Holding {
+        side: Side::Long,
+        kind: Kind::Coupon,
+        issuer: Issuer::UnitedStates,
+        days: 8_000,
+        value: 1_000,
+        currency: Currency::Usd,
+    };
+    let bond = Holding {
+        side: Side::Short,
+        kind: Kind::Bond,
+        days: 5_000,
+        ..coupon
+    };
+    let sterling = [coupon, bond].map(|holding| Holding {
+        issuer: Issuer::UnitedKingdom,
+        currency: Currency::Gbp,
+        ..holding
+    });
+    let residuals = Side::ALL.map(|side| Holding {
+        side,
+        kind: Kind::Residual,
+        issuer: Issuer::Quebec,
+        currency: Currency::Cad,
+        ..coupon
+    });
+    let book = Book::new([[coupon, bond], sterling, residuals].concat());
+    let line = |long| Line {
+        long,
+        short: long + 1,
+        amount: 1_000,
+    };
+    let proposal = Proposal::new([11_680, 0, 11_680, 0, 43_800, 0], [0, 2, 4].map(line));
+    let text = "H,L,C,US,8000,1000,11680,USD\r\n\
+                H,S,B,US,5000,1000,0,USD\r\n\
+                H,L,C,GB,8000,1000,11680,GBP\r\n\
+                H,S,B,GB,5000,1000,0,GBP\r\n\
+                H,L,R,QC,8000,1000,43800,CAD\r\n\
+                H,S,R,QC,8000,1000,0,CAD\r\n\
+                P,0,1,1000,,,,\r\n\
+                P,2,3,1000,,,,\r\n\
+                P,4,5,1000,,,,\r\n";
+    assert_eq!(check(&book, &proposal), check_file(text.as_bytes()));
+    assert_eq!(read(text.as_bytes()), Ok((book, proposal)));
+    // Three times 4 per cent less 4 per cent, twice, of 1,000 cents.
+    let cents = check_file(text.as_bytes()).map(|accepted| accepted.figures.cents);
+    assert_eq!(cents, Ok(160));
+    let dollars = text.replace("GBP\r\nH,L,R", "USD\r\nH,L,R");
+    let refusal = Err(Refusal::PairNotAllowed { line: 1 });
+    assert_eq!(check_file(dollars.as_bytes()), refusal);
+}
+
+#[test]
+fn a_currency_that_is_none() {
+    for (at, currency) in [(0, "EUR"), (1, ""), (2, "cad")] {
+        let record = at as u64;
+        let refusal = Err(Refusal::FieldNotOfItsSort { record });
+        let printed = PRINTED[at].replace("CAD", currency);
+        assert_eq!(read(&with(at, &printed)), refusal, "{currency:?}");
+    }
+}
+
+#[test]
 fn the_empty_file() {
     assert_eq!(read(b""), Ok((Book::default(), Proposal::default())));
     assert_eq!(check_file(b""), Ok(Accepted::default()));
@@ -82,7 +148,7 @@ fn every_refusal_of_a_file() {
         let record = at as u64;
         let refusal = Err(Refusal::RecordIllFormed { record });
         assert_eq!(read(&with(at, "\"")), refusal);
-        let refusal = Err(Refusal::NotSevenFields { record });
+        let refusal = Err(Refusal::WrongNumberOfFields { record });
         assert_eq!(read(&with(at, "")), refusal);
         let refusal = Err(Refusal::FieldNotOfItsSort { record });
         assert_eq!(read(&with(at, &of_width("h", FIELDS))), refusal);

@@ -227,6 +227,10 @@ fn a_faulty_book_has_no_best() {
     assert_eq!(one(|_| {}), Ok(()));
     assert_eq!(one(|sheet| sheet.days.push(1)), Err(Refusal::ColumnsDiffer));
     assert_eq!(
+        one(|sheet| sheet.currency.clear()),
+        Err(Refusal::ColumnsDiffer)
+    );
+    assert_eq!(
         one(|sheet| sheet.side[4] = 2),
         Err(Refusal::SideUnknown { holding })
     );
@@ -235,7 +239,7 @@ fn a_faulty_book_has_no_best() {
         Err(Refusal::KindUnknown { holding })
     );
     assert_eq!(
-        one(|sheet| sheet.issuer[4] = 11),
+        one(|sheet| sheet.issuer[4] = 13),
         Err(Refusal::IssuerUnknown { holding })
     );
     assert_eq!(
@@ -245,6 +249,10 @@ fn a_faulty_book_has_no_best() {
     assert_eq!(
         one(|sheet| sheet.value[4] = 0),
         Err(Refusal::ValueOutOfRange { holding })
+    );
+    assert_eq!(
+        one(|sheet| sheet.currency[4] = 3),
+        Err(Refusal::CurrencyUnknown { holding })
     );
     let many = Sheet::of_rows(&[holdings(&mut Random::new(1), &SHAPES[0], 1)[0]; 257], 0);
     assert_eq!(optimise(&many), Err(Refusal::TooManyHoldings));

@@ -2,44 +2,14 @@
 
 mod support;
 
-use margin_calculator::{Position, Row, Rows, Sheet};
+use margin_calculator::{Position, Rows, Sheet};
 use margin_host::Line;
 use support::Run;
 use support::lent::{Left, Lent};
-
-const LONG: u64 = 0;
-const SHORT: u64 = 1;
-const BOND: u64 = 0;
-const COUPON: u64 = 1;
-const RESIDUAL: u64 = 2;
-const CA: u64 = 0;
-const ON: u64 = 7;
-const QC: u64 = 9;
-
-fn holding(side: u64, kind: u64, issuer: u64, days: u64, value: u64) -> Row {
-    Row {
-        side,
-        kind,
-        issuer,
-        days,
-        value,
-    }
-}
-
-fn sheet(holdings: &[(Row, u64)], lines: &[(u64, u64, u64)]) -> Sheet {
-    let mut sheet = Sheet::default();
-    for (holding, price) in holdings {
-        sheet.add_holding(*holding, *price);
-    }
-    for &(long, short, amount) in lines {
-        sheet.add_line(Line {
-            long,
-            short,
-            amount,
-        });
-    }
-    sheet
-}
+use support::sheets::{
+    BOND, CA, CAD, COUPON, GB, LONG, ON, QC, RESIDUAL, SHORT, US, holding, one_pair, paper_rate,
+    sheet, two_legs,
+};
 
 /// The file that the paper prints.
 fn the_file() -> Sheet {
@@ -104,32 +74,11 @@ fn rates_at_the_edges() {
     }
 }
 
-/// The paper's table, typed from it: the first day, the last day, and the rates of Canada bond, Canada
-/// strip, province bond and province strip.
-const TABLE: [(u64, u64, [u64; 4]); 5] = [
-    (366, 1_095, [1_460, 2_190, 4_380, 6_570]),
-    (1_096, 2_555, [2_920, 4_380, 5_840, 8_760]),
-    (2_556, 4_015, [5_840, 8_760, 7_300, 10_950]),
-    (4_016, 7_299, [5_840, 8_760, 7_300, 10_950]),
-    (7_300, 36_500, [5_840, 17_520, 7_300, 21_900]),
-];
-
-fn paper_rate(kind: u64, issuer: u64, days: u64) -> u64 {
-    let column = usize::from(kind > 0) + if issuer > 0 { 2 } else { 0 };
-    match TABLE
-        .iter()
-        .find(|(first, last, _)| (*first..=*last).contains(&days))
-    {
-        Some((_, _, rates)) => rates[column],
-        None => [4, 6, 8, 12][column] * days,
-    }
-}
-
 #[test]
 fn every_rate_of_the_calculator() {
     for days in 1..=36_500 {
         for kind in [BOND, COUPON, RESIDUAL] {
-            for issuer in 0..=10 {
+            for issuer in 0..=12 {
                 let rate = paper_rate(kind, issuer, days);
                 let position = Position::of(&holding(LONG, kind, issuer, days, 1));
                 assert_eq!(position.rate, rate, "{kind}, {issuer}, {days} days");
@@ -144,7 +93,7 @@ fn every_rate_of_every_day() {
     let mut run = Run::fixed("every rate of every day");
     for days in 1..=36_500 {
         for kind in [BOND, COUPON, RESIDUAL] {
-            for issuer in [CA, 1 + days % 10] {
+            for issuer in [CA, 1 + days % 10, US, GB] {
                 let one = sheet(&[(holding(days % 2, kind, issuer, days, 1), 0)], &[]);
                 let rate = paper_rate(kind, issuer, days);
                 run.accepted(
@@ -157,36 +106,6 @@ fn every_rate_of_every_day() {
     }
 }
 
-/// The paper's periods, as far as two days are concerned.
-fn same_period(one: u64, other: u64) -> bool {
-    [365, 1_095, 2_555, 4_015]
-        .iter()
-        .all(|end| (one <= *end) == (other <= *end))
-}
-
-/// A long and a short of one cent with a line: refused with 13, or accepted with the pair's rate.
-fn one_pair(run: &mut Run, long: (u64, u64, u64), short: (u64, u64, u64)) {
-    let rates = [long, short].map(|(kind, issuer, days)| paper_rate(kind, issuer, days));
-    let sum = rates[0] + rates[1];
-    let rate = if (long.1 == CA) == (short.1 == CA) {
-        rates[0].abs_diff(rates[1])
-    } else {
-        sum / 2
-    };
-    let legs = |price| {
-        let long = (holding(LONG, long.0, long.1, long.2, 1), price);
-        let short = (holding(SHORT, short.0, short.1, short.2, 1), 0);
-        Lent::of(&sheet(&[long, short], &[(0, 1, 1)]))
-    };
-    let what = format_args!("{long:?} with {short:?}");
-    if !same_period(long.2, short.2) || long.0 == BOND && short.0 == BOND {
-        run.refused(&legs(sum - rate), (13, 0, 0), what);
-    } else {
-        run.accepted(&legs(sum - rate), rate, what);
-        run.refused(&legs(sum - rate - 1), (16, 0, 1), what);
-    }
-}
-
 #[test]
 fn every_pair_at_the_ends_of_periods() {
     let mut run = Run::fixed("every pair at the ends of periods");
@@ -196,7 +115,7 @@ fn every_pair_at_the_ends_of_periods() {
     let mut legs = Vec::new();
     for days in days {
         for kind in [BOND, COUPON, RESIDUAL] {
-            legs.extend([CA, 1, ON, 10].map(|issuer| (kind, issuer, days)));
+            legs.extend([CA, 1, ON, 10].map(|issuer| (kind, issuer, days, CAD)));
         }
     }
     for &long in &legs {
@@ -254,6 +173,7 @@ fn days_and_values_outside_their_ranges() {
 fn pairs_at_the_edges() {
     let mut run = Run::fixed("pairs at the edges");
     // Long and short of one cent, the price of the long, and the pair's rate.
+    let leg = |(kind, issuer, days)| (kind, issuer, days, CAD);
     let pairs = [
         ((COUPON, CA, 5_000), (COUPON, CA, 8_000), 17_520, 8_760),
         ((COUPON, ON, 2_000), (RESIDUAL, QC, 2_000), 17_520, 0),
@@ -261,14 +181,8 @@ fn pairs_at_the_edges() {
         ((BOND, ON, 2_000), (COUPON, ON, 2_000), 11_680, 2_920),
     ];
     for (long, short, price, rate) in pairs {
-        let pair = sheet(
-            &[
-                (holding(LONG, long.0, long.1, long.2, 1), price),
-                (holding(SHORT, short.0, short.1, short.2, 1), 0),
-            ],
-            &[(0, 1, 1)],
-        );
-        run.accepted(&Lent::of(&pair), rate, format_args!("{pair:?}"));
+        let what = format_args!("{long:?} with {short:?}");
+        run.accepted(&two_legs(leg(long), price, leg(short)), rate, what);
     }
     let refused = [
         ((COUPON, CA, 4_015), (COUPON, CA, 4_016)),
@@ -280,14 +194,8 @@ fn pairs_at_the_edges() {
         ((RESIDUAL, ON, 2_555), (BOND, CA, 2_556)),
     ];
     for (long, short) in refused {
-        let pair = sheet(
-            &[
-                (holding(LONG, long.0, long.1, long.2, 1), 43_800),
-                (holding(SHORT, short.0, short.1, short.2, 1), 0),
-            ],
-            &[(0, 1, 1)],
-        );
-        run.refused(&Lent::of(&pair), (13, 0, 0), format_args!("{pair:?}"));
+        let what = format_args!("{long:?} with {short:?}");
+        run.refused(&two_legs(leg(long), 43_800, leg(short)), (13, 0, 0), what);
     }
 }
 

@@ -4,11 +4,11 @@ mod support;
 
 use margin_calculator::Sheet;
 use margin_calculator::samples::{Random, SHAPES, best_sheet, holdings};
-use support::lent::Lent;
+use support::lent::{Lent, NAMES, OF_HOLDINGS};
 use support::{Run, column};
 
 /// Numbers at which something changes in the paper, and a few far away.
-const PROBES: [u64; 30] = [
+const PROBES: [u64; 32] = [
     0,
     1,
     2,
@@ -16,6 +16,8 @@ const PROBES: [u64; 30] = [
     4,
     10,
     11,
+    12,
+    13,
     255,
     256,
     257,
@@ -42,7 +44,7 @@ const PROBES: [u64; 30] = [
 ];
 
 fn change(random: &mut Random, sheet: &mut Sheet) {
-    let column = column(sheet, random.place(9));
+    let column = column(sheet, random.place(NAMES.len()));
     if column.is_empty() {
         return;
     }
@@ -60,7 +62,7 @@ fn change(random: &mut Random, sheet: &mut Sheet) {
 #[test]
 fn best_proposals_with_random_changes() {
     let mut run = Run::new("random changes", 0x0701);
-    let mut seen = [0; 18];
+    let mut seen = [0; 24];
     for round in 0..2_000 {
         let shape = run.random.pick(&SHAPES);
         let size = 1 + run.random.place(if round % 20 == 0 { 120 } else { 16 });
@@ -75,7 +77,7 @@ fn best_proposals_with_random_changes() {
             seen[left.number as usize] += 1;
         }
     }
-    for number in (4..=17).filter(|number| *number != 9).chain([0]) {
+    for number in (4..=17).filter(|number| *number != 9).chain([0, 23]) {
         assert!(seen[number] > 0, "no book with {number} among {seen:?}");
     }
 }
@@ -89,8 +91,8 @@ fn random_lengths_and_numbers() {
         let uneven = run.random.below(4) == 0;
         for (at, column) in lent.columns.iter_mut().enumerate() {
             let more = if uneven { run.random.place(10) } else { 0 };
-            let length = lengths[usize::from(at >= 6)] + more;
-            let most = [2, 3, 11, 36_501, 1_000, 20_000, 6, 6, 1_000][at];
+            let length = lengths[usize::from(at >= OF_HOLDINGS)] + more;
+            let most = [2, 3, 13, 36_501, 1_000, 20_000, 3, 6, 6, 1_000][at];
             while column.len() < length {
                 column.extend(run.random.below(most).to_le_bytes());
             }
@@ -109,7 +111,7 @@ fn random_bytes() {
         let mut lent = Lent::of(&Sheet::default());
         let lengths = [8 * run.random.place(4), 8 * run.random.place(4)];
         for (at, column) in lent.columns.iter_mut().enumerate() {
-            let length = lengths[usize::from(at >= 6)];
+            let length = lengths[usize::from(at >= OF_HOLDINGS)];
             column.extend((0..length).map(|_| run.random.bits() as u8));
         }
         lent.lists(24, 24);

@@ -3,7 +3,7 @@
 mod support;
 
 use support::Run;
-use support::faults::{Fault, HOLDINGS, PAIRS, plant, sound};
+use support::faults::{Fault, HOLDINGS, NUMBERS, PAIRS, plant, sound};
 use support::lent::Lent;
 
 /// The first, a middle and the last place.
@@ -25,7 +25,7 @@ fn the_sound_sheet_is_accepted() {
 #[test]
 fn each_refusal_at_each_place() {
     let mut run = Run::fixed("each refusal at each place");
-    for number in 1..=17 {
+    for number in NUMBERS {
         for place in 0..Fault::places(number) {
             for short in ends(PAIRS) {
                 let fault = Fault::at(number, place, PAIRS + short);
@@ -78,8 +78,8 @@ fn first_in_turn(faults: &[Fault]) -> Fault {
 fn of_two_faults_the_earlier_in_the_papers_order_wins() {
     let mut run = Run::fixed("every two refusals");
     let mut pairs = 0;
-    for one in 1..=17 {
-        for other in one + 1..=17 {
+    for (at, one) in NUMBERS.into_iter().enumerate() {
+        for other in NUMBERS.into_iter().skip(at + 1) {
             pairs += 1;
             for place in ends(Fault::places(one)) {
                 for second in ends(Fault::places(other)) {
@@ -95,13 +95,13 @@ fn of_two_faults_the_earlier_in_the_papers_order_wins() {
             }
         }
     }
-    assert_eq!(pairs, 17 * 16 / 2);
+    assert_eq!(pairs, 18 * 17 / 2);
 }
 
 #[test]
 fn of_one_refusal_at_two_places_the_earlier_place_wins() {
     let mut run = Run::fixed("one refusal at two places");
-    for number in (4..=8).chain(10..=16) {
+    for number in (4..=8).chain(10..=16).chain([23]) {
         for later in 1..Fault::places(number) {
             for earlier in 0..later {
                 let faults = [later, earlier].map(|place| Fault::at(number, place, PAIRS));
@@ -146,7 +146,7 @@ fn an_amount_above_one_leg_alone() {
 
 #[test]
 fn the_order_is_the_papers() {
-    // Typed from the paper: earlier and later fault, and the one that is named.
+    // Typed from the papers: two faults, and which of them is named.
     let mut run = Run::fixed("orders from the paper");
     let cases = [
         ([(1, 0), (3, 0)], 0),
@@ -157,6 +157,12 @@ fn the_order_is_the_papers() {
         ([(10, 0), (4, 1)], 0),
         ([(10, 3), (4, 3)], 1),
         ([(8, 2), (10, 2)], 0),
+        ([(8, 2), (23, 2)], 0),
+        ([(10, 2), (23, 2)], 1),
+        ([(10, 2), (23, 3)], 0),
+        ([(23, 2), (4, 3)], 0),
+        ([(2, 0), (23, 0)], 0),
+        ([(23, HOLDINGS - 1), (11, 0)], 0),
         ([(10, HOLDINGS - 1), (11, 0)], 0),
         ([(15, 1), (11, 2)], 0),
         ([(12, 2), (11, 2)], 1),
@@ -176,9 +182,9 @@ fn the_order_is_the_papers() {
 fn of_three_faults_the_earliest_wins() {
     let mut run = Run::new("every three refusals", 0x0301);
     for round in 0..4 {
-        for one in 1..=15 {
-            for other in one + 1..=16 {
-                for third in other + 1..=17 {
+        for (at, one) in NUMBERS.into_iter().enumerate() {
+            for (between, other) in NUMBERS.into_iter().enumerate().skip(at + 1) {
+                for third in NUMBERS.into_iter().skip(between + 1) {
                     let faults = [one, other, third].map(|number| {
                         let place = run.random.below(Fault::places(number));
                         Fault::at(number, place, PAIRS + run.random.below(PAIRS))

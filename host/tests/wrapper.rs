@@ -62,6 +62,7 @@ fn every_refusal_of_a_length() {
     assert_eq!(with(|sheet| sheet.days.truncate(3)), differ);
     assert_eq!(with(|sheet| sheet.value.clear()), differ);
     assert_eq!(with(|sheet| sheet.price.truncate(13)), differ);
+    assert_eq!(with(|sheet| sheet.currency.push(0)), differ);
     assert_eq!(with(|sheet| sheet.long.push(0)), differ);
     assert_eq!(with(|sheet| sheet.short.clear()), differ);
     assert_eq!(with(|sheet| sheet.amount.truncate(5)), differ);
@@ -91,11 +92,13 @@ fn every_refusal_of_a_holding() {
         let refusal = Err(Refusal::KindUnknown { holding });
         assert_eq!(with(|sheet| sheet.kind[at] = 3), refusal);
         let refusal = Err(Refusal::IssuerUnknown { holding });
-        assert_eq!(with(|sheet| sheet.issuer[at] = 11), refusal);
+        assert_eq!(with(|sheet| sheet.issuer[at] = 13), refusal);
         let refusal = Err(Refusal::DaysOutOfRange { holding });
         assert_eq!(with(|sheet| sheet.days[at] = 36_501), refusal);
         let refusal = Err(Refusal::ValueOutOfRange { holding });
         assert_eq!(with(|sheet| sheet.value[at] = 0), refusal);
+        let refusal = Err(Refusal::CurrencyUnknown { holding });
+        assert_eq!(with(|sheet| sheet.currency[at] = 3), refusal);
         let refusal = Err(Refusal::PriceTooHigh { holding });
         assert_eq!(with(|sheet| sheet.price[at] = 43_801), refusal);
     }
@@ -168,8 +171,8 @@ fn parts_and_back() {
     for number in 0..=40 {
         for place in [0, 1, 255, u64::MAX] {
             for second in [0, 1, 255, u64::MAX] {
-                let has_place = matches!(number, 4..=8 | 10..=16 | 19..=22);
-                let known = (1..=22).contains(&number)
+                let has_place = matches!(number, 4..=8 | 10..=16 | 19..=23);
+                let known = (1..=23).contains(&number)
                     && (has_place || place == 0)
                     && (number == 16 || second == 0);
                 let refusal = Refusal::from_parts(number, place, second);
@@ -185,10 +188,10 @@ fn parts_and_back() {
 }
 
 /// Number, place and second place, and what it says.
-const SENTENCES: [((u64, u64, u64), &str); 22] = [
+const SENTENCES: [((u64, u64, u64), &str); 23] = [
     (
         (1, 0, 0),
-        "the columns of the holdings, the price column among them, must all have the same \
+        "the columns of the holdings, price and currency among them, must all have the same \
          length in whole numbers, and so must the columns of the lines",
     ),
     (
@@ -210,8 +213,8 @@ const SENTENCES: [((u64, u64, u64), &str); 22] = [
     ),
     (
         (6, 1, 0),
-        "holding 1, counting from 0, has an unknown issuer: it must be 0 for Canada or 1 \
-         to 10 for a province",
+        "holding 1, counting from 0, has an unknown issuer: it must be 0 for Canada, 1 to \
+         10 for a province, 11 for the United States or 12 for the United Kingdom",
     ),
     (
         (7, 255, 0),
@@ -238,8 +241,10 @@ const SENTENCES: [((u64, u64, u64), &str); 22] = [
     ),
     (
         (13, 5, 0),
-        "line 5, counting from 0, pairs two holdings that lie in different periods or are \
-         both bonds",
+        "line 5, counting from 0, pairs two holdings that may not be paired: both must lie \
+         in one period and be in one currency; in CAD they must be of Canada or a province \
+         and not both bonds; in USD or GBP they must be of the same government, Canada, US \
+         or GB, and exactly one a bond",
     ),
     (
         (14, 6, 0),
@@ -268,7 +273,7 @@ const SENTENCES: [((u64, u64, u64), &str); 22] = [
     ),
     (
         (20, 0, 0),
-        "record 0, counting from 0, does not have seven fields",
+        "record 0, counting from 0, does not have eight fields",
     ),
     (
         (21, 767, 0),
@@ -279,6 +284,11 @@ const SENTENCES: [((u64, u64, u64), &str); 22] = [
         (22, 2, 0),
         "record 2, counting from 0, is a holding after a pair line, and all holdings must \
          come before all lines",
+    ),
+    (
+        (23, 9, 0),
+        "holding 9, counting from 0, has an unknown currency: it must be 0 for CAD, 1 for \
+         USD or 2 for GBP",
     ),
 ];
 
@@ -293,8 +303,8 @@ fn every_refusal_in_words() {
 
 #[test]
 fn the_words_fit_after_a_colon() {
-    for number in 1..=22 {
-        let has_place = matches!(number, 4..=8 | 10..=16 | 19..=22);
+    for number in 1..=23 {
+        let has_place = matches!(number, 4..=8 | 10..=16 | 19..=23);
         let (place, second) = (
             if has_place { 4_711 } else { 0 },
             if number == 16 { 815 } else { 0 },

@@ -1,4 +1,6 @@
-//! Article 7204, Groups I, II and XI paragraphs 1 and 2: rates and pairs.
+//! Article 7204, Groups I, II and XI paragraphs 1, 2 and 4: rates and pairs.
+
+use std::ops::RangeInclusive;
 
 use crate::Row;
 use crate::fraction::Fraction;
@@ -41,13 +43,56 @@ const fn units_table() -> [[[u64; 5]; 3]; 2] {
     table
 }
 
-/// Who owes the debt. Any two provinces count as one class.
+/// The numbers of the ten provinces.
+const PROVINCES: RangeInclusive<u64> = 1..=10;
+/// The issuers of paragraph 4, by their numbers: Canada, the United States and the United Kingdom.
+const GOVERNMENTS: [usize; 3] = [0, 11, 12];
+/// The foreign currencies, by their numbers: USD and GBP.
+const FOREIGN_CURRENCIES: [usize; 2] = [1, 2];
+
+/// Among whom a holding is paired, by the numbers of its currency and its issuer.
+const MARKETS: [[Market; 13]; 3] = markets();
+
+const fn markets() -> [[Market; 13]; 3] {
+    let mut table = [[Market::Unpaired; 13]; 3];
+    let mut issuer = 0;
+    while issuer <= *PROVINCES.end() {
+        table[0][issuer as usize] = Market::Domestic;
+        issuer += 1;
+    }
+    let mut number = 0;
+    while number < Market::FOREIGN {
+        let (currency, government) = (FOREIGN_CURRENCIES[number / 3], GOVERNMENTS[number % 3]);
+        table[currency][government] = Market::Foreign(number as u8);
+        number += 1;
+    }
+    table
+}
+
+/// The article's group of the issuer. Any two provinces count as one class.
 #[derive(Clone, Copy, Debug, PartialEq, Eq)]
 pub enum Class {
-    /// The Government of Canada.
-    Canada,
-    /// One of the ten provinces.
+    /// Group I: Canada, the United States or the United Kingdom.
+    National,
+    /// Group II: one of the ten provinces.
     Province,
+}
+
+/// Among whom a holding is paired.
+#[derive(Clone, Copy, Debug, PartialEq, Eq)]
+pub enum Market {
+    /// Paragraph 2: Canada and the provinces, in Canadian dollars.
+    Domestic,
+    /// Paragraph 4: one government in one foreign currency. There are [`Market::FOREIGN`] of these,
+    /// numbered from 0.
+    Foreign(u8),
+    /// Neither paragraph: a province in a foreign currency, another government in Canadian dollars.
+    Unpaired,
+}
+
+impl Market {
+    /// How many governments in foreign currencies there are.
+    pub const FOREIGN: usize = GOVERNMENTS.len() * FOREIGN_CURRENCIES.len();
 }
 
 /// What the article asks of one holding.
@@ -61,20 +106,23 @@ pub struct Position {
     pub class: Class,
     /// Whether it is a bond or debenture, not a strip.
     pub bond: bool,
+    /// Among whom it is paired.
+    pub market: Market,
 }
 
 impl Position {
     /// The position of a holding whose numbers are in their ranges.
     #[must_use]
+    #[inline]
     pub fn of(holding: &Row) -> Position {
         let period = PERIOD_ENDS
             .iter()
             .filter(|end| holding.days > **end)
             .count();
-        let class = if holding.issuer == 0 {
-            Class::Canada
-        } else {
+        let class = if PROVINCES.contains(&holding.issuer) {
             Class::Province
+        } else {
+            Class::National
         };
         let bond = holding.kind == 0;
         let multiple = match (bond, holding.days >= TWENTY_YEARS) {
@@ -92,13 +140,19 @@ impl Position {
             period: period as u8,
             class,
             bond,
+            market: MARKETS[holding.currency as usize][holding.issuer as usize],
         }
     }
 }
 
 /// Whether a long and a short may be paired.
 pub(crate) fn may_pair(one: &Position, other: &Position) -> bool {
-    one.period == other.period && !(one.bond && other.bond)
+    let kinds = match one.market {
+        Market::Domestic => !(one.bond && other.bond),
+        Market::Foreign(_) => one.bond != other.bond,
+        Market::Unpaired => false,
+    };
+    kinds && one.market == other.market && one.period == other.period
 }
 
 /// The rate of a pair that is allowed, in units per cent; nothing where it is not.
@@ -128,7 +182,7 @@ mod tests {
     use super::{Position, pair_rate, saving_rate};
     use crate::Row;
 
-    fn position(kind: u64, issuer: u64, days: u64) -> Position {
+    fn position_in(currency: u64, kind: u64, issuer: u64, days: u64) -> Position {
         let (side, value) = (0, 1);
         Position::of(&Row {
             side,
@@ -136,7 +190,12 @@ mod tests {
             issuer,
             days,
             value,
+            currency,
         })
+    }
+
+    fn position(kind: u64, issuer: u64, days: u64) -> Position {
+        position_in(0, kind, issuer, days)
     }
 
     #[test]
@@ -171,5 +230,28 @@ mod tests {
         );
         let longest = position(2, 1, 36_500);
         assert_eq!(saving_rate(&longest, &longest), Some(43_800));
+    }
+
+    #[test]
+    fn a_pair_in_a_foreign_currency_follows_its_rule() {
+        for currency in [1, 2] {
+            for issuer in [0, 11, 12] {
+                let bond = position_in(currency, 0, issuer, 8_000);
+                let strip = position_in(currency, 2, issuer, 5_000);
+                assert_eq!(pair_rate(&bond, &strip), Some(2_920));
+                assert_eq!(saving_rate(&strip, &bond), Some(11_680));
+                assert_eq!(pair_rate(&strip, &strip), None);
+                assert_eq!(pair_rate(&bond, &bond), None);
+                for (other_currency, other_issuer) in
+                    [(0, issuer), (3 - currency, issuer), (currency, 7)]
+                {
+                    let other = position_in(other_currency, 2, other_issuer, 5_000);
+                    assert_eq!(pair_rate(&bond, &other), None);
+                }
+            }
+        }
+        let (bond, strip) = (position(0, 11, 8_000), position(1, 11, 8_000));
+        assert_eq!((bond.rate, strip.rate), (5_840, 17_520));
+        assert_eq!(pair_rate(&bond, &strip), None);
     }
 }

@@ -8,6 +8,7 @@ use crate::print;
 
 mod books;
 mod fields;
+mod foreign;
 mod grammar;
 mod judged;
 mod limits;
@@ -30,6 +31,7 @@ pub struct Case {
 pub fn all() -> Vec<Case> {
     let mut list = List::default();
     paper::add(&mut list);
+    foreign::add(&mut list);
     judged::add(&mut list);
     grammar::add(&mut list);
     fields::add(&mut list);

@@ -4,10 +4,10 @@ use std::hint::select_unpredictable;
 
 use margin_host::Refusal;
 
-use crate::article::{Class, Position};
+use crate::article::{Class, Market, Position};
 use crate::plain::Entry;
 
-/// A short, as far as cover asks, side by side with the others of its period.
+/// A short, as far as cover asks, side by side with the others of its group.
 #[derive(Clone, Copy)]
 struct Short {
     rate: u64,
@@ -22,7 +22,7 @@ const NOBODY: Short = Short {
     rate: 0,
     price: 0,
     number: 0,
-    class: Class::Canada,
+    class: Class::National,
     bond: false,
 };
 
@@ -38,12 +38,30 @@ impl Short {
     }
 }
 
+const PERIODS: usize = 5;
+/// One group in each period for paragraph 2; for paragraph 4 one of bonds and one of strips for each
+/// government and currency.
+const GROUPS: usize = PERIODS * (1 + 2 * Market::FOREIGN);
+
+/// The group of the shorts in this position's market and period, in a foreign currency of its bonds or of
+/// its strips.
+fn group(position: &Position, bonds: bool) -> Option<usize> {
+    let kinds = match position.market {
+        Market::Domestic => 0,
+        Market::Foreign(number) => 1 + 2 * usize::from(number) + usize::from(bonds),
+        Market::Unpaired => return None,
+    };
+    Some(PERIODS * kinds + usize::from(position.period))
+}
+
 /// Looks at every allowed pair, lowest long first and its shorts from the lowest.
 pub(super) fn cover(entries: &[Entry]) -> Result<(), Refusal> {
-    let (shorts, starts) = shorts_by_period(entries);
+    if !entries.iter().any(|entry| entry.short) {
+        return Ok(());
+    }
+    let shorts = Shorts::of(entries);
     for (number, long) in entries.iter().enumerate().filter(|(_, entry)| !entry.short) {
-        let period = usize::from(long.position.period);
-        let partners = &shorts[starts[period]..starts[period + 1]];
+        let partners = shorts.partners(&long.position);
         let uncovered = |short: &&Short| long.price + short.price < needed(&long.position, short);
         if let Some(short) = partners.iter().find(uncovered) {
             return Err(Refusal::PairNotCovered {
@@ -65,56 +83,96 @@ fn needed(long: &Position, short: &Short) -> u64 {
     select_unpredictable(long.bond & short.bond, 0, sum - pair)
 }
 
-/// The shorts grouped by period and in order within each, and where each group starts.
-fn shorts_by_period(entries: &[Entry]) -> (Vec<Short>, [usize; 6]) {
-    let mut starts = [0; 6];
-    for entry in entries.iter().filter(|entry| entry.short) {
-        starts[usize::from(entry.position.period) + 1] += 1;
+/// The shorts by group and in order within each, and where each group starts and ends.
+struct Shorts {
+    shorts: Vec<Short>,
+    starts: [u16; GROUPS],
+    ends: [u16; GROUPS],
+}
+
+impl Shorts {
+    fn of(entries: &[Entry]) -> Shorts {
+        let mut ends = [0; GROUPS];
+        let mut used = 0;
+        for (_, _, group) in grouped(entries) {
+            ends[group] += 1;
+            used = used.max(group + 1);
+        }
+        let mut starts = [0; GROUPS];
+        let mut count = 0;
+        for group in 0..used {
+            starts[group] = count;
+            count += std::mem::replace(&mut ends[group], count);
+        }
+        let mut shorts = vec![NOBODY; usize::from(count)];
+        for (number, entry, group) in grouped(entries) {
+            shorts[usize::from(ends[group])] = Short::of(number, &entry.position, entry.price);
+            ends[group] += 1;
+        }
+        Shorts {
+            shorts,
+            starts,
+            ends,
+        }
     }
-    for period in 0..5 {
-        starts[period + 1] += starts[period];
+
+    /// The shorts that a long may be paired with, and in Canadian dollars other bonds beside a bond.
+    fn partners(&self, long: &Position) -> &[Short] {
+        let Some(group) = group(long, !long.bond) else {
+            return &[];
+        };
+        &self.shorts[usize::from(self.starts[group])..usize::from(self.ends[group])]
     }
-    let mut next = starts;
-    let mut shorts = vec![NOBODY; starts[5]];
-    for (number, entry) in entries.iter().enumerate().filter(|(_, entry)| entry.short) {
-        let period = usize::from(entry.position.period);
-        shorts[next[period]] = Short::of(number, &entry.position, entry.price);
-        next[period] += 1;
-    }
-    (shorts, starts)
+}
+
+/// The shorts that can be paired, with their numbers and groups.
+fn grouped(entries: &[Entry]) -> impl Iterator<Item = (usize, &Entry, usize)> {
+    let shorts = entries.iter().enumerate().filter(|(_, entry)| entry.short);
+    shorts.filter_map(|(number, entry)| {
+        let position = &entry.position;
+        group(position, position.bond).map(|group| (number, entry, group))
+    })
 }
 
 #[cfg(test)]
 mod tests {
-    use super::{Short, needed};
+    use super::{Short, group, needed};
     use crate::{Position, Row, saving_rate};
 
     fn positions() -> Vec<Position> {
         let mut positions = Vec::new();
         for days in [1, 2, 364, 365, 366, 1_095, 2_555, 4_015, 5_000, 7_300] {
-            for (kind, issuer) in [(0, 0), (1, 0), (2, 0), (0, 1), (1, 5), (2, 10)] {
-                let (side, value) = (0, 1);
-                positions.push(Position::of(&Row {
-                    side,
-                    kind,
-                    issuer,
-                    days,
-                    value,
-                }));
+            for kind in 0..3 {
+                for issuer in [0, 1, 5, 10, 11, 12] {
+                    for currency in 0..3 {
+                        let (side, value) = (0, 1);
+                        positions.push(Position::of(&Row {
+                            side,
+                            kind,
+                            issuer,
+                            days,
+                            value,
+                            currency,
+                        }));
+                    }
+                }
             }
         }
         positions
     }
 
     #[test]
-    fn needed_is_the_saving_rate() {
+    fn needed_of_a_group_is_the_saving_rate() {
         for long in positions() {
-            for short in positions()
-                .iter()
-                .filter(|short| short.period == long.period)
-            {
-                let rate = saving_rate(&long, short).unwrap_or(0);
-                assert_eq!(needed(&long, &Short::of(0, short, 0)), rate);
+            let partners = group(&long, !long.bond);
+            for short in positions() {
+                let together = partners.is_some() && partners == group(&short, short.bond);
+                let needed = if together {
+                    needed(&long, &Short::of(0, &short, 0))
+                } else {
+                    0
+                };
+                assert_eq!(needed, saving_rate(&long, &short).unwrap_or(0));
             }
         }
     }

@@ -7,4 +7,4 @@ mod records;
 
 pub use lent::margin_read;
 pub use printer::print;
-pub use reader::{FIELDS, ISSUERS, KINDS, MOST_BYTES, SIDES, read};
+pub use reader::{CURRENCIES, FIELDS, ISSUERS, KINDS, MOST_BYTES, SIDES, read};

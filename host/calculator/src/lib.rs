@@ -1,5 +1,5 @@
-//! An independent calculator, written from document 01, the customer's scope, and the article's text
-//! alone. It shares nothing with the proved crates, and the tests hold the one against the other.
+//! An independent calculator, written from the customer's papers, document 01 with the scope and document 02
+//! with what was asked for later, and from the article's text alone. It shares nothing with the proved crates, and the tests hold the one against the other.
 //!
 //! [`margin_check`] says what the check must return and what it must leave in every lent list, byte for
 //! byte, and [`margin_read`] the same of the file's reader. [`print()`] says what the program prints for
@@ -20,8 +20,8 @@ pub mod samples;
 mod sheet;
 pub mod texts;
 
-pub use article::{Class, Position, pair_rate, saving_rate};
-pub use file::{FIELDS, ISSUERS, KINDS, MOST_BYTES, SIDES, margin_read, print, read};
+pub use article::{Class, Market, Position, pair_rate, saving_rate};
+pub use file::{CURRENCIES, FIELDS, ISSUERS, KINDS, MOST_BYTES, SIDES, margin_read, print, read};
 pub use optimise::{Best, optimise};
 pub use plain::margin_check;
 pub use sheet::{Row, Rows, Sheet};

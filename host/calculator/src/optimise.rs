@@ -154,10 +154,16 @@ fn savings(positions: &[Position], longs: &Side, shorts: &Side) -> Vec<Option<u6
     savings
 }
 
-/// The position of each holding, or the refusal of the book: 1, 3, or 4 to 8.
+/// The position of each holding, or the refusal of the book: 1, 3, 4 to 8 or 23.
 fn positions(book: &Sheet) -> Result<Vec<Position>, Refusal> {
     let count = book.side.len();
-    let columns = [&book.kind, &book.issuer, &book.days, &book.value];
+    let columns = [
+        &book.kind,
+        &book.issuer,
+        &book.days,
+        &book.value,
+        &book.currency,
+    ];
     if columns.iter().any(|column| column.len() != count) {
         return Err(Refusal::ColumnsDiffer);
     }

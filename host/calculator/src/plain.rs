@@ -1,4 +1,4 @@
-//! The plain check: document 01 in ordinary Rust, on the same bytes as the exported check.
+//! The plain check: the papers in ordinary Rust, on the same bytes as the exported check.
 
 use std::cmp::Reverse;
 
@@ -10,7 +10,8 @@ use crate::cover::cover;
 
 pub(crate) const MOST_HOLDINGS: usize = 256;
 pub(crate) const MOST_LINES: usize = 512;
-const HIGHEST_ISSUER: u64 = 10;
+const HIGHEST_ISSUER: u64 = 12;
+const HIGHEST_CURRENCY: u64 = 2;
 const LONGEST_DAYS: u64 = 36_500;
 const HIGHEST_VALUE: u64 = 100_000_000_000;
 const HIGHEST_PRICE: u64 = 43_800;
@@ -80,7 +81,10 @@ fn lengths(
     ranking: usize,
     answer: usize,
 ) -> Result<(), Refusal> {
-    let of_holdings = [c.side, c.kind, c.issuer, c.days, c.value, c.price].map(<[u8]>::len);
+    let of_holdings = [
+        c.side, c.kind, c.issuer, c.days, c.value, c.price, c.currency,
+    ]
+    .map(<[u8]>::len);
     let of_lines = [c.long, c.short, c.amount].map(<[u8]>::len);
     let bytes = of_holdings[0];
     let line_bytes = of_lines[0];
@@ -99,7 +103,7 @@ fn lengths(
     }
 }
 
-/// Refusals 4 to 8 and 10 of each holding in turn.
+/// Refusals 4 to 8, 23 and 10 of each holding in turn.
 fn holdings(columns: &Columns<&[u8]>) -> Result<Vec<Entry>, Refusal> {
     let sides = numbers(columns.side);
     let mut entries = Vec::with_capacity(sides.len());
@@ -107,8 +111,10 @@ fn holdings(columns: &Columns<&[u8]>) -> Result<Vec<Entry>, Refusal> {
         .zip(numbers(columns.issuer))
         .zip(numbers(columns.days))
         .zip(numbers(columns.value))
-        .zip(numbers(columns.price));
-    for (number, (side, ((((kind, issuer), days), value), price))) in sides.zip(others).enumerate()
+        .zip(numbers(columns.price))
+        .zip(numbers(columns.currency));
+    for (number, (side, (((((kind, issuer), days), value), price), currency))) in
+        sides.zip(others).enumerate()
     {
         let holding = Row {
             side,
@@ -116,6 +122,7 @@ fn holdings(columns: &Columns<&[u8]>) -> Result<Vec<Entry>, Refusal> {
             issuer,
             days,
             value,
+            currency,
         };
         in_range(number as u64, &holding, price)?;
         entries.push(Entry {
@@ -129,7 +136,7 @@ fn holdings(columns: &Columns<&[u8]>) -> Result<Vec<Entry>, Refusal> {
     Ok(entries)
 }
 
-/// Refusals 4 to 8 and 10 of one holding.
+/// Refusals 4 to 8, 23 and 10 of one holding, in this order.
 pub(crate) fn in_range(number: u64, holding: &Row, price: u64) -> Result<(), Refusal> {
     let refusal = if holding.side > 1 {
         Refusal::SideUnknown { holding: number }
@@ -141,6 +148,8 @@ pub(crate) fn in_range(number: u64, holding: &Row, price: u64) -> Result<(), Ref
         Refusal::DaysOutOfRange { holding: number }
     } else if !(1..=HIGHEST_VALUE).contains(&holding.value) {
         Refusal::ValueOutOfRange { holding: number }
+    } else if holding.currency > HIGHEST_CURRENCY {
+        Refusal::CurrencyUnknown { holding: number }
     } else if price > HIGHEST_PRICE {
         Refusal::PriceTooHigh { holding: number }
     } else {

@@ -77,16 +77,18 @@ pub struct Shape {
     pub days: &'static [(u64, u64)],
     /// Ranges of values.
     pub values: &'static [(u64, u64)],
+    /// The currencies.
+    pub currencies: &'static [u64],
     /// How many holdings are drawn before the rest repeats them.
     pub different: usize,
 }
 
-/// A shape with everything in it; the others narrow it.
+/// A shape with everything in it, what is paired by either paragraph and what is not; the others narrow it.
 pub const ANY: Shape = Shape {
-    name: "any",
+    name: "any currency",
     sides: &[0, 1],
     kinds: &[0, 1, 2],
-    issuers: &[0, 0, 0, 1, 2, 3, 4, 5, 6, 7, 8, 9, 10],
+    issuers: &[0, 0, 0, 0, 1, 4, 7, 10, 11, 11, 12, 12],
     days: &[
         (1, 365),
         (366, 1_095),
@@ -96,7 +98,24 @@ pub const ANY: Shape = Shape {
         (7_300, 36_500),
     ],
     values: &[(1, 10), (1, 10_000), (1, 100_000_000_000)],
+    currencies: &[0, 0, 1, 1, 2],
     different: usize::MAX,
+};
+
+/// What paragraph 2 pairs: Canada and the provinces in CAD.
+pub const DOMESTIC: Shape = Shape {
+    name: "any",
+    issuers: &[0, 0, 0, 1, 2, 3, 4, 5, 6, 7, 8, 9, 10],
+    currencies: &[0],
+    ..ANY
+};
+
+/// What paragraph 4 pairs: Canada, US and GB in USD and GBP.
+pub const FOREIGN: Shape = Shape {
+    name: "foreign",
+    issuers: &[0, 11, 12],
+    currencies: &[1, 2],
+    ..ANY
 };
 
 const HIGHEST_VALUE: u64 = 100_000_000_000;
@@ -111,96 +130,156 @@ const ENDS: &[(u64, u64)] = &[
 ];
 
 /// Books of many kinds.
-pub const SHAPES: [Shape; 18] = [
-    ANY,
+pub const SHAPES: [Shape; 29] = [
+    DOMESTIC,
     Shape {
         name: "ends of periods",
         days: ENDS,
-        ..ANY
+        ..DOMESTIC
     },
     Shape {
         name: "first period",
         days: &[(1, 365)],
-        ..ANY
+        ..DOMESTIC
     },
     Shape {
         name: "second period",
         days: &[(366, 1_095)],
-        ..ANY
+        ..DOMESTIC
     },
     Shape {
         name: "third period",
         days: &[(1_096, 2_555)],
-        ..ANY
+        ..DOMESTIC
     },
     Shape {
         name: "fourth period",
         days: &[(2_556, 4_015)],
-        ..ANY
+        ..DOMESTIC
     },
     Shape {
         name: "fifth period",
         days: &[(4_016, 36_500)],
-        ..ANY
+        ..DOMESTIC
     },
     Shape {
         name: "about 20 years",
         days: &[(7_298, 7_301)],
-        ..ANY
+        ..DOMESTIC
     },
     Shape {
         name: "Canada",
         issuers: &[0],
-        ..ANY
+        ..DOMESTIC
     },
     Shape {
         name: "provinces",
         issuers: &[1, 2, 3, 4, 5, 6, 7, 8, 9, 10],
-        ..ANY
+        ..DOMESTIC
     },
     Shape {
         name: "strips",
         kinds: &[1, 2],
         days: &[(1, 365), (4_016, 36_500)],
-        ..ANY
+        ..DOMESTIC
     },
     Shape {
         name: "bonds",
         kinds: &[0],
-        ..ANY
+        ..DOMESTIC
     },
     Shape {
         name: "one cent",
         values: &[(1, 1)],
         days: &[(1, 400)],
-        ..ANY
+        ..DOMESTIC
     },
     Shape {
         name: "highest value",
         values: &[(HIGHEST_VALUE, HIGHEST_VALUE)],
         days: ENDS,
-        ..ANY
+        ..DOMESTIC
     },
     Shape {
         name: "three different",
         different: 3,
         days: &[(4_016, 36_500)],
-        ..ANY
+        ..DOMESTIC
     },
     Shape {
         name: "all long",
         sides: &[0],
-        ..ANY
+        ..DOMESTIC
     },
     Shape {
         name: "all short",
         sides: &[1],
-        ..ANY
+        ..DOMESTIC
     },
     Shape {
         name: "few shorts",
         sides: &[0, 0, 0, 0, 1],
         days: &[(1, 365)],
+        ..DOMESTIC
+    },
+    ANY,
+    Shape {
+        name: "any currency, third period",
+        days: &[(1_096, 2_555)],
+        ..ANY
+    },
+    Shape {
+        name: "any currency, about 20 years",
+        days: &[(7_298, 7_301)],
+        ..ANY
+    },
+    Shape {
+        name: "any currency, highest value",
+        values: &[(HIGHEST_VALUE, HIGHEST_VALUE)],
+        days: ENDS,
+        ..ANY
+    },
+    FOREIGN,
+    Shape {
+        name: "US in USD",
+        issuers: &[11],
+        currencies: &[1],
+        days: &[(1, 365), (4_016, 36_500)],
+        ..ANY
+    },
+    Shape {
+        name: "fifth period in GBP",
+        issuers: &[0, 12],
+        currencies: &[2],
+        days: &[(4_016, 36_500)],
+        ..ANY
+    },
+    Shape {
+        name: "Canada and US in CAD and USD",
+        issuers: &[0, 0, 11],
+        currencies: &[0, 1],
+        days: &[(4_016, 36_500)],
+        ..ANY
+    },
+    Shape {
+        name: "Canada in any currency",
+        issuers: &[0],
+        currencies: &[0, 1, 2],
+        days: &[(1, 365)],
+        ..ANY
+    },
+    Shape {
+        name: "provinces in any currency",
+        issuers: &[1, 7, 10],
+        currencies: &[0, 1, 2],
+        days: &[(366, 1_095)],
+        ..ANY
+    },
+    Shape {
+        name: "US and GB in any currency",
+        issuers: &[11, 12],
+        currencies: &[0, 1, 2],
+        days: &[(2_556, 4_015)],
         ..ANY
     },
 ];
@@ -216,6 +295,7 @@ pub fn holdings(random: &mut Random, shape: &Shape, size: usize) -> Vec<Row> {
                 issuer: random.pick(shape.issuers),
                 days: random.within(shape.days),
                 value: random.within(shape.values),
+                currency: random.pick(shape.currencies),
             }
         } else {
             random.pick(&book[..shape.different])

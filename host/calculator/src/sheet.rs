@@ -5,19 +5,21 @@ use margin_host::{Columns, Line};
 /// The columns of a book and of a proposal on it.
 pub type Sheet = Columns<Vec<u64>>;
 
-/// One holding in document 01's numbers.
+/// One holding in the papers' numbers.
 #[derive(Clone, Copy, Debug, PartialEq, Eq)]
 pub struct Row {
     /// 0 long, 1 short.
     pub side: u64,
     /// 0 bond or debenture, 1 stripped coupon, 2 residual.
     pub kind: u64,
-    /// 0 Canada, 1 to 10 a province.
+    /// 0 Canada, 1 to 10 a province, 11 the United States, 12 the United Kingdom.
     pub issuer: u64,
     /// Days to maturity.
     pub days: u64,
-    /// Market value in cents.
+    /// Market value in Canadian cents.
     pub value: u64,
+    /// 0 CAD, 1 USD, 2 GBP.
+    pub currency: u64,
 }
 
 /// A sheet by its holdings and lines.
@@ -54,6 +56,7 @@ impl Rows for Sheet {
             issuer: self.issuer[number],
             days: self.days[number],
             value: self.value[number],
+            currency: self.currency[number],
         }
     }
 
@@ -64,6 +67,7 @@ impl Rows for Sheet {
         self.days.push(row.days);
         self.value.push(row.value);
         self.price.push(price);
+        self.currency.push(row.currency);
     }
 
     fn add_line(&mut self, line: Line) {

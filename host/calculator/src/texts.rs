@@ -3,26 +3,33 @@
 //! A record is a text without its CRLF, so that it can be changed before it goes into a file. The
 //! empty fields that end a record are added here alone: the rest names the filled ones.
 
-use crate::{FIELDS, ISSUERS, KINDS, Rows, SIDES, Sheet};
+use crate::{CURRENCIES, FIELDS, ISSUERS, KINDS, Rows, SIDES, Sheet};
 
 /// The records of the file that document 01 prints.
 pub const PRINTED: [&str; 5] = [
-    "H,L,C,CA,2000,1000000,0",
-    "H,S,B,CA,2000,600000,5840",
-    "H,S,R,ON,2000,300000,6570",
-    "P,0,1,600000,,,",
-    "P,0,2,300000,,,",
+    "H,L,C,CA,2000,1000000,0,CAD",
+    "H,S,B,CA,2000,600000,5840,CAD",
+    "H,S,R,ON,2000,300000,6570,CAD",
+    "P,0,1,600000,,,,",
+    "P,0,2,300000,,,,",
 ];
 
 /// Fields of a holding that are filled, its letter among them; the others are empty.
-const FILLED_OF_HOLDING: usize = 7;
+const FILLED_OF_HOLDING: usize = 8;
 /// Fields of a line that are filled, its letter among them; the others are empty.
 const FILLED_OF_LINE: usize = 4;
 
-/// The record of a holding with these fields after its letter.
+/// The record of a holding in CAD with these fields after its letter and before its currency.
 #[must_use]
 pub fn holding(fields: &str) -> String {
-    format!("H,{fields}{}", ",".repeat(FIELDS - FILLED_OF_HOLDING))
+    holding_in("CAD", fields)
+}
+
+/// The record of a holding in a currency with these fields after its letter and before its currency.
+#[must_use]
+pub fn holding_in(currency: &str, fields: &str) -> String {
+    let empty = ",".repeat(FIELDS - FILLED_OF_HOLDING);
+    format!("H,{fields},{currency}{empty}")
 }
 
 /// The record of a line with these fields after its letter.
@@ -31,7 +38,7 @@ pub fn line(fields: &str) -> String {
     format!("P,{fields}{}", ",".repeat(FIELDS - FILLED_OF_LINE))
 }
 
-/// The file of holdings and lines with these fields after their letters.
+/// The file of holdings in CAD and lines with these fields after their letters.
 #[must_use]
 pub fn file(holdings: &[&str], lines: &[&str]) -> Vec<u8> {
     let mut records: Vec<String> = holdings.iter().map(|fields| holding(fields)).collect();
@@ -85,7 +92,7 @@ pub fn quoted_at(record: &str, places: &[usize]) -> String {
 ///
 /// # Panics
 ///
-/// If a side, kind or issuer is unknown, or the columns differ in length.
+/// If a side, kind, issuer or currency is unknown, or the columns differ in length.
 #[must_use]
 pub fn records(sheet: &Sheet) -> Vec<String> {
     let mut records = Vec::with_capacity(sheet.side.len() + sheet.long.len());
@@ -94,10 +101,10 @@ pub fn records(sheet: &Sheet) -> Vec<String> {
         let side = SIDES[row.side as usize];
         let kind = KINDS[row.kind as usize];
         let issuer = ISSUERS[row.issuer as usize];
+        let currency = CURRENCIES[row.currency as usize];
         let (days, value) = (row.days, row.value);
-        records.push(holding(&format!(
-            "{side},{kind},{issuer},{days},{value},{price}"
-        )));
+        let fields = format!("{side},{kind},{issuer},{days},{value},{price}");
+        records.push(holding_in(currency, &fields));
     }
     for ((long, short), amount) in sheet.long.iter().zip(&sheet.short).zip(&sheet.amount) {
         records.push(line(&format!("{long},{short},{amount}")));

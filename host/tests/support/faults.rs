@@ -11,6 +11,10 @@ pub const PAIRS: u64 = 6;
 pub const LONE_LONG: u64 = 12;
 /// All holdings of the sound sheet: after the lone long comes a lone short.
 pub const HOLDINGS: u64 = 14;
+/// The numbers that the check can give.
+pub const NUMBERS: [u64; 18] = [
+    1, 2, 3, 4, 5, 6, 7, 8, 9, 10, 11, 12, 13, 14, 15, 16, 17, 23,
+];
 /// The saving rate of a pair of the sound sheet is twice this, and this the price on each leg.
 const RATE: u64 = 8_760;
 
@@ -26,7 +30,7 @@ impl Fault {
     /// A fault at this holding or line; the second place is for 16 only.
     pub fn at(number: u64, place: u64, second: u64) -> Fault {
         let (place, second) = match number {
-            4..=8 | 10..=15 => (place, 0),
+            4..=8 | 10..=15 | 23 => (place, 0),
             16 => (place, second),
             _ => (0, 0),
         };
@@ -40,25 +44,26 @@ impl Fault {
     /// How many places there are for a fault of this number.
     pub fn places(number: u64) -> u64 {
         match number {
-            4..=8 | 10 => HOLDINGS,
+            4..=8 | 10 | 23 => HOLDINGS,
             11..=16 => PAIRS,
             _ => 1,
         }
     }
 
-    /// The paper's order: 1, 3, 9, 2; each holding in turn; each line in turn; 16; 17.
+    /// The papers' order: 1, 3, 9, 2; each holding in turn, 23 after 8; each line in turn; 16; 17.
     pub fn turn(&self) -> (u64, u64, u64) {
         let group = match self.number {
             1 => 0,
             3 => 1,
             9 => 2,
             2 => 3,
-            4..=8 | 10 => 4,
+            4..=8 | 10 | 23 => 4,
             11..=15 => 5,
             16 => 6,
             _ => 7,
         };
-        (group, self.place, self.number)
+        let number = if self.number == 23 { 9 } else { self.number };
+        (group, self.place, number)
     }
 
     /// What the check must say to it.
@@ -75,6 +80,7 @@ pub fn sound() -> Sheet {
         issuer: 7,
         days: 2_000,
         value: 1_000,
+        currency: 0,
     };
     let bond = |side| Row {
         side,
@@ -82,6 +88,7 @@ pub fn sound() -> Sheet {
         issuer: 7,
         days: 3_000,
         value: 500,
+        currency: 0,
     };
     let mut sheet = Sheet::default();
     for side in [0, 1] {
@@ -127,7 +134,7 @@ fn plant_in_sheet(sheet: &mut Sheet, fault: &Fault, all: &[Fault]) {
         3 => lengthen_book(sheet),
         4 => sheet.side[at] = 2,
         5 => sheet.kind[at] = 3,
-        6 => sheet.issuer[at] = 11,
+        6 => sheet.issuer[at] = 13,
         7 => sheet.days[at] = if at.is_multiple_of(2) { 0 } else { 36_501 },
         8 => {
             sheet.value[at] = if at.is_multiple_of(2) {
@@ -138,6 +145,7 @@ fn plant_in_sheet(sheet: &mut Sheet, fault: &Fault, all: &[Fault]) {
         }
         9 => lengthen_lines(sheet),
         10 => sheet.price[at] = 43_801,
+        23 => sheet.currency[at] = if at.is_multiple_of(2) { 3 } else { u64::MAX },
         // The leg that a wrong side on the same line leaves free.
         11 if all.contains(&Fault::at(12, fault.place, 0)) => sheet.long[at] = 1_000,
         11 => sheet.short[at] = 1_000,
@@ -168,6 +176,7 @@ fn lengthen_book(sheet: &mut Sheet) {
         issuer: 7,
         days: 3_000,
         value: 500,
+        currency: 0,
     };
     while sheet.side.len() < 257 {
         sheet.add_holding(bond, 0);

@@ -8,20 +8,20 @@ use margin_calculator::samples::Random;
 use margin_calculator::{Sheet, margin_read};
 use margin_host::{Columns, raw};
 
-use super::lent::{NAMES, pattern};
+use super::lent::{NAMES, OF_HOLDINGS, pattern};
 
 /// Bytes before and after each list that nobody may write; odd, so that few lists are aligned.
 const GUARD: usize = 13;
-/// Lists that have room for every file.
-pub const ROOM: [usize; 9] = [
-    2_048, 2_048, 2_048, 2_048, 2_048, 2_048, 4_096, 4_096, 4_096,
-];
+/// The lists that a reader fills.
+pub const LISTS: usize = NAMES.len();
+/// The answer comes after the text and the lists.
+const ANSWER: usize = 1 + LISTS;
 
-/// What a reader gets: a text, and the lengths in bytes of the nine lists and of the answer.
+/// What a reader gets: a text, and the lengths in bytes of the lists and of the answer.
 #[derive(Clone, Debug)]
 pub struct File {
     pub text: Vec<u8>,
-    pub lists: [usize; 9],
+    pub lists: [usize; LISTS],
     pub answer: usize,
 }
 
@@ -29,7 +29,7 @@ pub struct File {
 #[derive(Clone, PartialEq, Eq)]
 struct Memory {
     bytes: Vec<u8>,
-    spans: [Range<usize>; 11],
+    spans: [Range<usize>; ANSWER + 1],
 }
 
 /// What a reader leaves: its number, and all memory that was lent to it.
@@ -44,24 +44,21 @@ type Call = fn(&[u8], &mut Columns<&mut [u8]>, &mut [u8]) -> u64;
 impl File {
     /// A text, with lists that have room for every file.
     pub fn of(text: &[u8]) -> File {
-        File {
-            text: text.to_vec(),
-            lists: ROOM,
-            answer: 16,
-        }
+        File::exact(text, 256, 512)
     }
 
     /// A text, with lists that are as long as the file of so many holdings and lines asks.
     pub fn exact(text: &[u8], holdings: usize, lines: usize) -> File {
-        let mut file = File::of(text);
-        for (at, length) in file.lists.iter_mut().enumerate() {
-            *length = 8 * if at < 6 { holdings } else { lines };
+        let entries = |at| if at < OF_HOLDINGS { holdings } else { lines };
+        File {
+            text: text.to_vec(),
+            lists: std::array::from_fn(|at| 8 * entries(at)),
+            answer: 16,
         }
-        file
     }
 
     fn memory(&self) -> Memory {
-        let mut spans = [const { 0..0 }; 11];
+        let mut spans = [const { 0..0 }; ANSWER + 1];
         let mut end = 1 + self.answer % 7;
         let lengths = [self.text.len()].into_iter().chain(self.lists);
         for (span, length) in spans.iter_mut().zip(lengths.chain([self.answer])) {
@@ -96,13 +93,13 @@ impl Memory {
 }
 
 impl Read {
-    /// One of the nine lists.
+    /// One of the lists.
     pub fn list(&self, at: usize) -> &[u8] {
         self.memory.part(1 + at)
     }
 
     pub fn answer(&self) -> &[u8] {
-        self.memory.part(10)
+        self.memory.part(ANSWER)
     }
 
     /// The two numbers of an answer that has them.
@@ -117,7 +114,7 @@ impl Read {
         let (holdings, lines) = self.figures().expect("a file that is read has an answer");
         let mut sheet = Sheet::default();
         for (at, list) in sheet.each_mut().into_array().into_iter().enumerate() {
-            let count = if at < 6 { holdings } else { lines } as usize;
+            let count = if at < OF_HOLDINGS { holdings } else { lines } as usize;
             let entries = self.list(at).as_chunks::<8>().0;
             list.extend(
                 entries[..count]
@@ -131,12 +128,17 @@ impl Read {
     /// Whether only the entries of a file that is read, and the first 16 bytes of an answer that has
     /// them, differ from what was lent.
     fn keeps_what_it_must(&self, mut before: Memory) -> bool {
-        let mut written = Vec::with_capacity(10);
+        let mut written = Vec::with_capacity(ANSWER);
         if let Some((holdings, lines)) = self.figures() {
-            written.push((10, 16));
+            written.push((ANSWER, 16));
             if self.number == 0 {
-                written.extend((1..=6).map(|at| (at, 8 * holdings as usize)));
-                written.extend((7..=9).map(|at| (at, 8 * lines as usize)));
+                let lists = File::exact(&[], holdings as usize, lines as usize).lists;
+                written.extend(
+                    lists
+                        .into_iter()
+                        .enumerate()
+                        .map(|(at, length)| (1 + at, length)),
+                );
             }
         }
         for (at, length) in written {

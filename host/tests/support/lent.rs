@@ -8,14 +8,16 @@ use margin_host::Columns;
 /// Bytes on each side of a list that nobody may write.
 const GUARD: usize = 24;
 /// The names of the columns in the order of the call.
-pub const NAMES: [&str; 9] = [
-    "side", "kind", "issuer", "days", "value", "price", "long", "short", "amount",
+pub const NAMES: [&str; 10] = [
+    "side", "kind", "issuer", "days", "value", "price", "currency", "long", "short", "amount",
 ];
+/// How many of them are columns of the holdings; the rest are columns of the lines.
+pub const OF_HOLDINGS: usize = 7;
 
 /// The bytes that a call gets. The lists are filled with a pattern.
 #[derive(Clone)]
 pub struct Lent {
-    pub columns: [Vec<u8>; 9],
+    pub columns: [Vec<u8>; NAMES.len()],
     pub remainder: Vec<u8>,
     pub ranking: Vec<u8>,
     pub answer: Vec<u8>,

@@ -1,4 +1,4 @@
-//! What all tests share: lent bytes, the comparison with the calculator, and faults to plant.
+//! What all tests share: lent bytes, the comparison with the calculator, faults to plant, and the papers' numbers.
 
 // Each test file takes what it needs.
 #![allow(dead_code)]
@@ -6,6 +6,7 @@
 pub mod faults;
 pub mod file;
 pub mod lent;
+pub mod sheets;
 
 use std::fmt::{Arguments, Display};
 use std::io::Write;
@@ -15,10 +16,10 @@ use margin_calculator::samples::Random;
 use margin_calculator::{Sheet, margin_check};
 use margin_host::raw;
 
-/// One of the nine columns of a sheet, in the order in which they are lent.
+/// One of the columns of a sheet, in the order in which they are lent.
 pub fn column(sheet: &mut Sheet, at: usize) -> &mut Vec<u64> {
     let columns = sheet.each_mut().into_array();
-    columns.into_iter().nth(at).expect("there are nine")
+    columns.into_iter().nth(at).expect("there are ten")
 }
 
 /// A test's books: where its random numbers start, and how many books it has compared.

@@ -2,7 +2,7 @@
 
 use super::{Files, List};
 use crate::Sheet;
-use crate::samples::{ANY, Random, SHAPES, best_sheet, holdings, split_lines};
+use crate::samples::{ANY, DOMESTIC, Random, SHAPES, best_sheet, holdings, split_lines};
 use crate::texts::{file, holding, joined, quoted, records, text_of};
 
 const SEED: u64 = 0x0C01;
@@ -50,13 +50,16 @@ pub(super) fn add(list: &mut List) {
         );
     }
     for size in [1, 2, 3, 8, 34, 89, 255, 256] {
-        let sheet = best_sheet(&holdings(&mut random, &ANY, size));
+        let sheet = best_sheet(&holdings(&mut random, &DOMESTIC, size));
         list.add(
             format!("best proposal of {size} holdings"),
             text_of(&sheet),
             "",
         );
     }
+    let sheet = best_sheet(&holdings(&mut random, &ANY, 256));
+    let title = "best proposal of 256 holdings in any currency";
+    list.add(title, text_of(&sheet), "");
     full(list, &mut random);
     next_to_best(list, &mut random);
     ties(list);
@@ -64,7 +67,7 @@ pub(super) fn add(list: &mut List) {
 
 /// As many holdings and lines as there may be, every field in quotes.
 fn full(list: &mut List, random: &mut Random) {
-    let mut sheet = best_sheet(&holdings(random, &ANY, 256));
+    let mut sheet = best_sheet(&holdings(random, &DOMESTIC, 256));
     split_lines(&mut sheet, 512);
     let all: Vec<String> = records(&sheet)
         .iter()
@@ -75,9 +78,8 @@ fn full(list: &mut List, random: &mut Random) {
 
 /// Best proposals with one number changed a little.
 fn next_to_best(list: &mut List, random: &mut Random) {
-    for round in 0..9 {
-        let shape = SHAPES[2 * round];
-        let mut sheet = best_sheet(&holdings(random, &shape, 12));
+    for shape in SHAPES.iter().step_by(2) {
+        let mut sheet = best_sheet(&holdings(random, shape, 12));
         let what = change(random, &mut sheet);
         list.add(
             format!("next to best, {}: {what}", shape.name),
@@ -91,7 +93,7 @@ fn change(random: &mut Random, sheet: &mut Sheet) -> &'static str {
     let (names, first) = if sheet.long.is_empty() || random.below(2) == 0 {
         (&["days", "value", "price"][..], 3)
     } else {
-        (&["long", "short", "amount"][..], 6)
+        (&["long", "short", "amount"][..], 7)
     };
     let at = random.place(names.len());
     let column = sheet
@@ -99,7 +101,7 @@ fn change(random: &mut Random, sheet: &mut Sheet) -> &'static str {
         .into_array()
         .into_iter()
         .nth(first + at)
-        .expect("there are nine");
+        .expect("there are ten");
     let entry = random.place(column.len());
     column[entry] = match random.below(3) {
         0 => column[entry] + 1,

@@ -2,8 +2,8 @@
 
 use super::List;
 use super::sound::{Change, FIRST, records, with, with_fields};
-use crate::texts::{holding, joined, line};
-use crate::{FIELDS, ISSUERS};
+use crate::texts::{holding, holding_in, joined, line};
+use crate::{CURRENCIES, FIELDS, ISSUERS};
 
 /// Letters that are none there, at the first, a middle and the last record.
 const LETTERS: [Change; 10] = [
@@ -54,6 +54,7 @@ pub(super) fn add(list: &mut List) {
         list.add(title, file, format!("X,21,{at},0"));
     }
     issuers(list);
+    currencies(list);
     for (at, field, name, text, first) in NUMERALS {
         let title = format!("'{text}' as {name}");
         list.add(title, with_fields(&[(at, field, text)]), first);
@@ -64,10 +65,23 @@ pub(super) fn add(list: &mut List) {
 
 fn issuers(list: &mut List) {
     let all = ISSUERS.map(|issuer| holding(&format!("L,B,{issuer},400,146000,0")));
-    list.add("all eleven issuers", joined(&all), "M,6607960000,45260");
-    for issuer in ["YT", "NT", "NU", "on", "C", "ON ", ""] {
+    list.add("all thirteen issuers", joined(&all), "M,7034280000,48180");
+    for issuer in ["YT", "NT", "NU", "on", "C", "ON ", "UK", ""] {
         let file = with_fields(&[(4, 3, issuer)]);
         list.add(format!("21: '{issuer}' as the issuer"), file, "X,21,4,0");
+    }
+}
+
+fn currencies(list: &mut List) {
+    let all = CURRENCIES.map(|currency| holding_in(currency, "L,B,CA,400,146000,0"));
+    list.add("all three currencies", joined(&all), "M,639480000,4380");
+    for currency in ["EUR", "cad", "US", "USD ", ""] {
+        let file = with_fields(&[(4, 7, currency)]);
+        list.add(
+            format!("21: '{currency}' as the currency"),
+            file,
+            "X,21,4,0",
+        );
     }
 }
 

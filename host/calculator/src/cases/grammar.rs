@@ -3,7 +3,7 @@
 use super::List;
 use super::sound::{FIRST, records, with, with_fields};
 use crate::FIELDS;
-use crate::texts::{holding, joined, line, of_width, quoted, quoted_at};
+use crate::texts::{holding, holding_in, joined, line, of_width, quoted, quoted_at};
 
 /// Texts without a good record.
 #[rustfmt::skip]
@@ -20,7 +20,15 @@ const ALONE: [(&str, &str, &str); 6] = [
 type Order = (&'static str, Vec<(usize, String)>, &'static str);
 
 /// Records of the sound file, and to how many fields they are cut or filled up.
-const WIDTHS: [(usize, usize); 5] = [(0, FIELDS - 1), (5, FIELDS + 1), (9, 4), (0, 1), (9, 13)];
+const WIDTHS: [(usize, usize); 7] = [
+    (0, FIELDS - 1),
+    (5, FIELDS + 1),
+    (8, FIELDS - 1),
+    (8, FIELDS + 1),
+    (9, 4),
+    (0, 1),
+    (9, 13),
+];
 
 /// How a number of fields or commas is written in a title.
 const WORDS: [&str; 14] = [
@@ -32,8 +40,8 @@ pub(super) fn add(list: &mut List) {
     alone(list);
     line_ends(list);
     let sound = records();
-    let some = quoted_at(&sound[0], &[0, 2, 4, 6]);
-    let empty = quoted_at(&sound[8], &[1, 4, 6]);
+    let some = quoted_at(&sound[0], &[0, 2, 4, 6, 7]);
+    let empty = quoted_at(&sound[8], &[1, 4, 6, 7]);
     list.add(
         "some fields in quotes",
         with(&[(0, some), (8, empty)]),
@@ -62,7 +70,7 @@ fn alone(list: &mut List) {
     list.add(title, of_width("", FIELDS), "X,21,0,0");
     let in_quotes = quoted(&holding("L,C,CA,1,1,0"));
     list.add("a closing quote that ends the file", in_quotes, "M,6,1");
-    let open = holding("L,C,CA,1,1,\"0");
+    let open = holding_in("\"CAD", "L,C,CA,1,1,0");
     list.add("a quote at the end that never closes", open, "X,19,0,0");
 }
 

@@ -70,7 +70,7 @@ fn orders() -> [Order; 12] {
     ]
 }
 
-/// No file of 65,536 bytes is accepted: what is read has at most 37,120.
+/// No file of 65,536 bytes is accepted: what is read has at most 40,192.
 fn lengths(list: &mut List) {
     let (sound, price) = (joined(&records()), holding("L,C,CA,1,1,#"));
     let (before, after) = price.split_once('#').expect("the mark of the digits");

@@ -9,15 +9,17 @@ use crate::{Row, Rows, Sheet};
 /// A longer file is refused.
 pub const MOST_BYTES: usize = 65_536;
 /// The fields of every record.
-pub const FIELDS: usize = 7;
+pub const FIELDS: usize = 8;
 /// Long and short, in the order of their numbers.
 pub const SIDES: [&str; 2] = ["L", "S"];
 /// Bond, stripped coupon and residual, in the order of their numbers.
 pub const KINDS: [&str; 3] = ["B", "C", "R"];
-/// Canada and the provinces, in the order of their numbers.
-pub const ISSUERS: [&str; 11] = [
-    "CA", "AB", "BC", "MB", "NB", "NL", "NS", "ON", "PE", "QC", "SK",
+/// Canada, the provinces, the United States and the United Kingdom, in the order of their numbers.
+pub const ISSUERS: [&str; 13] = [
+    "CA", "AB", "BC", "MB", "NB", "NL", "NS", "ON", "PE", "QC", "SK", "US", "GB",
 ];
+/// The currencies by their ISO 4217 codes, in the order of their numbers.
+pub const CURRENCIES: [&str; 3] = ["CAD", "USD", "GBP"];
 /// The digits that a value or an amount may have, and those of all other numerals.
 const DIGITS_OF_CENTS: usize = 12;
 const DIGITS: usize = 6;
@@ -43,7 +45,9 @@ pub fn read(text: &[u8]) -> Result<Sheet, Refusal> {
     let mut record = 0;
     while let Some(found) = records.next() {
         let found = found.map_err(|IllFormed| Refusal::RecordIllFormed { record })?;
-        let fields = found.fields().ok_or(Refusal::NotSevenFields { record })?;
+        let fields = found
+            .fields()
+            .ok_or(Refusal::WrongNumberOfFields { record })?;
         match contents(fields).ok_or(Refusal::FieldNotOfItsSort { record })? {
             Contents::Holding(..) if !sheet.long.is_empty() => {
                 return Err(Refusal::HoldingAfterLine { record });
@@ -64,17 +68,18 @@ pub fn read(text: &[u8]) -> Result<Sheet, Refusal> {
 
 fn contents(fields: [&[u8]; FIELDS]) -> Option<Contents> {
     match fields {
-        [b"H", side, kind, issuer, days, value, price] => {
+        [b"H", side, kind, issuer, days, value, price, currency] => {
             let holding = Row {
                 side: place_among(&SIDES, side)?,
                 kind: place_among(&KINDS, kind)?,
                 issuer: place_among(&ISSUERS, issuer)?,
                 days: numeral(days, DIGITS)?,
                 value: numeral(value, DIGITS_OF_CENTS)?,
+                currency: place_among(&CURRENCIES, currency)?,
             };
             Some(Contents::Holding(holding, numeral(price, DIGITS)?))
         }
-        [b"P", long, short, amount, b"", b"", b""] => Some(Contents::Line(Line {
+        [b"P", long, short, amount, b"", b"", b"", b""] => Some(Contents::Line(Line {
             long: numeral(long, DIGITS)?,
             short: numeral(short, DIGITS)?,
             amount: numeral(amount, DIGITS_OF_CENTS)?,

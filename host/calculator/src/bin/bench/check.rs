@@ -2,7 +2,9 @@
 
 use std::hint::black_box;
 
-use margin_calculator::samples::{ANY, Random, Shape, best_sheet, holdings, split_lines};
+use margin_calculator::samples::{
+    ANY, DOMESTIC, FOREIGN, Random, Shape, best_sheet, holdings, split_lines,
+};
 use margin_calculator::{Row, Rows, Sheet, margin_check};
 use margin_host::{Columns, raw};
 
@@ -11,8 +13,11 @@ use crate::timing::{BATCHES, rates};
 
 type Call = fn(&Columns<&[u8]>, &mut [u8], &mut [u8], &mut [u8]) -> u64;
 
-/// Days of the first period alone.
-const ONE_PERIOD: &[(u64, u64)] = &[(1, 365)];
+/// Holdings in CAD in the first period alone.
+const ONE_PERIOD: Shape = Shape {
+    days: &[(1, 365)],
+    ..DOMESTIC
+};
 
 /// The lists that a call writes.
 #[derive(Clone, PartialEq, Eq)]
@@ -24,20 +29,28 @@ struct Lists {
 
 /// Prints a line for each book.
 pub fn run() {
-    println!("Proposals from seed {SEED:#x}; half long, half short; kinds and issuers mixed.");
     println!(
-        "One period: every long with every short is allowed. Outputs are not cleared before a call."
+        "Proposals from seed {SEED:#x}; half long, half short; kinds and issuers mixed, in CAD."
     );
+    println!(
+        "One period: every long with every short is allowed. Both paragraphs: half in USD or GBP,"
+    );
+    println!("each long there with a short. Any currency: also what no paragraph pairs.");
+    println!("Outputs are not cleared before a call.");
     println!("Median of {BATCHES} alternating batches; calls a second, and their ratio.");
     println!();
     println!(
-        "{:>8}  {:<14} {:>5}  {:>6}  {:>12}  {:>12}  {:>12}",
+        "{:>8}  {:<15} {:>5}  {:>6}  {:>12}  {:>12}  {:>12}",
         "holdings", "book", "lines", "number", "check", "plain", "check/plain"
     );
     for size in [1, 16, 64, 256] {
-        print_line("one period", &sheet_of(size, ONE_PERIOD), 0);
-        print_line("mixed periods", &sheet_of(size, ANY.days), 0);
+        print_line("one period", &sheet_of(&book_of(size, &ONE_PERIOD)), 0);
+        print_line("mixed periods", &sheet_of(&mixed_periods(size)), 0);
+        if size > 1 {
+            print_line("both paragraphs", &sheet_of(&both_paragraphs(size)), 0);
+        }
     }
+    print_line("any currency", &sheet_of(&book_of(256, &ANY)), 0);
     print_line("uncovered late", &uncovered_late(), 16);
     print_line("nothing paired", &nothing_paired(), 0);
 }
@@ -48,33 +61,53 @@ fn print_line(book: &str, sheet: &Sheet, number: u64) {
     let (size, lines) = (sheet.side.len(), sheet.long.len());
     let ratio = ours / plain;
     println!(
-        "{size:>8}  {book:<14} {lines:>5}  {number:>6}  {ours:>12.0}  {plain:>12.0}  {ratio:>12.2}"
+        "{size:>8}  {book:<15} {lines:>5}  {number:>6}  {ours:>12.0}  {plain:>12.0}  {ratio:>12.2}"
     );
 }
 
 /// A best proposal, its lines split until there are twice as many as holdings.
-pub fn sheet_of(size: usize, days: &'static [(u64, u64)]) -> Sheet {
-    let mut sheet = best_sheet(&book_of(size, days));
-    split_lines(&mut sheet, 2 * size);
+pub fn sheet_of(book: &[Row]) -> Sheet {
+    let mut sheet = best_sheet(book);
+    split_lines(&mut sheet, 2 * book.len());
     sheet
 }
 
-/// Longs and shorts in turn. The longs are strips, so that in one period each of them may be paired with
-/// every short.
-fn book_of(size: usize, days: &'static [(u64, u64)]) -> Vec<Row> {
+/// Longs and shorts in CAD in all periods.
+pub fn mixed_periods(size: usize) -> Vec<Row> {
+    book_of(size, &DOMESTIC)
+}
+
+/// In turn a long and a short in CAD, and a long and a short of one government in one foreign currency, of
+/// which one is a bond; in all periods.
+fn both_paragraphs(size: usize) -> Vec<Row> {
     let mut random = Random::new(SEED);
-    let (sides, kinds) = (&[0][..], &[1, 2][..]);
-    let values = &[(1_000_000, 100_000_000_000)][..];
+    let mut book = mixed_periods(size);
+    for four in book.as_chunks_mut().0 {
+        let [_, _, long, short] = four;
+        long.issuer = random.pick(FOREIGN.issuers);
+        long.currency = random.pick(FOREIGN.currencies);
+        (short.issuer, short.currency, short.days) = (long.issuer, long.currency, long.days);
+        short.kind = 0;
+        if random.below(2) == 0 {
+            std::mem::swap(&mut long.kind, &mut short.kind);
+        }
+    }
+    book
+}
+
+/// Longs and shorts of a shape in turn. The longs are strips, so that in one period and in CAD each of them
+/// may be paired with every short.
+fn book_of(size: usize, shape: &Shape) -> Vec<Row> {
+    let mut random = Random::new(SEED);
     let long = Shape {
-        sides,
-        kinds,
-        days,
-        values,
-        ..ANY
+        sides: &[0],
+        kinds: &[1, 2],
+        values: &[(1_000_000, 100_000_000_000)],
+        ..*shape
     };
     let short = Shape {
         sides: &[1],
-        kinds: ANY.kinds,
+        kinds: shape.kinds,
         ..long
     };
     let mut book = Vec::with_capacity(size);
@@ -88,7 +121,7 @@ fn book_of(size: usize, days: &'static [(u64, u64)]) -> Vec<Row> {
 /// A full book whose last long with a price has one unit too little, so that all longs before it are
 /// looked at.
 fn uncovered_late() -> Sheet {
-    let mut sheet = sheet_of(256, ONE_PERIOD);
+    let mut sheet = sheet_of(&book_of(256, &ONE_PERIOD));
     let priced = |holding: &usize| sheet.side[*holding] == 0 && sheet.price[*holding] > 0;
     let last = (0..256).rfind(priced).expect("a long has a price");
     sheet.price[last] -= 1;
@@ -97,7 +130,7 @@ fn uncovered_late() -> Sheet {
 
 /// A full book of bonds, which pair with no bond.
 fn nothing_paired() -> Sheet {
-    let mut book = book_of(256, ANY.days);
+    let mut book = mixed_periods(256);
     for row in &mut book {
         row.kind = 0;
     }

@@ -2,12 +2,11 @@
 
 use std::hint::black_box;
 
-use margin_calculator::samples::ANY;
 use margin_calculator::texts::{joined, quoted, records};
 use margin_calculator::{MOST_BYTES, margin_read};
 use margin_host::{Columns, raw};
 
-use crate::check::sheet_of;
+use crate::check::{mixed_periods, sheet_of};
 use crate::timing::{BATCHES, rates};
 
 type Call = fn(&[u8], &mut Columns<&mut [u8]>, &mut [u8]) -> u64;
@@ -17,7 +16,7 @@ type Written = (Columns<Vec<u8>>, [u8; 16]);
 
 /// 256 holdings and 512 lines that the check accepts.
 pub fn full_file() -> Vec<String> {
-    records(&sheet_of(256, ANY.days))
+    records(&sheet_of(&mixed_periods(256)))
 }
 
 /// The texts that are read, with their names.
@@ -41,7 +40,7 @@ pub fn run() {
     println!(
         "Files of 256 holdings and 512 lines, texts of the greatest length, which are refused, and small files."
     );
-    println!("The longest file that can be read at all has 37,120 bytes.");
+    println!("The longest file that can be read at all has 40,192 bytes.");
     println!(
         "Median of {BATCHES} alternating batches; calls and megabytes (MB) a second, and their ratio."
     );
