@@ -288,7 +288,7 @@ refusals =
     -- a holding is finished before the next, its value before its currency before its price; holdings come before lines
     ∷ proposal "8 before 10, and holdings before lines" (two 2 0) (8 ∷ 43801 ∷ []) (line 0 2 1 ∷ []) (8 ∷ 1 ∷ 0 ∷ [])
     ∷ proposal "23 before 10, at holding 1" (row L C CA 1 2 ∷ of 3 (row S B CA 1 2) ∷ []) (8 ∷ 43801 ∷ []) (line 0 2 1 ∷ []) (23 ∷ 1 ∷ 0 ∷ [])
-    ∷ proposal "23 before 4 of the next holding" (of 3 (row L C CA 1 2) ∷ row 2 B CA 1 2 ∷ []) (8 ∷ 0 ∷ []) [] (23 ∷ 0 ∷ 0 ∷ [])
+    ∷ proposal "23 before the largest price, and before 4 of the next holding" (of 3 (row L C CA 1 2) ∷ row 2 B CA 1 2 ∷ []) (most ∷ 0 ∷ []) [] (23 ∷ 0 ∷ 0 ∷ [])
     ∷ proposal "10 before 23 of the next holding" (row L C CA 1 2 ∷ of 3 (row S B CA 1 2) ∷ []) (43801 ∷ 0 ∷ []) [] (10 ∷ 0 ∷ 0 ∷ [])
     ∷ proposal "10 at holding 1" (two 2 2) (43800 ∷ 43801 ∷ []) [] (10 ∷ 1 ∷ 0 ∷ [])
     ∷ proposal "a holding is finished before the next" (two 2 0) (43801 ∷ 0 ∷ []) (line 0 2 1 ∷ []) (10 ∷ 0 ∷ 0 ∷ [])
