@@ -19,7 +19,8 @@ use Rattle.proposal.specs.Submission.{Submission, bookOf, priced, remainder, ma
 use Rattle.proposal.specs.Outcome.{outcome}
 use Rattle.codes.specs.Codes.{placeOf}
 use Rattle.csv.specs.Grammar.{isText, isQuotable}
-use Rattle.layout.specs.Layout.{byPlace, valueOf, letters, Meaning}
+use Rattle.csv.specs.Reading.{formed}
+use Rattle.layout.specs.Layout.{byPlace, valueOf, letters, Meaning, good, refused, parse}
 use Rattle.layout.specs.declared.Sort.{Sort}
 use Rattle.layout.specs.declared.Value.{Value}
 use Rattle.layout.specs.declared.Value.the-variants.{Of, Wrong}
@@ -73,6 +74,10 @@ worked rows lines =
     let b = bookOf rows [] in
     unitsOf b lines ∷ centsOf (unitsOf b lines) ∷ remainder b lines 0 ∷ margin b lines 0 ∷ []
 
+-- long, short, amount
+abbrev pub line : ℕ → ℕ → ℕ → Line
+line long short amount = record { long = long; short = short; amount = amount }
+
 -- a value, or none
 abbrev valued : Value → List ℕ
 valued (Of n) = n ∷ []
@@ -92,13 +97,17 @@ rates name rows expected = record { name = name; computed = flatMap alone rows; 
 abbrev pub fault : String → Row → ℕ → Case
 fault name r n = record { name = name; computed = alone r; stated = n ∷ [] }
 
+-- the faults of several rows
+abbrev pub faults : String → List Row → List ℕ → Case
+faults name rows expected = record { name = name; computed = flatMap alone rows; stated = expected }
+
 abbrev pub pair : String → Row → Row → ℕ → ℕ → Case
 pair name l s n saving = record { name = name; computed = together l s; stated = 0 ∷ n ∷ saving ∷ [] }
 
 abbrev pub no-pair : String → Row → Row → ℕ → Case
 no-pair name l s n = record { name = name; computed = together l s; stated = n ∷ [] }
 
--- several pairs of one rate and one saving rate, and several that are not allowed
+-- several pairs of one rate and one saving rate, and several that are not allowed: by themselves, and as a line of no amount and of one above 100 cents
 abbrev pub pairs : String → List (Row × Row) → ℕ → ℕ → Case
 pairs name rows n saving = record {
   name = name;
@@ -107,7 +116,13 @@ pairs name rows n saving = record {
 }
 
 abbrev pub no-pairs : String → List (Row × Row) → Case
-no-pairs name rows = record { name = name; computed = flatMap (λ p. together (p .0) (p .1)) rows; stated = map (λ p. 13) rows }
+no-pairs name rows =
+    let lined : Row × Row → ℕ → List ℕ = λ p amount. judged false false (p .0 ∷ p .1 ∷ []) (0 ∷ 0 ∷ []) (line 0 1 amount ∷ []) in
+    record {
+      name = name;
+      computed = flatMap (λ p. together (p .0) (p .1) ++ lined p 0 ++ lined p 101) rows;
+      stated = flatMap (λ _. 13 ∷ 13 ∷ 0 ∷ 0 ∷ 13 ∷ 0 ∷ 0 ∷ []) rows;
+    }
 
 abbrev pub proposal : String → List Row → List ℕ → List Line → List ℕ → Case
 proposal name rows prices lines expected = record { name = name; computed = judged false false rows prices lines; stated = expected }
@@ -128,6 +143,20 @@ record-at name parsed n expected = record { name = name; computed = answerNumber
 -- the numbers of texts of a sort, of records' letters, and whether bytes are TEXTDATA and may stand in quotes as they are
 abbrev pub code : String → Sort → List String → List ℕ → Case
 code name sort texts expected = record { name = name; computed = flatMap (λ text. valued (valueOf sort (ascii text))) texts; stated = expected }
+
+-- how many texts there are of each of several lists
+abbrev pub lists : String → List (List (List ℕ)) → List ℕ → Case
+lists name texts expected = record { name = name; computed = map length texts; stated = expected }
+
+-- the number of a refused record, none of a good one; of records of a letter with so many empty fields after it
+abbrev refusedAs : Meaning → List ℕ
+refusedAs (refused n) = n ∷ []
+refusedAs (good letter vs) = []
+
+abbrev pub fields : String → List String → List ℕ → ℕ → Case
+fields name letters counts n =
+    let records = flatMap (λ text. map (λ more. ascii text ∷ replicate more []) counts) letters in
+    record { name = name; computed = flatMap (λ r. refusedAs (parse (formed r))) records; stated = map (λ _. n) records }
 
 abbrev pub letter : String → List String → List ℕ → Case
 letter name texts expected = record { name = name; computed = flatMap (λ text. valued (byPlace (placeOf (ascii text) letters))) texts; stated = expected }
@@ -172,10 +201,13 @@ columns name rows prices lines expected =
 abbrev pub slice : String → List ℕ → List ℕ → Case
 slice name old expected = record { name = name; computed = answered (makeAnswer 16 1 2) old; stated = expected }
 
--- what the reader answers to a text and to columns of so many bytes, with an answer slice
-abbrev pub answers : String → List ℕ → List ℕ → ℕ → List ℕ → Case
-answers name sizes text slice expected =
-    record { name = name; computed = answerNumbers (readingAnswer text (blank sizes) (zeros slice)); stated = expected }
+-- what the reader answers to a text and to columns of so many bytes, each of several, with an answer slice
+abbrev pub answers : String → List (List ℕ) → List ℕ → ℕ → List ℕ → Case
+answers name sizes text slice expected = record {
+  name = name;
+  computed = flatMap (λ z. answerNumbers (readingAnswer text (blank z) (zeros slice))) sizes;
+  stated = flatMap (λ _. expected) sizes;
+}
 
 -- an H in a currency, an H in CAD, and a P of the file by the other fields that are filled: the empty ones follow, and CRLF
 abbrev pub emptyFields : List ℕ
@@ -193,10 +225,6 @@ P filled = ascii "P," ++ ascii filled ++ emptyFields ++ ascii "\r\n"
 -- a record without its CRLF
 abbrev pub unended : List ℕ → List ℕ
 unended text = take (length text - 2) text
-
--- long, short, amount
-abbrev pub line : ℕ → ℕ → ℕ → Line
-line long short amount = record { long = long; short = short; amount = amount }
 
 -- side, kind, issuer, days, value, in CAD; and the same in another currency
 abbrev pub row : ℕ → ℕ → ℕ → ℕ → ℕ → Row

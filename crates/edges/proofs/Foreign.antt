@@ -77,12 +77,12 @@ paragraph4 =
 -- and else not: two strips or two bonds, two governments, two periods, a short with a long
 unfoldable pub notParagraph4 : List Case
 notParagraph4 =
-    no-pairs "strip with strip in a foreign currency" (each-government C R ++ each-government R R)
+    no-pairs "strip with strip in a foreign currency" (each-government C C ++ each-government C R ++ each-government R C ++ each-government R R)
     ∷ no-pairs "bond with bond in a foreign currency" (each-government B B)
     ∷ no-pairs "two governments in USD" (two-issuers B C USD ((CA, US) ∷ (CA, GB) ∷ (US, GB) ∷ []))
     ∷ no-pairs "two governments in GBP" (two-issuers C B GBP ((CA, US) ∷ (CA, GB) ∷ (US, GB) ∷ []))
-    ∷ no-pair "US bond 4,015 days with US coupon 4,016 days, in USD" (of USD (row L B US 4015 100)) (of USD (row S C US 4016 100)) 13
-    ∷ no-pair "GB coupon 366 days with GB bond 365 days, in GBP" (of GBP (row L C GB 366 100)) (of GBP (row S B GB 365 100)) 13
+    ∷ no-pairs "US bond 4,015 days with US coupon 4,016 days, in USD" ((of USD (row L B US 4015 100), of USD (row S C US 4016 100)) ∷ [])
+    ∷ no-pairs "GB coupon 366 days with GB bond 365 days, in GBP" ((of GBP (row L C GB 366 100), of GBP (row S B GB 365 100)) ∷ [])
     ∷ no-pair "the legs the wrong way round, in USD" (short B US USD) (long C US USD) 13
     ∷ []
 
@@ -93,8 +93,7 @@ twoCurrencies =
     ∷ no-pairs "a province in two currencies" (two-currencies C B ON ++ two-currencies C R ON)
     ∷ no-pairs "US in two currencies" (two-currencies B C US)
     ∷ no-pairs "GB in two currencies" (two-currencies C B GB)
-    ∷ no-pair "Canada in CAD with US in USD" (long B CA CAD) (short C US USD) 13
-    ∷ no-pair "GB in GBP with a province in CAD" (long C GB GBP) (short B ON CAD) 13
+    ∷ no-pairs "Canada in CAD with US in USD, GB in GBP with a province in CAD" ((long B CA CAD, short C US USD) ∷ (long C GB GBP, short B ON CAD) ∷ [])
     ∷ []
 
 -- provincial debt in foreign currency stays unpaired
@@ -135,6 +134,11 @@ bothParagraphs =
 unfoldable pub foreignBooks : List Case
 foreignBooks =
     proposal "a pair in GBP a unit short of cover" (long R GB GBP ∷ short B GB GBP ∷ []) (0 ∷ 5839 ∷ []) (line 0 1 100 ∷ []) (16 ∷ 0 ∷ 1 ∷ [])
+    -- of the uncovered pairs that of the lowest long, whichever paragraph it is of; the totals differ too
+    ∷ proposal "16 in USD before 16 in CAD" (long B US USD ∷ short C US USD ∷ long C CA CAD ∷ short B CA CAD ∷ []) (0 ∷ 1 ∷ 0 ∷ 0 ∷ []) [] (16 ∷ 0 ∷ 1 ∷ [])
+    ∷ proposal "16 in CAD before 16 in USD" (long C CA CAD ∷ short B CA CAD ∷ long B US USD ∷ short C US USD ∷ []) (0 ∷ 1 ∷ 0 ∷ 0 ∷ []) [] (16 ∷ 0 ∷ 1 ∷ [])
+    ∷ proposal "14 on a line in USD" (long B US USD ∷ short C US USD ∷ []) (5840 ∷ 0 ∷ []) (line 0 1 0 ∷ []) (14 ∷ 0 ∷ 0 ∷ [])
+    ∷ proposal "15 on a line in USD" (long B US USD ∷ short C US USD ∷ []) (5840 ∷ 0 ∷ []) (line 0 1 100 ∷ line 0 1 1 ∷ []) (15 ∷ 1 ∷ 0 ∷ [])
     ∷ proposal "a line from CAD to USD" (long B CA CAD ∷ short C CA USD ∷ []) (0 ∷ 0 ∷ []) (line 0 1 100 ∷ []) (13 ∷ 0 ∷ 0 ∷ [])
     -- the USD coupon is not the CAD bond's to pair with
     ∷ proposal "Canada in CAD beside Canada in USD"
@@ -145,13 +149,16 @@ foreignBooks =
     (0 ∷ 3066000 ∷ 21 ∷ (replicate 6 100 ++ (5 ∷ 4 ∷ 0 ∷ 1 ∷ 3 ∷ 2 ∷ [])))
     ∷ []
 
--- a file with a pair of each paragraph, from its bytes to the bytes that are printed
+-- files, from their bytes to the bytes that are printed: pairs of each paragraph, and debt that stays unpaired
 unfoldable pub foreignFile : List Case
 foreignFile =
     prints
     "a file with a pair of each paragraph"
     (H "L,C,CA,1,1,0" ++ H "S,B,CA,1,1,8" ++ H-in "USD" "L,B,US,1,1,8" ++ H-in "\"USD\"" "S,C,US,1,2,0" ++ P "0,1,1" ++ P "2,3,1")
     "M,10,1\r\nR,3,1,6\r\nR,0,0,0\r\nR,1,0,0\r\nR,2,0,0\r\n"
+    ∷ prints "a file with a pair in GBP" (H-in "GBP" "L,R,GB,1,1,0" ++ H-in "GBP" "S,B,GB,1,1,8" ++ P "0,1,1") "M,2,1\r\nR,0,0,0\r\nR,1,0,0\r\n"
+    ∷ prints "a file with a line on US debt in CAD" (H "L,B,US,1,1,0" ++ H "S,C,US,1,1,0" ++ P "0,1,1") "X,13,0,0\r\n"
+    ∷ prints "a file with a line on provincial debt in USD" (H-in "USD" "L,B,ON,1,1,0" ++ H-in "USD" "S,C,ON,1,1,0" ++ P "0,1,1") "X,13,0,0\r\n"
     ∷ []
 
 -- the eighth field

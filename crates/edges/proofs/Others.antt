@@ -7,8 +7,8 @@ use lib.ListN.{take, drop, set, replicate}
 use Rattle.lists.specs.Tables.{ascii}
 use Rattle.holding.specs.declared.Row.{Row}
 use Rattle.layout.specs.declared.Sort.the-variants.{Side, Kind, Issuer, Currency}
-use Rattle.layout.specs.Layout.{Meaning, good}
-use Rattle.edges.proofs.Cases.{Case, rate, fault, pair, no-pair, proposal, lent, figures, prints, record-at, code, letter, byte, decodes, encodes, lengths, columns, slice, answers, emptyFields, H, P, unended}
+use Rattle.layout.specs.Layout.{Meaning, good, letters, sides, kinds, issuers, currencies}
+use Rattle.edges.proofs.Cases.{Case, rate, fault, faults, pair, no-pair, proposal, lent, figures, prints, record-at, code, lists, fields, letter, byte, decodes, encodes, lengths, columns, slice, answers, emptyFields, H, P, unended}
 use Rattle.edges.proofs.Cases.{line, row, of, L, S, B, C, R, CA, ON, QC, CAD, file, file-lines}
 
 -- the book of "Largest saving first", and prices that cover it
@@ -42,6 +42,13 @@ right = replicate 7 16 ++ replicate 3 8 ++ replicate 3 16
 abbrev moreLines : List ℕ
 moreLines = replicate 7 8 ++ replicate 3 16 ++ (8 ∷ 8 ∷ 16 ∷ [])
 
+-- the largest number, and rows that have it from one number on
+abbrev most : ℕ
+most = 18446744073709551615
+
+abbrev largest : List Row
+largest = map (of most) (row most most most most most ∷ row L most most most most ∷ row L B most most most ∷ row L B CA most most ∷ row L B CA 1 most ∷ row L B CA 1 1 ∷ [])
+
 -- one holding, one pair
 unfoldable pub single : List Case
 single =
@@ -56,7 +63,7 @@ single =
     ∷ fault "issuer 13" (row L B 13 1 1) 6
     ∷ fault "value 0" (row L B CA 1 0) 8
     ∷ fault "currency 3" (of 3 (row L B CA 1 1)) 23
-    ∷ fault "the largest number as a currency" (of 18446744073709551615 (row L B CA 1 1)) 23
+    ∷ faults "the largest number from the side, the kind, the issuer, the days, the value and the currency on" largest (4 ∷ 5 ∷ 6 ∷ 7 ∷ 8 ∷ 23 ∷ [])
     ∷ rate "side 1, kind 2, issuer 10" (row 1 2 10 1 1) 12
     ∷ rate "side 1, kind 2, issuer 12, currency 2" (of 2 (row 1 2 12 1 1)) 6
     ∷ fault "side before kind, issuer, days, value and currency" (of 3 (row 2 3 13 0 0)) 4
@@ -151,7 +158,10 @@ recordFaults =
     ∷ prints "an amount of 12 digits, with no H before" (P "0,0,999999999999") "X,11,0,0\r\n"
     ∷ prints "a long of seven digits" (P "1000000,0,1") "X,21,0,0\r\n"
     ∷ prints "a short of seven digits" (P "0,1000000,1") "X,21,0,0\r\n"
+    ∷ prints "a long and a short of six digits" (P "999999,999999,1") "X,11,0,0\r\n"
     ∷ prints "a fifth field that is filled" (ascii "P,0,0,1,0" ++ drop 1 emptyFields ++ ascii "\r\n") "X,21,0,0\r\n"
+    ∷ prints "a sixth field that is filled" (ascii "P,0,0,1,,0" ++ drop 2 emptyFields ++ ascii "\r\n") "X,21,0,0\r\n"
+    ∷ prints "a seventh field that is filled" (ascii "P,0,0,1,,,0" ++ drop 3 emptyFields ++ ascii "\r\n") "X,21,0,0\r\n"
     ∷ prints "a record is finished before the next" (H "L,B,CA,01,1,0" ++ unended (H "L,B,CA,1,1,0") ++ ascii "\n") "X,21,0,0\r\n"
     ∷ prints "19 before 20" (unended (H "L,B,CA,1,1,0,,") ++ ascii "\n") "X,19,0,0\r\n"
     ∷ prints "20 before 21" (ascii "Q" ++ drop 1 (H "L,B,CA,1,1")) "X,20,0,0\r\n"
@@ -166,6 +176,7 @@ lending =
     ∷ lengths "1 before 2" (set (set right 6 8) 12 15 ∷ []) 1
     ∷ lengths "one side, kind, issuer, days, value, currency or price" (map (λ j. set right j 8) (0 ∷ 1 ∷ 2 ∷ 3 ∷ 4 ∷ 5 ∷ 6 ∷ [])) 1
     ∷ lengths "three currencies, three prices, two longs, no short, or two amounts" (set right 5 24 ∷ set right 6 24 ∷ set right 7 16 ∷ set right 8 0 ∷ set right 9 16 ∷ []) 1
+    ∷ lengths "one column of the holdings of 17 bytes, or of the lines of 9" (map (λ j. set right j 17) (0 ∷ 1 ∷ 2 ∷ 3 ∷ 4 ∷ 5 ∷ 6 ∷ []) ++ map (λ j. set right j 9) (7 ∷ 8 ∷ 9 ∷ [])) 1
     ∷ lengths "holdings of 21 bytes, or lines of 13" ((replicate 7 21 ++ drop 7 right) ∷ (take 7 right ++ replicate 3 13 ++ drop 10 right) ∷ []) 1
     ∷ lengths "one remainder, one rank, or an answer of 15 bytes" (set right 10 15 ∷ set right 11 15 ∷ set right 12 15 ∷ []) 2
     ∷ columns "the columns, each number by its name" (of 6 (row 1 2 3 4 5) ∷ []) (7 ∷ []) (line 8 9 10 ∷ [])
@@ -178,14 +189,13 @@ lending =
 -- what the reader answers to a text and to what is lent: the counts, or 2 after all records
 unfoldable pub reading : List Case
 reading =
-    answers "read: two holdings, one line" right (H "L,B,CA,1,1,0" ++ H "L,B,CA,1,1,0" ++ P "0,0,1") 16 (0 ∷ 2 ∷ 1 ∷ [])
-    ∷ answers "read: one holding, two lines" moreLines (H "L,B,CA,1,1,0" ++ P "0,0,1" ++ P "0,0,1") 16 (0 ∷ 1 ∷ 2 ∷ [])
-    ∷ answers "read: an empty file into empty columns" [] [] 16 (0 ∷ 0 ∷ 0 ∷ [])
-    ∷ answers "read, and a currency column too short" (set right 5 15) (H "L,B,CA,1,1,0" ++ H "L,B,CA,1,1,0") 16 (2 ∷ 0 ∷ 0 ∷ [])
-    ∷ answers "read, and a price column too short" (set right 6 15) (H "L,B,CA,1,1,0" ++ H "L,B,CA,1,1,0") 16 (2 ∷ 0 ∷ 0 ∷ [])
-    ∷ answers "read, and a column of amounts too short" (set right 9 15) (H "L,B,CA,1,1,0" ++ P "0,0,1" ++ P "0,0,1") 16 (2 ∷ 0 ∷ 0 ∷ [])
-    ∷ answers "read, and an answer of 15 bytes" right (H "L,B,CA,1,1,0") 15 (2 ∷ 0 ∷ 0 ∷ [])
-    ∷ answers "a bad record before a list and an answer too short" [] (H "L,B,CA,1,1,0" ++ H "L,B,CA,01,1,0") 15 (21 ∷ 1 ∷ 0 ∷ [])
+    answers "read: two holdings, one line" (right ∷ []) (H "L,B,CA,1,1,0" ++ H "L,B,CA,1,1,0" ++ P "0,0,1") 16 (0 ∷ 2 ∷ 1 ∷ [])
+    ∷ answers "read: one holding, two lines" (moreLines ∷ []) (H "L,B,CA,1,1,0" ++ P "0,0,1" ++ P "0,0,1") 16 (0 ∷ 1 ∷ 2 ∷ [])
+    ∷ answers "read: an empty file into empty columns" ([] ∷ []) [] 16 (0 ∷ 0 ∷ 0 ∷ [])
+    ∷ answers "read, and one column too short" (map (λ j. set right j 15) (0 ∷ 1 ∷ 2 ∷ 3 ∷ 4 ∷ 5 ∷ 6 ∷ []) ++ map (λ j. set right j 7) (7 ∷ 8 ∷ 9 ∷ []))
+    (H "L,B,CA,1,1,0" ++ H "L,B,CA,1,1,0" ++ P "0,0,1") 16 (2 ∷ 0 ∷ 0 ∷ [])
+    ∷ answers "read, and an answer of 15 bytes" (right ∷ []) (H "L,B,CA,1,1,0") 15 (2 ∷ 0 ∷ 0 ∷ [])
+    ∷ answers "a bad record before a list and an answer too short" ([] ∷ []) (H "L,B,CA,1,1,0" ++ H "L,B,CA,01,1,0") 15 (21 ∷ 1 ∷ 0 ∷ [])
     ∷ []
 
 -- one record too many: the reader's 3 and 9 name no place, and 22 comes before 3
@@ -201,7 +211,10 @@ tooMany =
 -- the letters and codes of the file, each with its number, and texts that are none; TEXTDATA at its ends; numbers as bytes
 unfoldable pub texts : List Case
 texts =
-    letter "the letters" ("H" ∷ "P" ∷ []) (0 ∷ 1 ∷ [])
+    lists "how many letters, sides, kinds, issuers and currencies" (letters ∷ sides ∷ kinds ∷ issuers ∷ currencies ∷ []) (2 ∷ 2 ∷ 3 ∷ 13 ∷ 3 ∷ [])
+    ∷ fields "a letter with other than seven fields after it" ("H" ∷ "P" ∷ []) (0 ∷ 1 ∷ 2 ∷ 3 ∷ 4 ∷ 5 ∷ 6 ∷ 8 ∷ 9 ∷ 10 ∷ 20 ∷ []) 20
+    ∷ fields "a letter with seven empty fields after it" ("H" ∷ "P" ∷ []) (7 ∷ []) 21
+    ∷ letter "the letters" ("H" ∷ "P" ∷ []) (0 ∷ 1 ∷ [])
     ∷ letter "no letters" ("h" ∷ "D" ∷ []) []
     ∷ code "the sides" Side ("L" ∷ "S" ∷ []) (0 ∷ 1 ∷ [])
     ∷ code "no sides" Side ("s" ∷ []) []
@@ -275,7 +288,7 @@ refusals =
     -- a holding is finished before the next, its value before its currency before its price; holdings come before lines
     ∷ proposal "8 before 10, and holdings before lines" (two 2 0) (8 ∷ 43801 ∷ []) (line 0 2 1 ∷ []) (8 ∷ 1 ∷ 0 ∷ [])
     ∷ proposal "23 before 10, at holding 1" (row L C CA 1 2 ∷ of 3 (row S B CA 1 2) ∷ []) (8 ∷ 43801 ∷ []) (line 0 2 1 ∷ []) (23 ∷ 1 ∷ 0 ∷ [])
-    ∷ proposal "23 before 4 of the next holding" (of 3 (row L C CA 1 2) ∷ row 2 B CA 1 2 ∷ []) (8 ∷ 0 ∷ []) [] (23 ∷ 0 ∷ 0 ∷ [])
+    ∷ proposal "23 before the largest price, and before 4 of the next holding" (of 3 (row L C CA 1 2) ∷ row 2 B CA 1 2 ∷ []) (most ∷ 0 ∷ []) [] (23 ∷ 0 ∷ 0 ∷ [])
     ∷ proposal "10 before 23 of the next holding" (row L C CA 1 2 ∷ of 3 (row S B CA 1 2) ∷ []) (43801 ∷ 0 ∷ []) [] (10 ∷ 0 ∷ 0 ∷ [])
     ∷ proposal "10 at holding 1" (two 2 2) (43800 ∷ 43801 ∷ []) [] (10 ∷ 1 ∷ 0 ∷ [])
     ∷ proposal "a holding is finished before the next" (two 2 0) (43801 ∷ 0 ∷ []) (line 0 2 1 ∷ []) (10 ∷ 0 ∷ 0 ∷ [])
