@@ -7,7 +7,7 @@ use borrow.Author.Tests.{eq-eqb, eqb-true}
 use Rattle.lists.specs.Choice.{firstOf}
 use Rattle.lists.proofs.Tests.{zero-out, by-test}
 use Rattle.article.proofs.PairRates.{permitted-high}
-use Rattle.article.specs.Pair.{isLong, isShort, isBond, isStrip, kindsPair, sameClass, mixedClass, classRule, domesticRule, oneBond, sameGovernment, governmentRule, foreignRule}
+use Rattle.article.specs.Pair.{isLong, isShort, isBond, isStrip, kindsPair, sameClass, mixedClass, classRule, domesticRule, oneBond, sameGovernment, foreignRule}
 use Rattle.article.specs.Pair.{bothCad, sameForeign, ruleOf, permits, allowed, pairRateOf, rateLimit, RateInRange}
 use Rattle.article.specs.declared.pair.Rule.{Rule}
 use Rattle.article.specs.declared.pair.Rule.the-variants.{Difference, HalfSum, NotAllowed}
@@ -59,7 +59,7 @@ pub data Permitted (l s : Leg) : Rule → Type 0 where
 
 module _ (l s : Leg) where
   pub permitted : permits (ruleOf l s) ≡ true → Permitted l s (ruleOf l s)
-  unfolding ruleOf domesticRule classRule foreignRule governmentRule firstOf
+  unfolding ruleOf domesticRule classRule foreignRule firstOf
   permitted =
       let Why : Rule → Type 0 = λ r. permits r ≡ true → Permitted l s r in
       let none : Why NotAllowed = λ e. absurd (false≢true e) in
@@ -68,5 +68,5 @@ module _ (l s : Leg) where
       (λ k. by-test Why (sameClass l s) (λ e _. one-class c k e) (λ _. by-test Why (mixedClass l s) (λ e _. two-classes c k e) (λ _. none)))
       (λ _. none))
       (λ _. by-test Why (sameForeign l s)
-      (λ c. by-test Why (oneBond l s) (λ k. by-test Why (sameGovernment l s) (λ e _. one-government c k e) (λ _. none)) (λ _. none))
+      (λ c. by-test Why (oneBond l s && sameGovernment l s) (λ e _. let (k, g) = and-eq-true-iff _ _ .0 e in one-government c k g) (λ _. none))
       (λ _. none))

@@ -14,7 +14,7 @@ use Rattle.article.proofs.Legs.{Permitted, one-class, two-classes, one-
 use Rattle.article.specs.Article.{OneClass, both-canada, both-provincial, TwoClasses, canada-long, canada-short, SameForeign, both-usd, both-gbp}
 use Rattle.article.specs.Article.{SameGovernment, of-canada, of-us, of-gb, OneBond, Paragraph2, Paragraph4}
 use Rattle.article.specs.Pair.{legOf, isBond, isStrip, isCanada, isProvince, isUs, isGb, inCad, inUsd, inGbp, kindsPair, sameClass, mixedClass, classRule, domesticRule}
-use Rattle.article.specs.Pair.{oneBond, sameGovernment, governmentRule, foreignRule, bothCad, sameForeign, ruleOf}
+use Rattle.article.specs.Pair.{oneBond, sameGovernment, foreignRule, bothCad, sameForeign, ruleOf}
 use Rattle.holding.specs.declared.Kind.{Kind}
 use Rattle.holding.specs.declared.Kind.the-variants.{Bond, Coupon, Residual}
 use Rattle.holding.specs.declared.Issuer.{Issuer}
@@ -193,7 +193,7 @@ module _ (l s : Holding) where
   in-cad p e = rw (cads p, pairs (p .not-bonds) .0) e
 
   pub abroad : Paragraph4 l s → ruleOf (legOf l) (legOf s) ≡ Difference
-  unfolding ruleOf foreignRule governmentRule legOf rowOf
+  unfolding ruleOf foreignRule legOf rowOf
   abroad p =
       let (foreign, same) = foreigners (legOf l) (legOf s) (p .currency) refl refl in
       rw (foreign, same, pairs (p .one-bond .not-both) .1 (p .one-bond .some), governments (legOf l) (legOf s) (p .government) refl refl)

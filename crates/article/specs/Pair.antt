@@ -82,13 +82,9 @@ oneBond l s = (isBond l && isStrip s) || (isStrip l && isBond s)
 unfoldable pub sameGovernment : Leg → Leg → Bool
 sameGovernment l s = (isCanada l && isCanada s) || (isUs l && isUs s) || (isGb l && isGb s)
 
--- of the same government: the difference
-unfoldable pub governmentRule : Leg → Leg → Rule
-governmentRule l s = cond (sameGovernment l s) Difference NotAllowed
-
--- paragraph 4, of two legs in the same foreign currency: which rule applies to their issuers and kinds
+-- paragraph 4, of two legs in the same foreign currency: the difference
 unfoldable pub foreignRule : Leg → Leg → Rule
-foreignRule l s = cond (oneBond l s) (governmentRule l s) NotAllowed
+foreignRule l s = cond (oneBond l s && sameGovernment l s) Difference NotAllowed
 
 -- both in CAD, and both in the same foreign currency, USD or GBP
 unfoldable pub bothCad : Leg → Leg → Bool

@@ -3,7 +3,7 @@ use crate::rate;
 use holding::Holding;
 ghost use mathlib.Core.Path.{_≡_};
 ghost use Prim.Native.Nat.{_+_, _≤_};
-ghost use Rattle.article.specs.Pair.{legOf, classRule, domesticRule, governmentRule, foreignRule, ruleOf, permits, ruleRate, rateLimit, RateInRange, Pairs};
+ghost use Rattle.article.specs.Pair.{legOf, kindsPair, classRule, domesticRule, oneBond, sameGovernment, foreignRule, ruleOf, permits, ruleRate, rateLimit, RateInRange, Pairs};
 ghost use Rattle.holding.specs.Holding.{InRange};
 
 // Which rule a pair has.
@@ -65,88 +65,92 @@ fn class_rule(long: Leg, short: Leg) -> Rule
     }
 }
 
+// Whether the two kinds pair in CAD: a bond with a strip or a strip with a strip.
+fn kinds_pair(long: Leg, short: Leg) -> bool
+    ensures { λ r. ⌜ r ≡ kindsPair long short ⌝ }
+{
+    let first = long.kind;
+    let second = short.kind;
+    match first {
+        0 => match second {
+            0 => false,
+            1..=2 => true,
+            _ => false,
+        },
+        1..=2 => match second {
+            0 => true,
+            1..=2 => true,
+            _ => false,
+        },
+        _ => false,
+    }
+}
+
 // Paragraph 2: the rule by the numbers of the two kinds, and where they pair by those of the two issuers.
 fn domestic_rule(long: Leg, short: Leg) -> Rule
     ensures { λ r. ⌜ r ≡ domesticRule long short ⌝ }
 {
+    if kinds_pair(long, short) {
+        return class_rule(long, short);
+    }
+    Rule::NotAllowed
+}
+
+// Whether exactly one of the two is a bond.
+fn one_bond(long: Leg, short: Leg) -> bool
+    ensures { λ r. ⌜ r ≡ oneBond long short ⌝ }
+{
     let first = long.kind;
     let second = short.kind;
     match first {
         0 => match second {
-            0 => Rule::NotAllowed,
-            1..=2 => class_rule(long, short),
-            _ => Rule::NotAllowed,
+            1..=2 => true,
+            _ => false,
         },
         1..=2 => match second {
-            0 => class_rule(long, short),
-            1..=2 => class_rule(long, short),
-            _ => Rule::NotAllowed,
+            0 => true,
+            _ => false,
         },
-        _ => Rule::NotAllowed,
+        _ => false,
     }
 }
 
-// The rule of a government's bond with a strip in a foreign currency, by the numbers of the two issuers.
-fn government_rule(long: Leg, short: Leg) -> Rule
-    ensures { λ r. ⌜ r ≡ governmentRule long short ⌝ }
+// Whether the two are of the same government, Canada, US or GB.
+fn same_government(long: Leg, short: Leg) -> bool
+    ensures { λ r. ⌜ r ≡ sameGovernment long short ⌝ }
 {
-    let first = long.issuer;
-    let second = short.issuer;
-    match first {
-        0 => match second {
-            0 => Rule::Difference,
-            _ => Rule::NotAllowed,
-        },
-        11 => match second {
-            11 => Rule::Difference,
-            _ => Rule::NotAllowed,
-        },
-        12 => match second {
-            12 => Rule::Difference,
-            _ => Rule::NotAllowed,
-        },
-        _ => Rule::NotAllowed,
+    if long.issuer != short.issuer {
+        return false;
+    }
+    let issuer = long.issuer;
+    match issuer {
+        0 => true,
+        11..=12 => true,
+        _ => false,
     }
 }
 
-// Paragraph 4: the rule by the numbers of the two kinds, and where just one is a bond by those of the two issuers.
+// Paragraph 4: the difference where just one is a bond and the government is the same.
 fn foreign_rule(long: Leg, short: Leg) -> Rule
     ensures { λ r. ⌜ r ≡ foreignRule long short ⌝ }
 {
-    let first = long.kind;
-    let second = short.kind;
-    match first {
-        0 => match second {
-            1..=2 => government_rule(long, short),
-            _ => Rule::NotAllowed,
-        },
-        1..=2 => match second {
-            0 => government_rule(long, short),
-            _ => Rule::NotAllowed,
-        },
-        _ => Rule::NotAllowed,
+    if one_bond(long, short) && same_government(long, short) {
+        return Rule::Difference;
     }
+    Rule::NotAllowed
 }
 
-// The rule by the numbers of the two currencies: paragraph 2 in CAD, paragraph 4 in the same foreign currency.
+// The rule by the number of the currency that both legs are in: paragraph 2 in CAD, paragraph 4 in a foreign one.
 pub fn rule_of(long: Leg, short: Leg) -> Rule
     ensures { λ r. ⌜ r ≡ ruleOf long short ⌝ }
 {
-    let first = long.currency;
-    let second = short.currency;
-    match first {
-        0 => match second {
-            0 => domestic_rule(long, short),
-            _ => Rule::NotAllowed,
-        },
-        1 => match second {
-            1 => foreign_rule(long, short),
-            _ => Rule::NotAllowed,
-        },
-        2 => match second {
-            2 => foreign_rule(long, short),
-            _ => Rule::NotAllowed,
-        },
+    if long.currency != short.currency {
+        return Rule::NotAllowed;
+    }
+    let currency = long.currency;
+    match currency {
+        0 => domestic_rule(long, short),
+        1..=2 => foreign_rule(long, short),
         _ => Rule::NotAllowed,
     }
 }

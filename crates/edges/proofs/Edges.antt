@@ -14,7 +14,7 @@ use Rattle.holding.specs.Holding as row
 use Rattle.holding.specs.Holding.{identityFaults, termFaults, worthFaults, moneyFaults, rowFaults, faultOf, holdingOf, sideOf, kindOf, issuerOf, currencyOf, rowOf}
 use Rattle.article.specs.Rate.{longerThan, atLeast, periodOf, percents, flatRate, bondRate, stripRate, kindRate, rateAt, rateOf}
 use Rattle.article.specs.Pair.{legOf, isLong, isShort, isBond, isStrip, isCanada, isProvince, isUs, isGb, inCad, inUsd, inGbp, kindsPair, sameClass, mixedClass, classRule, domesticRule}
-use Rattle.article.specs.Pair.{oneBond, sameGovernment, governmentRule, foreignRule, bothCad, sameForeign, ruleOf, ruleRate, allowed, pairRateOf, savingRateOf, pairOf}
+use Rattle.article.specs.Pair.{oneBond, sameGovernment, foreignRule, bothCad, sameForeign, ruleOf, ruleRate, allowed, pairRateOf, savingRateOf, pairOf}
 use Rattle.pairing.specs.Pairing as theory
 use Rattle.pairing.specs.Pairing.{used, saving, pairUnits, pricedTotal}
 use Rattle.ranking.specs.Ranking.{ranksBefore, rankingOf}
@@ -54,7 +54,7 @@ unfolding
     outcomeIn outcomeOf countIn numbersAt rowsIn linesIn submission column filledFrom filled row.numbersOf lineNumbers answered readAnswer readingAnswer identityFaults
     termFaults worthFaults moneyFaults rowFaults faultOf holdingOf sideOf kindOf issuerOf currencyOf rowOf longerThan atLeast periodOf percents flatRate bondRate
     stripRate kindRate rateAt rateOf legOf isLong isShort isBond isStrip isCanada isProvince isUs isGb inCad inUsd inGbp kindsPair sameClass mixedClass classRule
-    domesticRule oneBond sameGovernment governmentRule foreignRule bothCad sameForeign ruleOf ruleRate allowed pairRateOf savingRateOf pairOf used theory.savingRate
+    domesticRule oneBond sameGovernment foreignRule bothCad sameForeign ruleOf ruleRate allowed pairRateOf savingRateOf pairOf used theory.savingRate
     saving pairUnits pricedTotal ranksBefore rankingOf bookOf termsOf priced remainder margin unitsOf remaindersOf ranked centsOf atPlace holdingFaults pairFaults
     lineFaults atHolding bookFaults atLine linesFaults uncovered atPair atLong uncoveredPairs totalsDiffer totalsFaults sizeFaults faults accepted outcome lead digits
     valueFrom numeralOf placeFrom placeOf isText isQuotable part textFrom textEnd closeFrom closeAt followedBy followed begins opens enclosed fieldAt fieldsFrom

@@ -1,7 +1,7 @@
 -- The value of a test in a definition from what code found on its way, `search tests`; and back from its value to the fact. Assumes nothing.
-use mathlib.Core.Path.{_≡_, refl, sym}
+use mathlib.Core.Path.{_≡_, refl, sym, _∙_}
 use mathlib.Core.Logic.{_≢_, _⊎_, inl, inr}
-use mathlib.Core.Bool.{Bool, true, false, cond, _||_, and-eq-true-iff, and-false, false≢true}
+use mathlib.Core.Bool.{Bool, true, false, cond, _&&_, _||_, and-eq-true-iff, and-false, false≢true}
 use Prim.Native.Nat.{ℕ, suc, _≤_, _<_}
 use native.Mathlib.Omega.{arith}
 use lib.Dec.{leb, ltb, eqb, leb·zero}
@@ -65,6 +65,13 @@ by-end P n p q k = either-way (ltb k n) (λ e. p k (ltb-true k n e)) (λ e. q k 
 pub one-of : (s t : Bool) → (s || t) ≡ true → (s ≡ true) ⊎ (t ≡ true)
 one-of true t e = inl refl
 one-of false t e = inr e
+
+-- two numbers that differ are not both a third
+pub not-both : (a b n : ℕ) → (a ≡ b → ⊥) → (eqb a n && eqb b n) ≡ false
+not-both a b n h =
+    either-way (eqb a n)
+    (λ e. rw (e, ne-eqb b n (λ f. h (eqb-true a n e ∙ sym f))))
+    (λ e. rw e)
 
 -- neither of two tests holds
 pub neither : (s t : Bool) → (s || t) ≡ false → (s ≡ false) × (t ≡ false)
