@@ -6,7 +6,7 @@ use Prim.Native.Nat.{ℕ, _+_, min, max}
 use native.Mathlib.Omega.{arith}
 use Rattle.lists.specs.Choice.{within}
 use Rattle.lists.proofs.Tests.{either-way}
-use Rattle.holding.proofs.Ranges.{fault-none, none-fault, row-kept, holding-kept, side-back}
+use Rattle.holding.proofs.Ranges.{fault-none, none-fault, row-refused, row-kept, holding-kept, side-back}
 use Rattle.holding.proofs.Numbers.{numbers}
 use Rattle.article.proofs.RateTable.{rate-table}
 use Rattle.article.proofs.Rates.{rate-high, half-exact}
@@ -183,6 +183,7 @@ periods d = record { first = period-1 d; second = period-2 d; third = period-3 d
 pub article : Article
 article = record {
   each-row = λ r. record { no-fault = (fault-none r, none-fault r); kept = row-kept r };
+  refusals = row-refused;
   records = holding-kept;
   numbered = numbers;
   unknown-issuers = unknown-issuer;

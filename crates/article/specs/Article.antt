@@ -6,7 +6,7 @@ use Rattle.holding.specs.declared.{Side.the-variants.Long, Side.the-variants.Sh
 use Rattle.holding.specs.declared.Issuer.{Issuer, the-variants.Canada, the-variants.Province, the-variants.UnitedStates, the-variants.UnitedKingdom}
 use Rattle.holding.specs.declared.Currency.{Currency, the-variants.Cad, the-variants.Usd, the-variants.Gbp}
 use Rattle.lists.specs.Choice.{within}
-use Rattle.holding.specs.Holding.{Ranges, InRange, faultOf, rowOf, holdingOf, Numbers}
+use Rattle.holding.specs.Holding.{Ranges, InRange, faultOf, RowRefused, rowOf, holdingOf, Numbers}
 
 -- the four rates of a row: Canada bond, Canada strip, province bond, province strip. Strip means coupon or residual, what is no bond. US and GB have
 -- Group I rates, Canada's
@@ -120,6 +120,8 @@ pub record StayUnpaired (h : Holding) : Type 0 where
 -- the page
 pub record Article : Type 0 where
   pub each-row : (r : Row) → RowKept r
+  -- refused, it has the number of the first that is outside its range: 4 side, 5 kind, 6 issuer, 7 days, 8 value, 23 currency
+  pub refusals : (r : Row) → RowRefused r
   -- a record within the ranges is the record of its numbers
   pub records : (h : Holding) → InRange h → holdingOf (rowOf h) ≡ h
   -- side 0 long, 1 short; kind 0 bond, 1 coupon, 2 residual; issuer 0 Canada, 1 to 10 a province, 11 US, 12 GB; currency 0 CAD, 1 USD, 2 GBP

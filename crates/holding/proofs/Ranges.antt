@@ -1,14 +1,15 @@
 -- A row has no fault exactly when its numbers are within their ranges; a row and its record then give each other back. Assumes nothing.
 use mathlib.Core.Path.{_≡_, refl, sym}
-use mathlib.Core.Bool.{Bool, true, false, not}
-use Prim.Native.Nat.{ℕ, zero, suc, _≤_}
+use mathlib.Core.Logic.{_⊎_, inl, inr}
+use mathlib.Core.Bool.{Bool, true, false, not, and-false}
+use Prim.Native.Nat.{ℕ, zero, suc, _≤_, _<_}
 use native.Mathlib.Omega.{arith}
-use lib.Dec.{eqb}
-use borrow.Author.Tests.{not-false, ne-eqb, eqb-true, eqb-false}
-use Rattle.lists.proofs.Tests.{within-true, true-within, by-test}
+use lib.Dec.{eqb, leb}
+use borrow.Author.Tests.{not-false, ne-eqb, eqb-true, eqb-false, lt-leb}
+use Rattle.lists.proofs.Tests.{within-true, true-within, none-out, above-out, by-test}
 use Rattle.lists.proofs.Firsts.{None, Listed, none-first}
 use Rattle.lists.specs.Choice.{firstOf, within}
-use Rattle.holding.specs.Holding.{Ranges, InRange, identityFaults, termFaults, worthFaults, moneyFaults, rowFaults, faultOf}
+use Rattle.holding.specs.Holding.{Ranges, InRange, identityFaults, termFaults, worthFaults, moneyFaults, rowFaults, faultOf, RowRefused}
 use Rattle.holding.specs.Holding.{sideNumber, kindNumber, noIssuer, issuerNumber, currencyNumber, sideOf, kindOf, issuerOf, currencyOf, rowOf, holdingOf}
 use Rattle.holding.specs.declared.Side.{Side}
 use Rattle.holding.specs.declared.Side.the-variants.{Long, Short}
@@ -72,6 +73,38 @@ none-fault r g =
       true-within 1 100000000000 (r .value) (g .value-low) (g .value-high),
       true-within 0 2 (r .currency) (omega arith) (g .currency),
     )
+
+-- a number outside its range, which starts at 0 or at 1
+above : (high x : ℕ) → high < x → within 0 high x ≡ false
+unfolding within
+above high x h = rw (lt-leb x high h) (and-false (leb 0 x))
+
+outside : (high x : ℕ) → (x < 1) ⊎ (high < x) → within 1 high x ≡ false
+outside high x (inl h) = none-out high x h
+outside high x (inr h) = above-out high x h
+
+-- the refusal of the first number outside its range
+module _ (r : Row) where
+  in-side : r .side ≤ 1 → within 0 1 (r .side) ≡ true
+  in-side h = true-within 0 1 (r .side) (omega arith) h
+
+  in-kind : r .kind ≤ 2 → within 0 2 (r .kind) ≡ true
+  in-kind h = true-within 0 2 (r .kind) (omega arith) h
+
+  in-issuer : r .issuer ≤ 12 → within 0 12 (r .issuer) ≡ true
+  in-issuer h = true-within 0 12 (r .issuer) (omega arith) h
+
+  pub row-refused : RowRefused r
+  unfolding faultOf rowFaults identityFaults termFaults worthFaults moneyFaults firstOf
+  row-refused = record {
+    side = λ h. rw (above 1 (r .side) h);
+    kind = λ s h. rw (in-side s, above 2 (r .kind) h);
+    issuer = λ s k h. rw (in-side s, in-kind k, above 12 (r .issuer) h);
+    days = λ s k i h. rw (in-side s, in-kind k, in-issuer i, outside 36500 (r .days) h);
+    value = λ s k i d e h. rw (in-side s, in-kind k, in-issuer i, true-within 1 36500 (r .days) d e, outside 100000000000 (r .value) h);
+    currency = λ s k i d e v w h.
+        rw (in-side s, in-kind k, in-issuer i, true-within 1 36500 (r .days) d e, true-within 1 100000000000 (r .value) v w, above 2 (r .currency) h);
+  }
 
 side-number : (n : ℕ) → n ≤ 1 → sideNumber (sideOf n) ≡ n
 unfolding sideOf

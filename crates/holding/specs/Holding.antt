@@ -1,6 +1,6 @@
 -- Document 01, "A holding", and document 02 a), its currency: the ranges of raw numbers, and the record that numbers within them make. Assumes nothing.
-use mathlib.Core.{Path._≡_, Bool.Bool, Bool.cond, Bool.not, Bool.true, List.List, List.[], List._∷_, List._++_}
-use Prim.Native.Nat.{ℕ, _≤_}
+use mathlib.Core.{Path._≡_, Bool.Bool, Bool.cond, Bool.not, Bool.true, List.List, List.[], List._∷_, List._++_, Logic._⊎_}
+use Prim.Native.Nat.{ℕ, _≤_, _<_}
 use lib.{Dec.eqb, ListN.getD}
 use Rattle.lists.specs.Choice.{firstOf, within}
 use Rattle.holding.specs.declared.{Side.Side, Side.the-variants.Long, Side.the-variants.Short, Kind.Kind, Kind.the-variants.Bond, Kind.the-variants.Coupon, Kind.the-variants.Residual}
@@ -135,6 +135,15 @@ builtOf r = cond (eqb (faultOf r) 0) (Made (holdingOf r)) (Refused (faultOf r))
 pub record Builds (row : Row) (r : Built) : Type 0 where
   pub number : numberOf r ≡ faultOf row
   pub built : r ≡ builtOf row
+
+-- the refusal that a row has: of the first of side, kind, issuer, days, value and currency that is outside its range
+pub record RowRefused (r : Row) : Type 0 where
+  pub side : 1 < r .side → faultOf r ≡ 4
+  pub kind : r .side ≤ 1 → 2 < r .kind → faultOf r ≡ 5
+  pub issuer : r .side ≤ 1 → r .kind ≤ 2 → 12 < r .issuer → faultOf r ≡ 6
+  pub days : r .side ≤ 1 → r .kind ≤ 2 → r .issuer ≤ 12 → (r .days < 1) ⊎ (36500 < r .days) → faultOf r ≡ 7
+  pub value : r .side ≤ 1 → r .kind ≤ 2 → r .issuer ≤ 12 → 1 ≤ r .days → r .days ≤ 36500 → (r .value < 1) ⊎ (100000000000 < r .value) → faultOf r ≡ 8
+  pub currency : r .side ≤ 1 → r .kind ≤ 2 → r .issuer ≤ 12 → 1 ≤ r .days → r .days ≤ 36500 → 1 ≤ r .value → r .value ≤ 100000000000 → 2 < r .currency → faultOf r ≡ 23
 
 -- the numbers of a record. Side: 0 long, 1 short. Kind: 0 bond or debenture, 1 stripped coupon, 2 residual. Issuer: 0 Canada, 1 to 10 a province, 11 US, 12 GB. Currency: 0 CAD, 1 USD, 2 GBP
 pub record Numbers (h : Holding) : Type 0 where
