@@ -94,7 +94,7 @@ module _ (l s : Leg) (p : l .period ≡ s .period) where
 
   -- in the same foreign currency, of one government
   foreign-mark : sameForeign l s ≡ true → oneBond l s ≡ true → sameGovernment l s ≡ true → shortMark s ≡ soughtMark l
-  unfolding shortMark soughtMark markOf keyOf isDomestic isForeign inCad isCanada isProvince isBond
+  unfolding shortMark soughtMark markOf keyOf isDomestic isForeign inCad isCanada isBond
   foreign-mark c k e =
       let (x, foreign) = currency c in
       let (y, government) = issuer e in
