@@ -4,7 +4,7 @@ use mathlib.Core.Logic.{⊎-elim}
 use mathlib.Core.Bool.{Bool, true, false, not, _&&_, _||_, and-eq-true-iff}
 use Prim.Native.Nat.{ℕ, _+_, _-_, _*_, _/_, _≤_, min}
 use native.Mathlib.Omega.{arith}
-use lib.Dec.{eqb}
+use lib.Dec.{eqb, ltb}
 use borrow.Author.Tests.{ne-eqb, eqb-true}
 use Rattle.lists.specs.Choice.{within}
 use Rattle.lists.proofs.Tests.{within-true, by-test, one-of}
@@ -14,7 +14,7 @@ use Rattle.article.proofs.Legs.{allowed-meets, bonds-no-rule, no-rule, Permitte
 use Rattle.article.specs.declared.pair.Rule.{Rule}
 use Rattle.article.specs.declared.pair.Leg.{Leg}
 use Rattle.savings.specs.Savings.{savingOf}
-use Rattle.cover.specs.Cover.{isDomestic, keyOf, markOf, shortMark, soughtMark, OtherClass, Asks}
+use Rattle.cover.specs.Cover.{isDomestic, isForeign, keyOf, markOf, shortMark, soughtMark, OtherClass, Asks}
 
 -- two bonds save nothing
 pub two-bonds : (l s : Leg) → l .kind ≡ 0 → s .kind ≡ 0 → savingOf l s ≡ 0
@@ -25,9 +25,11 @@ two-bonds l s f g = rw (no-rule l s (ap permits (bonds-no-rule l s f g)))
 positive : (high n : ℕ) → within 1 high n ≡ true → eqb n 0 ≡ false
 positive high n e = ne-eqb n 0 (λ z. omega (arith, within-true 1 high n e .0))
 
--- two numbers that are both n
-both : (x y n : ℕ) → (eqb x n && eqb y n) ≡ true → x ≡ y
-both x y n e = let (a, b) = and-eq-true-iff _ _ .0 e in eqb-true x n a ∙ sym (eqb-true y n b)
+-- two numbers that are both n, of which something holds
+both : (P : ℕ → Type 0) (x y n : ℕ) → P n → (eqb x n && eqb y n) ≡ true → (x ≡ y) × P y
+both P x y n h e =
+    let (a, b) = and-eq-true-iff _ _ .0 e in
+    (eqb-true x n a ∙ sym (eqb-true y n b), rw (eqb-true y n b) h)
 
 -- of two pairs of tests one holds
 one-pair : {P : Type 0} (a b c d : Bool) → ((a && b) || (c && d)) ≡ true → (a ≡ true → b ≡ true → P) → (c ≡ true → d ≡ true → P) → P
@@ -77,19 +79,26 @@ module _ (l s : Leg) (p : l .period ≡ s .period) where
   sought e =
       one-pair (isBond l) (isStrip s) (isStrip l) (isBond s) e (λ a b. rw (a, positive 2 (s .kind) b)) (λ a b. rw (b, positive 2 (l .kind) a))
 
-  -- paragraph 4 has two legs of one currency and one issuer
-  currency : sameForeign l s ≡ true → l .currency ≡ s .currency
-  unfolding sameForeign inUsd inGbp
-  currency e = ⊎-elim (both _ _ 1) (both _ _ 2) (one-of _ _ e)
+  -- paragraph 4 has two legs of one currency, not CAD, and of one issuer, no province
+  currency : sameForeign l s ≡ true → (l .currency ≡ s .currency) × (inCad s ≡ false)
+  unfolding sameForeign inCad inUsd inGbp
+  currency e =
+      let Other : ℕ → Type 0 = λ n. eqb n 0 ≡ false in
+      ⊎-elim (both Other _ _ 1 refl) (both Other _ _ 2 refl) (one-of _ _ e)
 
-  issuer : sameGovernment l s ≡ true → l .issuer ≡ s .issuer
+  issuer : sameGovernment l s ≡ true → (l .issuer ≡ s .issuer) × ((isCanada s || ltb 10 (s .issuer)) ≡ true)
   unfolding sameGovernment isCanada isUs isGb
-  issuer e = ⊎-elim (λ f. ⊎-elim (both _ _ 0) (both _ _ 11) (one-of _ _ f)) (both _ _ 12) (one-of _ _ e)
+  issuer e =
+      let Has : ℕ → Type 0 = λ n. (eqb n 0 || ltb 10 n) ≡ true in
+      ⊎-elim (λ f. ⊎-elim (both Has _ _ 0 refl) (both Has _ _ 11 refl) (one-of _ _ f)) (both Has _ _ 12 refl) (one-of _ _ e)
 
   -- in the same foreign currency, of one government
   foreign-mark : sameForeign l s ≡ true → oneBond l s ≡ true → sameGovernment l s ≡ true → shortMark s ≡ soughtMark l
-  unfolding shortMark soughtMark markOf keyOf isDomestic inCad isCanada isProvince isBond
-  foreign-mark c k e = rw (p, currency c, issuer e, sought k)
+  unfolding shortMark soughtMark markOf keyOf isDomestic isForeign inCad isCanada isBond
+  foreign-mark c k e =
+      let (x, foreign) = currency c in
+      let (y, government) = issuer e in
+      rw (p, x, y, sought k, foreign, government)
 
   -- what a rule saves of two rates, by the marks
   by-marks : {x : ℕ} {r : Rule} → (shortMark s ≡ soughtMark l → 2 * min (l .rate) (s .rate) ≤ x)

@@ -1,7 +1,10 @@
 -- `mark_of` is `markOf`. Assumes nothing.
+use mathlib.Core.Path.{_≡_, sym, _∙_}
+use mathlib.Core.Logic.{⊎-elim}
+use mathlib.Core.Bool.{cond}
 use borrow.Author.Tests.{eq-eqb, ne-eqb}
-use Rattle.article.specs.Pair.{isCanada}
-use Rattle.cover.specs.Cover.{keyOf, markOf}
+use Rattle.article.specs.Pair.{isLong, isCanada}
+use Rattle.cover.specs.Cover.{isForeign, keyOf, markOf}
 use borrow.Author.Needs.{needs}
 use Rattle.cover.proofs.mark_of.Statement.{statement}
 use Rattle.cover.proofs.mark_of.Tie as tie
@@ -36,6 +39,20 @@ returns-2 c =
     let called = c .before .before .before in
     rw (← called .before .is-domestic .ensures, called .if1 .taken, ne-eqb _ _ (c .before .if2 .left)) (search needs)
 
+is-foreign-requires : tie.Need-is-foreign-requires
+is-foreign-requires c κs = search needs
+
+module _ (c : tie.Joined3) where
+  abbrev start : tie.Start
+  start = c .before .before .before .before
+
+  -- which of the two marks: by the kind, or without a pair by the side
+  which : c .if3 .first ≡ cond (isForeign (start .args .leg)) (start .args .bond) (isLong (start .args .leg))
+  unfolding isLong
+  which =
+      let found = sym (c .before .is-foreign .ensures) in
+      ⊎-elim (λ w. rw (found ∙ w .0 .taken) (w .1)) (λ w. rw (found ∙ w .0 .left) (w .2)) (c .if3 .came)
+
 mul-key : tie.Need-mul-key
 mul-key c = search needs
 
@@ -57,8 +74,9 @@ cast-result-3 c = search needs
 returns-3 : tie.Need-returns-3
 unfolding markOf keyOf
 returns-3 c =
-    let called = c .before .before .before .before in
-    rw (← called .before .is-domestic .ensures, called .if1 .left, c .if3 .taken) (search needs)
+    let joined = c .before .before .before .before in
+    let called = joined .before .before in
+    rw (← called .before .is-domestic .ensures, called .if1 .left, ← which joined, c .if4 .taken) (search needs)
 
 mul-result-4 : tie.Need-mul-result-4
 mul-result-4 c = search needs
@@ -72,8 +90,9 @@ cast-result-4 c = search needs
 returns-4 : tie.Need-returns-4
 unfolding markOf keyOf
 returns-4 c =
-    let called = c .before .before .before .before in
-    rw (← called .before .is-domestic .ensures, called .if1 .left, c .if3 .left) (search needs)
+    let joined = c .before .before .before .before in
+    let called = joined .before .before in
+    rw (← called .before .is-domestic .ensures, called .if1 .left, ← which joined, c .if4 .left) (search needs)
 
 pub mark-of-spec : {M : Type 1} → statement M
 mark-of-spec =
@@ -87,6 +106,7 @@ mark-of-spec =
     add-result
     cast-result-2
     returns-2
+    is-foreign-requires
     mul-key
     add-key
     mul-key-2
