@@ -16,7 +16,7 @@ use Rattle.proposal.specs.declared.Fault.{Fault}
 unfoldable pub isDomestic : Leg → Bool
 isDomestic l = inCad l && (isCanada l || isProvince l)
 
--- a leg that paragraph 4 can have: in a foreign currency, of Canada, US or GB
+-- a leg that is not domestic and may have a pair: in another currency than CAD, of Canada or of no province
 unfoldable pub isForeign : Leg → Bool
 isForeign l = not (inCad l) && (isCanada l || ltb 10 (l .issuer))
 

@@ -18,7 +18,7 @@ fn is_domestic(leg: Leg) -> bool
     leg.issuer <= 10
 }
 
-// Whether a leg that is not domestic is one that paragraph 4 can have: of Canada, or of US or GB, in a foreign currency.
+// Whether a leg that is not domestic may have a pair: in another currency than CAD, of Canada or of no province.
 fn is_foreign(leg: Leg) -> bool
     ensures { λ r. ⌜ r ≡ isForeign leg ⌝ }
 {
