@@ -1,11 +1,11 @@
 -- Document 01, "16 an allowed pair not covered, lowest long, then lowest short", over packed legs and a column of prices. Assumes nothing.
 use mathlib.Core.{Path._≡_, Bool.Bool, Bool.cond, Bool.not, Bool._&&_, Bool._||_, List.List}
 use Prim.Native.Nat.{ℕ, _+_, _*_, _/_, _%_, _≤_, _<_}
-use lib.{Dec.ltb, ListN.length, ListN.getD}
+use lib.ListN.{length, getD}
 use Rattle.words.specs.Words.{wordAt, entries}
 use Rattle.article.specs.declared.pair.Leg.{Leg}
 use Rattle.savings.specs.Savings.{savingOf}
-use Rattle.article.specs.Pair.{isLong, isBond, isCanada, isProvince, inCad, rateLimit}
+use Rattle.article.specs.Pair.{isBond, isCanada, isProvince, inCad, rateLimit}
 use Rattle.packed.specs.Packed.{legAt, AtMost, entry, Legs, LegsOf, Same}
 use Rattle.holding.specs.Holding.{valueLimit}
 use Rattle.pairing.specs.Pairing.{pricedTotal}
@@ -16,18 +16,14 @@ use Rattle.proposal.specs.declared.Fault.{Fault}
 unfoldable pub isDomestic : Leg → Bool
 isDomestic l = inCad l && (isCanada l || isProvince l)
 
--- a leg that paragraph 4 can have: in a foreign currency, of Canada, US or GB
-unfoldable pub isForeign : Leg → Bool
-isForeign l = not (inCad l) && (isCanada l || ltb 10 (l .issuer))
-
 -- what the two legs of a pair have in common, as one number: the period; of a leg that is not domestic the currency and the issuer too
 unfoldable pub keyOf : Leg → ℕ
 keyOf l = l .period + 256 * cond (isDomestic l) 0 (16 * (l .currency % 4) + l .issuer % 16)
 
 -- what a pair asks of a leg beside its side and rate, as one number: its key with, of a domestic leg, its class, 0 for Canada and 1 for a province, and of any
--- other, whether it is a bond; of one that no paragraph can have, its side
+-- other, whether it is a bond
 unfoldable pub markOf : Bool → Leg → ℕ
-markOf bond l = 4 * keyOf l + cond (isDomestic l) (cond (isCanada l) 0 1) (cond (cond (isForeign l) bond (isLong l)) 0 2)
+markOf bond l = 4 * keyOf l + cond (isDomestic l) (cond (isCanada l) 0 1) (cond bond 0 2)
 
 -- the mark that a short has, and the one that a long seeks: outside paragraph 2 just one of the two is a bond
 unfoldable pub shortMark : Leg → ℕ

@@ -6,7 +6,7 @@ ghost use mathlib.Core.Bool.{false};
 ghost use Prim.Native.Nat.{_-_, _*_, _≤_, _<_, min};
 ghost use Rattle.article.specs.Pair.{rateLimit};
 ghost use Rattle.packed.specs.Packed.{AtMost, entry};
-ghost use Rattle.cover.specs.Cover.{Priced, FirstOpen, Finds, Valued, Totals, isDomestic, isForeign, markOf, OtherClass, Asks, Covered, RowCovered, Places, Shorts};
+ghost use Rattle.cover.specs.Cover.{Priced, FirstOpen, Finds, Valued, Totals, isDomestic, markOf, OtherClass, Asks, Covered, RowCovered, Places, Shorts};
 
 // Whether a leg is in CAD and of Canada or a province.
 fn is_domestic(leg: Leg) -> bool
@@ -18,21 +18,8 @@ fn is_domestic(leg: Leg) -> bool
     leg.issuer <= 10
 }
 
-// Whether a leg that is not domestic is one that paragraph 4 can have: of Canada, or of US or GB, in a foreign currency.
-fn is_foreign(leg: Leg) -> bool
-    ensures { λ r. ⌜ r ≡ isForeign leg ⌝ }
-{
-    if leg.currency == 0 {
-        return false;
-    }
-    if leg.issuer == 0 {
-        return true;
-    }
-    leg.issuer > 10
-}
-
 // What a pair asks of a leg beside its side and rate, as one small number: the period, and of a domestic leg the class, 0 for Canada and 1 for a province;
-// of any other the currency, the issuer and whether it is to be a bond, or where it has no pair, its side.
+// of any other the currency, the issuer and whether it is to be a bond.
 fn mark_of(bond: bool, leg: Leg) -> u16
     requires { ⌜ leg .period < 256 ⌝ }
     ensures { λ r. ⌜ r ≡ markOf bond leg ⌝ }
@@ -43,9 +30,8 @@ fn mark_of(bond: bool, leg: Leg) -> u16
         }
         return (4 * leg.period + 1) as u16;
     }
-    let first = if is_foreign(leg) { bond } else { leg.side == 0 };
     let key = leg.period + 256 * (16 * (leg.currency % 4) + leg.issuer % 16);
-    if first {
+    if bond {
         return (4 * key) as u16;
     }
     (4 * key + 2) as u16
