@@ -133,6 +133,6 @@ module _ (l : Leg) {mark price from to : ℕ} {marks strips rates prices : List 
   other-row f c = record { bond = λ b. absurd (f b); other = λ _. rw (← sought) c }
 
 -- what the scan finds covered is covered with every holding
-pub scan-closed : {n m : ℕ} {legs price marks strips rates prices : List ℕ} → Shorts n legs price marks strips rates prices m → (i : ℕ) {first : ℕ} {leg : Leg}
-    → leg ≡ legAt legs i → first ≡ wordAt price i → RowCovered leg first marks strips rates prices 0 m → (j : ℕ) → j < n → PairCovered legs price i j
-scan-closed s i found first c j h = rw (← found, ← first) (s .all _ _ c j h)
+pub scan-closed : {n : ℕ} (legs price : List ℕ) (i : ℕ) {first : ℕ} {leg : Leg} → leg ≡ legAt legs i → first ≡ wordAt price i
+    → ((j : ℕ) → j < n → savingOf leg (legAt legs j) ≤ first + wordAt price j) → (j : ℕ) → j < n → PairCovered legs price i j
+scan-closed legs price i found first all j h = rw (← found, ← first) (all j h)

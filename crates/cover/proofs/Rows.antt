@@ -2,16 +2,19 @@
 use mathlib.Core.Path.{_≡_}
 use mathlib.Core.Bool.{false}
 use mathlib.Core.List.{List}
-use Prim.Native.Nat.{ℕ, _+_, _-_, _≤_, _<_}
+use Prim.Native.Nat.{ℕ, _+_, _-_, _*_, _/_, _%_, _≤_, _<_}
 use native.Mathlib.Omega.{arith}
 use native.Mathlib.Nat.{le-trans}
 use lib.Dec.{ltb}
 use lib.ListN.{getD}
 use borrow.Author.Count.{below-more}
 use borrow.Author.Tests.{ltb-false}
+use Rattle.words.specs.Words.{wordAt}
 use Rattle.article.specs.declared.pair.Leg.{Leg}
+use Rattle.packed.specs.Packed.{legAt}
 use Rattle.savings.specs.Savings.{savingOf}
-use Rattle.cover.specs.Cover.{Seeks, Marked, Asks, Covered}
+use Rattle.cover.specs.Cover.{PairCovered, Priced, Seeks, Marked, Asks, Covered, RowCovered, partOf, ShortsByPart}
+use Rattle.cover.proofs.Filled.{scan-closed}
 
 -- of each short from one place to another at most so much is missing
 pub record Passed (mark rate price : ℕ) (marks rates prices : List ℕ) (from worst to : ℕ) : Type 0 where
@@ -37,3 +40,23 @@ module _ {mark rate price : ℕ} {marks rates prices : List ℕ} {from : ℕ} wh
     passed-all g e =
         let none : worst ≤ 0 = ltb-false 0 worst e in
         record { covered = λ k b h l s ml ms. omega (arith, none, p .most k (omega arith) b l s ml ms) }
+
+-- fewer places of a row that is covered
+module _ {price from to end : ℕ} {rates prices : List ℕ} (h : end ≤ to) where
+  covered-fewer : {mark rate : ℕ} {marks : List ℕ} → Covered mark rate price marks rates prices from to → Covered mark rate price marks rates prices from end
+  covered-fewer c = record { covered = λ k b g. c .covered k b (omega arith) }
+
+  row-fewer : {l : Leg} {marks strips : List ℕ} → RowCovered l price marks strips rates prices from to → RowCovered l price marks strips rates prices from end
+  row-fewer c = record { bond = λ b. covered-fewer (c .bond b); other = λ b. covered-fewer (c .other b) }
+
+-- a long by the shorts of its part
+module _ {n : ℕ} {legs price counts marks strips rates prices : List ℕ} (shorts : ShortsByPart n legs price counts marks strips rates prices)
+    (i : ℕ) {leg : Leg} (found : leg ≡ legAt legs i) where
+  pub part-few : Priced n legs price → getD counts (leg .period % 8) 0 ≤ 256
+  part-few priced = omega (arith, priced .bounded .few, shorts .few (leg .period % 8) (omega arith))
+
+  pub part-closed : {first : ℕ} → first ≡ wordAt price i
+      → RowCovered leg first marks strips rates prices (256 * (leg .period % 8)) (256 * (leg .period % 8) + (getD counts (leg .period % 8) 0 + 15) / 16 * 16)
+      → (j : ℕ) → j < n → PairCovered legs price i j
+  unfolding partOf
+  part-closed first c = scan-closed legs price i found first (shorts .all leg _ (row-fewer (omega arith) c))
