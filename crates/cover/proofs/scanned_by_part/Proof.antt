@@ -45,9 +45,7 @@ add-to c =
 
 mul-to-2 : tie.Need-mul-to-2 Inv-loop μ-loop
 mul-to-2 c =
-    let turn = c .before .before .before .before .before .before in
-    let (priced, (_, shorts)) = turn .before .before .before .before .before .before .before .before .before .pre in
-    let few = part-few shorts _ (c .before .before .before .before .leg-in .ensures) priced in
+    let fits = add-to c in
     search needs
 
 add-to-2 : tie.Need-add-to-2 Inv-loop μ-loop
