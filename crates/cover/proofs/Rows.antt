@@ -1,19 +1,19 @@
 -- The scan of a row of shorts. Assumes nothing.
-use mathlib.Core.Path.{_≡_}
+use mathlib.Core.Path.{_≡_, refl}
 use mathlib.Core.Bool.{false}
 use mathlib.Core.List.{List}
 use Prim.Native.Nat.{ℕ, _+_, _-_, _*_, _/_, _%_, _≤_, _<_}
 use native.Mathlib.Omega.{arith}
 use native.Mathlib.Nat.{le-trans}
 use lib.Dec.{ltb}
-use lib.ListN.{getD}
+use lib.ListN.{getD, replicate, length-replicate, getD-replicate}
 use borrow.Author.Count.{below-more}
 use borrow.Author.Tests.{ltb-false}
 use Rattle.words.specs.Words.{wordAt}
 use Rattle.article.specs.declared.pair.Leg.{Leg}
 use Rattle.packed.specs.Packed.{legAt}
 use Rattle.savings.specs.Savings.{savingOf}
-use Rattle.cover.specs.Cover.{PairCovered, Priced, Seeks, Marked, Asks, Covered, RowCovered, partOf, ShortsByPart}
+use Rattle.cover.specs.Cover.{PairCovered, Priced, Seeks, Marked, Asks, Covered, RowCovered, partOf, Parts, Free, ShortsByPart}
 use Rattle.cover.proofs.Filled.{scan-closed}
 
 -- of each short from one place to another at most so much is missing
@@ -60,3 +60,19 @@ module _ {n : ℕ} {legs price counts marks strips rates prices : List ℕ} (sho
       → (j : ℕ) → j < n → PairCovered legs price i j
   unfolding partOf
   part-closed first c = scan-closed legs price i found first (shorts .all leg _ (row-fewer (omega arith) c))
+
+-- columns of zeros: parts of which no place is taken
+pub parts-blank : Parts (replicate 8 0) (replicate 2048 0) (replicate 2048 0) (replicate 2048 0) (replicate 2048 0)
+parts-blank =
+    let held = length-replicate {A = ℕ} 2048 0 in
+    record {
+      counts-held = refl;
+      marks-held = held;
+      strips-held = held;
+      rates-held = held;
+      prices-held = held;
+      rates-high = λ k h. rw (getD-replicate {A = ℕ} 2048 k 0 0 h) (omega arith);
+    }
+
+pub free-blank : Free (replicate 8 0)
+free-blank = record { none = λ b h. getD-replicate {A = ℕ} 8 b 0 0 h }
