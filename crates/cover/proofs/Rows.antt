@@ -52,7 +52,7 @@ module _ {price from to end : ℕ} {rates prices : List ℕ} (h : end ≤ to) wh
 -- a long by the shorts of its part
 module _ {n : ℕ} {legs price counts marks strips rates prices : List ℕ} (shorts : ShortsByPart n legs price counts marks strips rates prices)
     (i : ℕ) {leg : Leg} (found : leg ≡ legAt legs i) where
-  pub part-few : Priced n legs price → getD counts (leg .period % 8) 0 ≤ 256
+  pub part-few : Priced n legs price → 256 * (leg .period % 8) + (getD counts (leg .period % 8) 0 + 15) / 16 * 16 ≤ 2048
   part-few priced = omega (arith, priced .bounded .few, shorts .few (leg .period % 8) (omega arith))
 
   pub part-closed : {first : ℕ} → first ≡ wordAt price i

@@ -69,19 +69,9 @@ long-part-open-requires c κs =
     let turn = c .before .before .before .before .before .before .before in
     let leg = c .before .before .before .before .before .leg-in .ensures in
     let (priced, (parts, shorts)) = turn .before .before .before .before .before .before .before .before .before .pre in
-    let few = part-few shorts _ leg priced in (
-      omega (arith, parts .marks-held),
-      (
-        omega (arith, parts .strips-held),
-        (
-          omega (arith, parts .rates-held),
-          (
-            omega (arith, parts .prices-held),
-            (rw leg (period-low _), (rate-low _ priced (turn .loop-test .taken) leg, λ k h. parts .rates-high k (omega arith))),
-          ),
-        ),
-      ),
-    )
+    let few = part-few shorts _ leg priced in
+    rw (parts .marks-held, parts .strips-held, parts .rates-held, parts .prices-held)
+    (few, (few, (few, (few, (rw leg (period-low _), (rate-low _ priced (turn .loop-test .taken) leg, λ k h. parts .rates-high k (omega arith)))))))
 
 first-open-requires : tie.Need-first-open-requires Inv-loop μ-loop
 first-open-requires c κs = search needs
