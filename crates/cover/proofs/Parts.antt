@@ -1,0 +1,157 @@
+-- The columns of the shorts in parts by period, filled holding by holding. Assumes nothing.
+use mathlib.Core.Path.{_≡_, refl, sym, ap, _∙_}
+use mathlib.Core.Logic.{_≢_}
+use mathlib.Core.List.{List}
+use Prim.Native.Nat.{ℕ, _+_, _*_, _%_, _≤_, _<_}
+use native.Mathlib.Omega.{arith}
+use lib.ListN.{length, getD, set, length-set}
+use lib.Seq.{getD-set-same, getD-set-other}
+use borrow.Author.Count.{below-more}
+use Rattle.lists.proofs.Tests.{by-test, same-or-not}
+use Rattle.words.specs.Words.{wordAt}
+use Rattle.article.specs.Pair.{allowed, rateLimit}
+use Rattle.article.proofs.Legs.{Meets, allowed-meets}
+use Rattle.article.specs.declared.pair.Leg.{Leg}
+use Rattle.packed.specs.Packed.{legAt}
+use Rattle.savings.specs.Savings.{savingOf}
+use Rattle.cover.specs.Cover.{Priced, soughtMark, shortMark, Seeks, Marked, Covered, RowCovered, partOf, Parts, Free, ShortsByPart}
+use Rattle.cover.proofs.Estimate.{two-bonds}
+use Rattle.cover.proofs.Filled.{rate-low}
+
+-- two legs that are no allowed pair save nothing
+unmet : (l s : Leg) → (Meets l s → ⊥) → savingOf l s ≡ 0
+unfolding savingOf
+unmet l s h = by-test (λ (x : ℕ). x ≡ 0) (allowed l s) (λ e. absurd (h (allowed-meets l s e))) (λ _. refl)
+
+part-low : (l : Leg) → partOf l < 8
+unfolding partOf
+part-low l = omega arith
+
+-- legs of two parts have two periods
+apart : (l s : Leg) → (partOf l ≡ partOf s → ⊥) → savingOf l s ≡ 0
+unfolding partOf
+apart l s h = unmet l s (λ m. h (ap (λ (x : ℕ). x % 8) (m .period)))
+
+-- a short is written at place k of the columns
+module _ (k : ℕ) (rates prices : List ℕ) (r z : ℕ) where
+  -- by one column of marks: those of all shorts, or those of the strips
+  module _ (column : List ℕ) (w : ℕ) {long rate p from more : ℕ} (c : Covered long rate p (set column k w) (set rates k r) (set prices k z) from more) where
+    -- no other place is touched
+    column-kept : {to : ℕ} → to ≤ more → ((i : ℕ) → from ≤ i → i < to → i ≢ k) → Covered long rate p column rates prices from to
+    column-kept h apart = record {
+      covered = λ i f g l s ml ms.
+          let ne : i ≢ k = apart i f g in
+          rw (getD-set-other prices k i z 0 ne) at
+          (c .covered i f (omega arith) l s ml (rw (getD-set-other column k i w 0 ne, getD-set-other rates k i r 0 ne) ms));
+    }
+
+    column-added : from ≤ k → k < more → k < length column → k < length rates → k < length prices → {l s : Leg} → Seeks l long rate → Marked s w r
+        → savingOf l s ≤ p + z
+    column-added f g a b d {l} {s} ml ms =
+        rw (getD-set-same prices k z 0 d) at (c .covered k f g l s ml (rw (getD-set-same column k w 0 a, getD-set-same rates k r 0 b) ms))
+
+  module _ (marks strips : List ℕ) (x y : ℕ) {l : Leg} {p from more : ℕ}
+      (c : RowCovered l p (set marks k x) (set strips k y) (set rates k r) (set prices k z) from more) where
+    row-kept : {to : ℕ} → to ≤ more → ((i : ℕ) → from ≤ i → i < to → i ≢ k) → RowCovered l p marks strips rates prices from to
+    row-kept h apart = record { bond = λ b. column-kept strips y (c .bond b) h apart; other = λ b. column-kept marks x (c .other b) h apart }
+
+    -- a bond saves nothing with a bond, and the strips hold any other short
+    row-added : {counts : List ℕ} → Parts counts marks strips rates prices → k < 2048 → from ≤ k → k < more
+        → (s : Leg) → Marked s x r → ((s .kind ≡ 0 → ⊥) → y ≡ x) → savingOf l s ≤ p + z
+    row-added held h f g s ms strip =
+        let own : Seeks l (soughtMark l) (l .rate) = record { marked = refl; rated = refl } in
+        let b : k < length rates = omega (arith, h, held .rates-held) in
+        let d : k < length prices = omega (arith, h, held .prices-held) in
+        same-or-not (l .kind) 0
+        (λ e. same-or-not (s .kind) 0
+        (λ t. rw (two-bonds l s e t) (omega arith))
+        (λ t. column-added strips y (c .bond e) f g (omega (arith, h, held .strips-held)) b d own (rw (strip t) ms)))
+        (λ e. column-added marks x (c .other e) f g (omega (arith, h, held .marks-held)) b d own ms)
+
+-- the shorts before holding j stand in their parts
+pub record Parting (n : ℕ) (legs price counts marks strips rates prices : List ℕ) (j : ℕ) : Type 0 where
+  pub few : j ≤ n
+  pub parts : Parts counts marks strips rates prices
+  pub shorts : ShortsByPart j legs price counts marks strips rates prices
+
+module _ {n : ℕ} {legs price counts marks strips rates prices : List ℕ} where
+  pub parting-none : Parts counts marks strips rates prices → Free counts → Parting n legs price counts marks strips rates prices 0
+  parting-none p e = record {
+    few = omega arith;
+    parts = p;
+    shorts = record { few = λ b h. omega (arith, e .none b h); all = λ l p c j h. absurd (omega arith) };
+  }
+
+  module _ {j : ℕ} (f : Parting n legs price counts marks strips rates prices j) where
+    pub parting-all : n ≤ j → ShortsByPart n legs price counts marks strips rates prices
+    parting-all h =
+        let e : j ≡ n = omega (arith, f .few) in
+        rw e at (f .shorts)
+
+    module _ {leg : Leg} (found : leg ≡ legAt legs j) (h : j < n) where
+      -- a holding that is not short is passed over
+      pub parting-other : (leg .side ≡ 1 → ⊥) → Parting n legs price counts marks strips rates prices (j + 1)
+      parting-other e = record {
+        few = omega arith;
+        parts = f .parts;
+        shorts = record {
+          few = λ b l. omega (arith, f .shorts .few b l);
+          all = λ l p c. below-more _ _ (f .shorts .all l p c) (rw (unmet l (legAt legs j) (λ m. rw found at e (m .short))) (omega arith));
+        };
+      }
+
+      -- one more short, in the part b of its period
+      module _ (priced : Priced n legs price) {b k x y z : ℕ} (own : b ≡ partOf leg) (at : k ≡ 256 * b + getD counts b 0)
+          (mark : x ≡ shortMark leg) (strip : (leg .kind ≡ 0 → ⊥) → y ≡ x) (e : z ≡ wordAt price j) where
+        low : b < 8
+        low = rw own (part-low leg)
+
+        room : getD counts b 0 < 256
+        room = omega (arith, priced .bounded .few, f .shorts .few b low)
+
+        place : k < 2048
+        place = omega (arith, at, room, low)
+
+        own-count : getD (set counts b (getD counts b 0 + 1)) b 0 ≡ getD counts b 0 + 1
+        own-count = getD-set-same counts b _ 0 (omega (arith, low, f .parts .counts-held))
+
+        counts-up : (q : ℕ) → (getD counts q 0 ≤ getD (set counts b (getD counts b 0 + 1)) q 0) × (getD (set counts b (getD counts b 0 + 1)) q 0 ≤ getD counts q 0 + 1)
+        counts-up q =
+            same-or-not q b (λ t. rw (t, own-count) (omega arith, omega arith)) (λ t. rw (getD-set-other counts b q (getD counts b 0 + 1) 0 t) (omega arith, omega arith))
+
+        -- the place is taken by no short before
+        untaken : (q : ℕ) → q < 8 → (i : ℕ) → 256 * q ≤ i → i < 256 * q + getD counts q 0 → i ≢ k
+        untaken q l i g t e =
+            let same : q ≡ b = omega (arith, e, at, room, f .shorts .few q l, f .few, priced .bounded .few) in
+            omega (arith, e, at, same, ap (λ (v : ℕ). getD counts v 0) same)
+
+        -- a long of its part is covered with it, and one of another part saves nothing with it
+        here : (l : Leg) (p : ℕ) → RowCovered l p (set marks k x) (set strips k y) (set rates k (leg .rate)) (set prices k z) (256 * partOf l)
+            (256 * partOf l + getD (set counts b (getD counts b 0 + 1)) (partOf l) 0) → savingOf l (legAt legs j) ≤ p + wordAt price j
+        here l p c =
+            same-or-not (partOf l) b
+            (λ t. rw (← found, ← e) (row-added k rates prices (leg .rate) z marks strips x y (rw (t, own-count) at c) (f .parts) place
+            (omega (arith, at)) (omega (arith, at)) leg (record { marked = mark; rated = refl }) strip))
+            (λ t. rw (apart l (legAt legs j) (λ u. t (u ∙ sym (own ∙ ap partOf found)))) (omega arith))
+
+        pub parting-more : Parting n legs price (set counts b (getD counts b 0 + 1)) (set marks k x) (set strips k y) (set rates k (leg .rate)) (set prices k z) (j + 1)
+        parting-more = record {
+          few = omega arith;
+          parts = record {
+            counts-held = length-set counts b (getD counts b 0 + 1) ∙ f .parts .counts-held;
+            marks-held = length-set marks k x ∙ f .parts .marks-held;
+            strips-held = length-set strips k y ∙ f .parts .strips-held;
+            rates-held = length-set rates k (leg .rate) ∙ f .parts .rates-held;
+            prices-held = length-set prices k z ∙ f .parts .prices-held;
+            rates-high = λ i l.
+                same-or-not i k
+                (λ t. rw (t, getD-set-same rates k (leg .rate) 0 (omega (arith, place, f .parts .rates-held))) (rate-low j priced h found))
+                (λ t. rw (getD-set-other rates k i (leg .rate) 0 t) (f .parts .rates-high i l));
+          };
+          shorts = record {
+            few = λ q l. omega (arith, counts-up q .1, f .shorts .few q l);
+            all = λ l p c. below-more _ _
+                (f .shorts .all l p (row-kept k rates prices (leg .rate) z marks strips x y c (omega (arith, counts-up (partOf l) .0)) (untaken (partOf l) (part-low l))))
+                (here l p c);
+          };
+        }
