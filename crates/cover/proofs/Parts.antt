@@ -9,7 +9,7 @@ use lib.Seq.{getD-set-same, getD-set-other}
 use borrow.Author.Count.{below-more}
 use Rattle.lists.proofs.Tests.{by-test, same-or-not}
 use Rattle.words.specs.Words.{wordAt}
-use Rattle.article.specs.Pair.{allowed, rateLimit}
+use Rattle.article.specs.Pair.{allowed}
 use Rattle.article.proofs.Legs.{Meets, allowed-meets}
 use Rattle.article.specs.declared.pair.Leg.{Leg}
 use Rattle.packed.specs.Packed.{legAt}
@@ -60,13 +60,13 @@ module _ (k : ℕ) (rates prices : List ℕ) (r z : ℕ) where
         → (s : Leg) → Marked s x r → ((s .kind ≡ 0 → ⊥) → y ≡ x) → savingOf l s ≤ p + z
     row-added held h f g s ms strip =
         let own : Seeks l (soughtMark l) (l .rate) = record { marked = refl; rated = refl } in
-        let b : k < length rates = omega (arith, h, held .rates-held) in
-        let d : k < length prices = omega (arith, h, held .prices-held) in
+        let b : k < length rates = rw (held .rates-held) h in
+        let d : k < length prices = rw (held .prices-held) h in
         same-or-not (l .kind) 0
         (λ e. same-or-not (s .kind) 0
         (λ t. rw (two-bonds l s e t) (omega arith))
-        (λ t. column-added strips y (c .bond e) f g (omega (arith, h, held .strips-held)) b d own (rw (strip t) ms)))
-        (λ e. column-added marks x (c .other e) f g (omega (arith, h, held .marks-held)) b d own ms)
+        (λ t. column-added strips y (c .bond e) f g (rw (held .strips-held) h) b d own (rw (strip t) ms)))
+        (λ e. column-added marks x (c .other e) f g (rw (held .marks-held) h) b d own ms)
 
 -- the shorts before holding j stand in their parts
 pub record Parting (n : ℕ) (legs price counts marks strips rates prices : List ℕ) (j : ℕ) : Type 0 where
@@ -100,58 +100,62 @@ module _ {n : ℕ} {legs price counts marks strips rates prices : List ℕ} wher
         };
       }
 
-      -- one more short, in the part b of its period
-      module _ (priced : Priced n legs price) {b k x y z : ℕ} (own : b ≡ partOf leg) (at : k ≡ 256 * b + getD counts b 0)
-          (mark : x ≡ shortMark leg) (strip : (leg .kind ≡ 0 → ⊥) → y ≡ x) (e : z ≡ wordAt price j) where
-        low : b < 8
-        low = rw own (part-low leg)
+      module _ (priced : Priced n legs price) where
+        -- a part has room for one more
+        part-room : (b : ℕ) → b < 8 → getD counts b 0 < 256
+        part-room b l = omega (arith, h, priced .bounded .few, f .shorts .few b l)
 
-        room : getD counts b 0 < 256
-        room = omega (arith, priced .bounded .few, f .shorts .few b low)
+        pub place-low : 256 * (leg .period % 8) + getD counts (leg .period % 8) 0 < 2048
+        place-low = omega (arith, part-room (leg .period % 8) (omega arith))
 
-        place : k < 2048
-        place = omega (arith, at, room, low)
+        -- one more short, at place k, after the m in the part b of its period
+        module _ {b m k x y z : ℕ} (own : b ≡ partOf leg) (count : m ≡ getD counts b 0) (at : k ≡ 256 * b + m)
+            (mark : x ≡ shortMark leg) (strip : (leg .kind ≡ 0 → ⊥) → y ≡ x) (e : z ≡ wordAt price j) where
+          place : k < 2048
+          unfolding partOf
+          place = rw (at, count, own) place-low
 
-        own-count : getD (set counts b (getD counts b 0 + 1)) b 0 ≡ getD counts b 0 + 1
-        own-count = getD-set-same counts b _ 0 (omega (arith, low, f .parts .counts-held))
+          own-count : getD (set counts b (m + 1)) b 0 ≡ m + 1
+          own-count = getD-set-same counts b (m + 1) 0 (rw (f .parts .counts-held, own) (part-low leg))
 
-        counts-up : (q : ℕ) → (getD counts q 0 ≤ getD (set counts b (getD counts b 0 + 1)) q 0) × (getD (set counts b (getD counts b 0 + 1)) q 0 ≤ getD counts q 0 + 1)
-        counts-up q =
-            same-or-not q b (λ t. rw (t, own-count) (omega arith, omega arith)) (λ t. rw (getD-set-other counts b q (getD counts b 0 + 1) 0 t) (omega arith, omega arith))
+          counts-up : (q : ℕ) → (getD counts q 0 ≤ getD (set counts b (m + 1)) q 0) × (getD (set counts b (m + 1)) q 0 ≤ getD counts q 0 + 1)
+          counts-up q =
+              same-or-not q b (λ t. rw (t, own-count, count) (omega arith, omega arith)) (λ t. rw (getD-set-other counts b q (m + 1) 0 t) (omega arith, omega arith))
 
-        -- the place is taken by no short before
-        untaken : (q : ℕ) → q < 8 → (i : ℕ) → 256 * q ≤ i → i < 256 * q + getD counts q 0 → i ≢ k
-        untaken q l i g t e =
-            let same : q ≡ b = omega (arith, e, at, room, f .shorts .few q l, f .few, priced .bounded .few) in
-            omega (arith, e, at, same, ap (λ (v : ℕ). getD counts v 0) same)
+          -- no short before stands at the place
+          untaken : (q : ℕ) → q < 8 → (i : ℕ) → 256 * q ≤ i → i < 256 * q + getD counts q 0 → i ≢ k
+          untaken q l i g t u =
+              let same : q ≡ b = omega (arith, u, at, count, part-room b (rw own (part-low leg)), part-room q l) in
+              omega (arith, u, at, count, same, ap (λ (v : ℕ). getD counts v 0) same)
 
-        -- a long of its part is covered with it, and one of another part saves nothing with it
-        here : (l : Leg) (p : ℕ) → RowCovered l p (set marks k x) (set strips k y) (set rates k (leg .rate)) (set prices k z) (256 * partOf l)
-            (256 * partOf l + getD (set counts b (getD counts b 0 + 1)) (partOf l) 0) → savingOf l (legAt legs j) ≤ p + wordAt price j
-        here l p c =
-            same-or-not (partOf l) b
-            (λ t. rw (← found, ← e) (row-added k rates prices (leg .rate) z marks strips x y (rw (t, own-count) at c) (f .parts) place
-            (omega (arith, at)) (omega (arith, at)) leg (record { marked = mark; rated = refl }) strip))
-            (λ t. rw (apart l (legAt legs j) (λ u. t (u ∙ sym (own ∙ ap partOf found)))) (omega arith))
+          -- a long of its part is covered with it, and one of another part saves nothing with it
+          new-covered : (l : Leg) (p : ℕ) → RowCovered l p (set marks k x) (set strips k y) (set rates k (leg .rate)) (set prices k z)
+              (256 * partOf l) (256 * partOf l + getD (set counts b (m + 1)) (partOf l) 0) → savingOf l (legAt legs j) ≤ p + wordAt price j
+          new-covered l p c =
+              same-or-not (partOf l) b
+              (λ t. rw (← found, ← e) (row-added k rates prices (leg .rate) z marks strips x y (rw (t, own-count) at c) (f .parts) place
+              (omega (arith, at)) (omega (arith, at)) leg (record { marked = mark; rated = refl }) strip))
+              (λ t. rw (apart l (legAt legs j) (λ u. t (u ∙ sym (own ∙ ap partOf found)))) (omega arith))
 
-        pub parting-more : Parting n legs price (set counts b (getD counts b 0 + 1)) (set marks k x) (set strips k y) (set rates k (leg .rate)) (set prices k z) (j + 1)
-        parting-more = record {
-          few = omega arith;
-          parts = record {
-            counts-held = length-set counts b (getD counts b 0 + 1) ∙ f .parts .counts-held;
-            marks-held = length-set marks k x ∙ f .parts .marks-held;
-            strips-held = length-set strips k y ∙ f .parts .strips-held;
-            rates-held = length-set rates k (leg .rate) ∙ f .parts .rates-held;
-            prices-held = length-set prices k z ∙ f .parts .prices-held;
-            rates-high = λ i l.
-                same-or-not i k
-                (λ t. rw (t, getD-set-same rates k (leg .rate) 0 (omega (arith, place, f .parts .rates-held))) (rate-low j priced h found))
-                (λ t. rw (getD-set-other rates k i (leg .rate) 0 t) (f .parts .rates-high i l));
-          };
-          shorts = record {
-            few = λ q l. omega (arith, counts-up q .1, f .shorts .few q l);
-            all = λ l p c. below-more _ _
-                (f .shorts .all l p (row-kept k rates prices (leg .rate) z marks strips x y c (omega (arith, counts-up (partOf l) .0)) (untaken (partOf l) (part-low l))))
-                (here l p c);
-          };
-        }
+          pub parting-more : Parting n legs price (set counts b (m + 1)) (set marks k x) (set strips k y) (set rates k (leg .rate)) (set prices k z) (j + 1)
+          parting-more = record {
+            few = omega arith;
+            parts = record {
+              counts-held = length-set counts b (m + 1) ∙ f .parts .counts-held;
+              marks-held = length-set marks k x ∙ f .parts .marks-held;
+              strips-held = length-set strips k y ∙ f .parts .strips-held;
+              rates-held = length-set rates k (leg .rate) ∙ f .parts .rates-held;
+              prices-held = length-set prices k z ∙ f .parts .prices-held;
+              rates-high = λ i l.
+                  same-or-not i k
+                  (λ t. rw (t, getD-set-same rates k (leg .rate) 0 (rw (f .parts .rates-held) place)) (rate-low j priced h found))
+                  (λ t. rw (getD-set-other rates k i (leg .rate) 0 t) (f .parts .rates-high i l));
+            };
+            shorts = record {
+              few = λ q l. omega (arith, counts-up q .1, f .shorts .few q l);
+              all = λ l p c. below-more _ _
+                  (f .shorts .all l p
+                  (row-kept k rates prices (leg .rate) z marks strips x y c (omega (arith, counts-up (partOf l) .0)) (untaken (partOf l) (part-low l))))
+                  (new-covered l p c);
+            };
+          }
