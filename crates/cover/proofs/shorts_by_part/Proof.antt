@@ -19,7 +19,7 @@ abbrev μ-loop : tie.MeasureT-loop
 μ-loop n legs price counts₀ marks₀ strips₀ rates₀ prices₀ j₀ counts marks strips rates prices j = n - j
 
 loop-holds : tie.Need-loop-holds Inv-loop μ-loop
-loop-holds c = parting-none (c .before .before .before .before .before .before .before .pre .1 .0) (c .before .before .before .before .before .before .before .pre .1 .1)
+loop-holds c = let start = c .before .before .before .before .before .before .before in parting-none (start .pre .0) (start .pre .1 .0) (start .pre .1 .1)
 
 mul-leg-in : tie.Need-mul-leg-in Inv-loop μ-loop
 mul-leg-in c = search needs
@@ -44,7 +44,7 @@ mul-k c = search needs
 add-k : tie.Need-add-k Inv-loop μ-loop
 add-k c =
     let turn = c .before .before .before .before .before .before in
-    omega (arith, place-low (turn .before .loop .inv) (c .before .before .before .before .leg-in .ensures) (turn .loop-test .taken) (turn .before .before .before .before .before .before .before .before .before .pre .0))
+    omega (arith, place-low (turn .before .loop .inv) (c .before .before .before .before .leg-in .ensures) (turn .loop-test .taken))
 
 mark-of-requires : tie.Need-mark-of-requires Inv-loop μ-loop
 mark-of-requires c κs = rw (c .before .before .before .before .before .leg-in .ensures) (period-low _)
@@ -52,12 +52,12 @@ mark-of-requires c κs = rw (c .before .before .before .before .before .leg-in .
 mul-marks : tie.Need-mul-marks Inv-loop μ-loop
 mul-marks c =
     let turn = c .before .before .before .before .before .before .before .before in
-    omega (arith, place-low (turn .before .loop .inv) (c .before .before .before .before .before .before .leg-in .ensures) (turn .loop-test .taken) (turn .before .before .before .before .before .before .before .before .before .pre .0))
+    omega (arith, place-low (turn .before .loop .inv) (c .before .before .before .before .before .before .leg-in .ensures) (turn .loop-test .taken))
 
 slice-write-marks : tie.Need-slice-write-marks Inv-loop μ-loop
 slice-write-marks c =
     let turn = c .before .before .before .before .before .before .before .before in
-    rw (turn .before .loop .inv .parts .marks-held) (place-low (turn .before .loop .inv) (c .before .before .before .before .before .before .leg-in .ensures) (turn .loop-test .taken) (turn .before .before .before .before .before .before .before .before .before .pre .0))
+    rw (turn .before .loop .inv .parts .marks-held) (place-low (turn .before .loop .inv) (c .before .before .before .before .before .before .leg-in .ensures) (turn .loop-test .taken))
 
 strip-mark-requires : tie.Need-strip-mark-requires Inv-loop μ-loop
 strip-mark-requires _ _ = tt
@@ -68,12 +68,12 @@ mul-strips c = mul-marks (c .before)
 slice-write-strips : tie.Need-slice-write-strips Inv-loop μ-loop
 slice-write-strips c =
     let turn = c .before .before .before .before .before .before .before .before .before in
-    rw (turn .before .loop .inv .parts .strips-held) (place-low (turn .before .loop .inv) (c .before .before .before .before .before .before .before .leg-in .ensures) (turn .loop-test .taken) (turn .before .before .before .before .before .before .before .before .before .pre .0))
+    rw (turn .before .loop .inv .parts .strips-held) (place-low (turn .before .loop .inv) (c .before .before .before .before .before .before .before .leg-in .ensures) (turn .loop-test .taken))
 
 cast-rates : tie.Need-cast-rates Inv-loop μ-loop
 cast-rates c =
     let turn = c .before .before .before .before .before .before .before .before .before .before in
-    omega (arith, rate-low _ (turn .before .before .before .before .before .before .before .before .before .pre .0) (turn .loop-test .taken) (c .before .before .before .before .before .before .before .before .leg-in .ensures))
+    omega (arith, rate-low _ (turn .before .loop .inv .priced) (turn .loop-test .taken) (c .before .before .before .before .before .before .before .before .leg-in .ensures))
 
 mul-rates : tie.Need-mul-rates Inv-loop μ-loop
 mul-rates c = mul-marks (c .before .before)
@@ -81,17 +81,17 @@ mul-rates c = mul-marks (c .before .before)
 slice-write-rates : tie.Need-slice-write-rates Inv-loop μ-loop
 slice-write-rates c =
     let turn = c .before .before .before .before .before .before .before .before .before .before in
-    rw (turn .before .loop .inv .parts .rates-held) (place-low (turn .before .loop .inv) (c .before .before .before .before .before .before .before .before .leg-in .ensures) (turn .loop-test .taken) (turn .before .before .before .before .before .before .before .before .before .pre .0))
+    rw (turn .before .loop .inv .parts .rates-held) (place-low (turn .before .loop .inv) (c .before .before .before .before .before .before .before .before .leg-in .ensures) (turn .loop-test .taken))
 
 word-requires : tie.Need-word-requires Inv-loop μ-loop
 word-requires c κs =
     let turn = c .before .before .before .before .before .before .before .before .before .before in
-    omega (arith, turn .before .before .before .before .before .before .before .before .before .pre .0 .held, turn .loop-test .taken)
+    omega (arith, turn .before .loop .inv .priced .held, turn .loop-test .taken)
 
 cast-prices : tie.Need-cast-prices Inv-loop μ-loop
 cast-prices c =
     let turn = c .before .before .before .before .before .before .before .before .before .before .before in
-    omega (arith, c .word .ensures, turn .before .before .before .before .before .before .before .before .before .pre .0 .high _ (turn .loop-test .taken))
+    omega (arith, c .word .ensures, turn .before .loop .inv .priced .high _ (turn .loop-test .taken))
 
 mul-prices : tie.Need-mul-prices Inv-loop μ-loop
 mul-prices c = mul-marks (c .before .before .before)
@@ -99,12 +99,12 @@ mul-prices c = mul-marks (c .before .before .before)
 slice-write-prices : tie.Need-slice-write-prices Inv-loop μ-loop
 slice-write-prices c =
     let turn = c .before .before .before .before .before .before .before .before .before .before .before in
-    rw (turn .before .loop .inv .parts .prices-held) (place-low (turn .before .loop .inv) (c .before .before .before .before .before .before .before .before .before .leg-in .ensures) (turn .loop-test .taken) (turn .before .before .before .before .before .before .before .before .before .pre .0))
+    rw (turn .before .loop .inv .parts .prices-held) (place-low (turn .before .loop .inv) (c .before .before .before .before .before .before .before .before .before .leg-in .ensures) (turn .loop-test .taken))
 
 add-counts : tie.Need-add-counts Inv-loop μ-loop
 add-counts c =
     let turn = c .before .before .before .before .before .before .before .before .before .before .before in
-    omega (arith, place-low (turn .before .loop .inv) (c .before .before .before .before .before .before .before .before .before .leg-in .ensures) (turn .loop-test .taken) (turn .before .before .before .before .before .before .before .before .before .pre .0))
+    omega (arith, place-low (turn .before .loop .inv) (c .before .before .before .before .before .before .before .before .before .leg-in .ensures) (turn .loop-test .taken))
 
 mul-counts : tie.Need-mul-counts Inv-loop μ-loop
 mul-counts c = search needs
@@ -126,7 +126,7 @@ loop-again c =
     let leg = c .before .before .leg-in .ensures in
     elim (c .if1 .came) [
       | inl w ↦ rw (w .8, w .9, w .10, w .11, w .12)
-          (parting-more filling leg (turn .loop-test .taken) (turn .before .before .before .before .before .before .before .before .before .pre .0) refl refl refl (w .4 .ensures) (w .5 .ensures) (w .7 .ensures))
+          (parting-more filling leg (turn .loop-test .taken) refl refl refl (w .4 .ensures) (w .5 .ensures) (w .7 .ensures))
       | inr w ↦ rw (w .1, w .2, w .3, w .4, w .5) (parting-other filling leg (turn .loop-test .taken) (w .0 .left))
     ]
 
