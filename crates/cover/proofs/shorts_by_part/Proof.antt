@@ -57,7 +57,8 @@ mul-marks c =
 slice-write-marks : tie.Need-slice-write-marks Inv-loop μ-loop
 slice-write-marks c =
     let turn = c .before .before .before .before .before .before .before .before in
-    rw (turn .before .loop .inv .parts .marks-held) (place-low (turn .before .loop .inv) (c .before .before .before .before .before .before .leg-in .ensures) (turn .loop-test .taken))
+    let filling = turn .before .loop .inv in
+    rw (filling .parts .marks-held) (place-low filling (c .before .before .before .before .before .before .leg-in .ensures) (turn .loop-test .taken))
 
 strip-mark-requires : tie.Need-strip-mark-requires Inv-loop μ-loop
 strip-mark-requires _ _ = tt
@@ -68,7 +69,8 @@ mul-strips c = mul-marks (c .before)
 slice-write-strips : tie.Need-slice-write-strips Inv-loop μ-loop
 slice-write-strips c =
     let turn = c .before .before .before .before .before .before .before .before .before in
-    rw (turn .before .loop .inv .parts .strips-held) (place-low (turn .before .loop .inv) (c .before .before .before .before .before .before .before .leg-in .ensures) (turn .loop-test .taken))
+    let filling = turn .before .loop .inv in
+    rw (filling .parts .strips-held) (place-low filling (c .before .before .before .before .before .before .before .leg-in .ensures) (turn .loop-test .taken))
 
 cast-rates : tie.Need-cast-rates Inv-loop μ-loop
 cast-rates c =
@@ -81,7 +83,8 @@ mul-rates c = mul-marks (c .before .before)
 slice-write-rates : tie.Need-slice-write-rates Inv-loop μ-loop
 slice-write-rates c =
     let turn = c .before .before .before .before .before .before .before .before .before .before in
-    rw (turn .before .loop .inv .parts .rates-held) (place-low (turn .before .loop .inv) (c .before .before .before .before .before .before .before .before .leg-in .ensures) (turn .loop-test .taken))
+    let filling = turn .before .loop .inv in
+    rw (filling .parts .rates-held) (place-low filling (c .before .before .before .before .before .before .before .before .leg-in .ensures) (turn .loop-test .taken))
 
 word-requires : tie.Need-word-requires Inv-loop μ-loop
 word-requires c κs =
@@ -99,7 +102,8 @@ mul-prices c = mul-marks (c .before .before .before)
 slice-write-prices : tie.Need-slice-write-prices Inv-loop μ-loop
 slice-write-prices c =
     let turn = c .before .before .before .before .before .before .before .before .before .before .before in
-    rw (turn .before .loop .inv .parts .prices-held) (place-low (turn .before .loop .inv) (c .before .before .before .before .before .before .before .before .before .leg-in .ensures) (turn .loop-test .taken))
+    let filling = turn .before .loop .inv in
+    rw (filling .parts .prices-held) (place-low filling (c .before .before .before .before .before .before .before .before .before .leg-in .ensures) (turn .loop-test .taken))
 
 add-counts : tie.Need-add-counts Inv-loop μ-loop
 add-counts c =
