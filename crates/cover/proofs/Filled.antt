@@ -77,23 +77,23 @@ module _ {n : ℕ} {legs price marks strips rates prices : List ℕ} where
         old-rate k l = getD-set-other rates m k (leg .rate) 0 (λ q. omega (arith, q))
 
         -- by one column of marks: those of all shorts, or those of the strips
-        module _ (column : List ℕ) (w : ℕ) {long rate p : ℕ} (c : Covered long rate p (set column m w) (set rates m (leg .rate)) (set prices m z) (m + 1)) where
-          column-old : Covered long rate p column rates prices m
+        module _ (column : List ℕ) (w : ℕ) {long rate p : ℕ} (c : Covered long rate p (set column m w) (set rates m (leg .rate)) (set prices m z) 0 (m + 1)) where
+          column-old : Covered long rate p column rates prices 0 m
           column-old = record {
-            covered = λ k g l t ml mt.
+            covered = λ k b g l t ml mt.
                 let ne : k ≢ m = λ q. omega (arith, q) in
                 rw (getD-set-other prices m k z 0 ne) at
-                (c .covered k (omega arith) l t ml (rw (getD-set-other column m k w 0 ne, old-rate k g) mt));
+                (c .covered k b (omega arith) l t ml (rw (getD-set-other column m k w 0 ne, old-rate k g) mt));
           }
 
           column-new : length column ≡ 256 → w ≡ x → {l : Leg} → Seeks l long rate → savingOf l (legAt legs j) ≤ p + wordAt price j
           column-new held same {l} ml =
               let marked : Marked (legAt legs j) w (leg .rate) = record { marked = same ∙ mark ∙ ap shortMark found; rated = ap (λ (t : Leg). t .rate) found } in
               rw (getD-set-same prices m z 0 (omega (arith, room, f .places .prices-held)), e) at
-              (c .covered m (omega arith) l (legAt legs j) ml (rw (getD-set-same column m w 0 (omega (arith, room, held)), new-rate) marked))
+              (c .covered m (omega arith) (omega arith) l (legAt legs j) ml (rw (getD-set-same column m w 0 (omega (arith, room, held)), new-rate) marked))
 
-        module _ {l : Leg} {p : ℕ} (c : RowCovered l p (set marks m x) (set strips m y) (set rates m (leg .rate)) (set prices m z) (m + 1)) where
-          row-old : RowCovered l p marks strips rates prices m
+        module _ {l : Leg} {p : ℕ} (c : RowCovered l p (set marks m x) (set strips m y) (set rates m (leg .rate)) (set prices m z) 0 (m + 1)) where
+          row-old : RowCovered l p marks strips rates prices 0 m
           row-old = record { bond = λ b. column-old strips y (c .bond b); other = λ b. column-old marks x (c .other b) }
 
           -- a bond saves nothing with a bond, and the strips hold any other short
@@ -125,14 +125,14 @@ module _ {n : ℕ} {legs price marks strips rates prices : List ℕ} where
         }
 
 -- the row of a long by the mark that it seeks: a bond's and any other's
-module _ (l : Leg) {mark price m : ℕ} {marks strips rates prices : List ℕ} (sought : mark ≡ soughtMark l) where
-  pub bond-row : l .kind ≡ 0 → Covered mark (l .rate) price strips rates prices m → RowCovered l price marks strips rates prices m
+module _ (l : Leg) {mark price from to : ℕ} {marks strips rates prices : List ℕ} (sought : mark ≡ soughtMark l) where
+  pub bond-row : l .kind ≡ 0 → Covered mark (l .rate) price strips rates prices from to → RowCovered l price marks strips rates prices from to
   bond-row b c = record { bond = λ _. rw (← sought) c; other = λ f. absurd (f b) }
 
-  pub other-row : (l .kind ≡ 0 → ⊥) → Covered mark (l .rate) price marks rates prices m → RowCovered l price marks strips rates prices m
+  pub other-row : (l .kind ≡ 0 → ⊥) → Covered mark (l .rate) price marks rates prices from to → RowCovered l price marks strips rates prices from to
   other-row f c = record { bond = λ b. absurd (f b); other = λ _. rw (← sought) c }
 
 -- what the scan finds covered is covered with every holding
-pub scan-closed : {n m : ℕ} {legs price marks strips rates prices : List ℕ} → Shorts n legs price marks strips rates prices m → (i : ℕ) {first : ℕ} {leg : Leg}
-    → leg ≡ legAt legs i → first ≡ wordAt price i → RowCovered leg first marks strips rates prices m → (j : ℕ) → j < n → PairCovered legs price i j
-scan-closed s i found first c j h = rw (← found, ← first) (s .all _ _ c j h)
+pub scan-closed : {n : ℕ} (legs price : List ℕ) (i : ℕ) {first : ℕ} {leg : Leg} → leg ≡ legAt legs i → first ≡ wordAt price i
+    → ((j : ℕ) → j < n → savingOf leg (legAt legs j) ≤ first + wordAt price j) → (j : ℕ) → j < n → PairCovered legs price i j
+scan-closed legs price i found first all j h = rw (← found, ← first) (all j h)

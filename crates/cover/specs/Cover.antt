@@ -54,14 +54,14 @@ pub record Marked (s : Leg) (mark rate : ℕ) : Type 0 where
 pub record Asks (long a short b asked : ℕ) : Type 0 where
   pub enough : (l s : Leg) → Seeks l long a → Marked s short b → savingOf l s ≤ asked
 
--- a long with this mark, rate and price is covered with each of the first m shorts
-pub record Covered (mark rate price : ℕ) (marks rates prices : List ℕ) (m : ℕ) : Type 0 where
-  pub covered : (k : ℕ) → k < m → (l s : Leg) → Seeks l mark rate → Marked s (getD marks k 0) (getD rates k 0) → savingOf l s ≤ price + getD prices k 0
+-- a long with this mark, rate and price is covered with each of the shorts that stand from one place to another
+pub record Covered (mark rate price : ℕ) (marks rates prices : List ℕ) (from to : ℕ) : Type 0 where
+  pub covered : (k : ℕ) → from ≤ k → k < to → (l s : Leg) → Seeks l mark rate → Marked s (getD marks k 0) (getD rates k 0) → savingOf l s ≤ price + getD prices k 0
 
--- a long at this price is covered with each of the first m shorts: a bond by the column of the strips, any other long by that of all shorts
-pub record RowCovered (l : Leg) (price : ℕ) (marks strips rates prices : List ℕ) (m : ℕ) : Type 0 where
-  pub bond : l .kind ≡ 0 → Covered (soughtMark l) (l .rate) price strips rates prices m
-  pub other : (l .kind ≡ 0 → ⊥) → Covered (soughtMark l) (l .rate) price marks rates prices m
+-- a long at this price is covered with each of those shorts: a bond by the column of the strips, any other long by that of all shorts
+pub record RowCovered (l : Leg) (price : ℕ) (marks strips rates prices : List ℕ) (from to : ℕ) : Type 0 where
+  pub bond : l .kind ≡ 0 → Covered (soughtMark l) (l .rate) price strips rates prices from to
+  pub other : (l .kind ≡ 0 → ⊥) → Covered (soughtMark l) (l .rate) price marks rates prices from to
 
 -- 256 places in each column
 pub record Places (marks strips rates prices : List ℕ) : Type 0 where
@@ -74,7 +74,30 @@ pub record Places (marks strips rates prices : List ℕ) : Type 0 where
 pub record Shorts (n : ℕ) (legs price marks strips rates prices : List ℕ) (m : ℕ) : Type 0 where
   pub few : m ≤ n
   pub rates-high : AtMost rateLimit m (entry rates)
-  pub all : (l : Leg) (p : ℕ) → RowCovered l p marks strips rates prices m → (j : ℕ) → j < n → savingOf l (legAt legs j) ≤ p + wordAt price j
+  pub all : (l : Leg) (p : ℕ) → RowCovered l p marks strips rates prices 0 m → (j : ℕ) → j < n → savingOf l (legAt legs j) ≤ p + wordAt price j
+
+-- the part of the columns in which shorts of a leg's period stand: one of eight, of 256 places each
+unfoldable pub partOf : Leg → ℕ
+partOf l = l .period % 8
+
+-- eight parts in each column, and a count for each
+pub record Parts (counts marks strips rates prices : List ℕ) : Type 0 where
+  pub counts-held : length counts ≡ 8
+  pub marks-held : length marks ≡ 2048
+  pub strips-held : length strips ≡ 2048
+  pub rates-held : length rates ≡ 2048
+  pub prices-held : length prices ≡ 2048
+  pub rates-high : AtMost rateLimit 2048 (entry rates)
+
+-- none is taken
+pub record Free (counts : List ℕ) : Type 0 where
+  pub none : (b : ℕ) → b < 8 → getD counts b 0 ≡ 0
+
+-- the shorts in the parts are those of the first n holdings: a long that is covered with each of its part is covered with every holding
+pub record ShortsByPart (n : ℕ) (legs price counts marks strips rates prices : List ℕ) : Type 0 where
+  pub few : (b : ℕ) → b < 8 → getD counts b 0 ≤ n
+  pub all : (l : Leg) (p : ℕ) → RowCovered l p marks strips rates prices (256 * partOf l) (256 * partOf l + getD counts (partOf l) 0)
+      → (j : ℕ) → j < n → savingOf l (legAt legs j) ≤ p + wordAt price j
 
 -- n legs, each with a price that is not too high
 pub record Priced (n : ℕ) (legs price : List ℕ) : Type 0 where

@@ -4,9 +4,10 @@ use proposal::Fault;
 ghost use mathlib.Core.Path.{_≡_};
 ghost use mathlib.Core.Bool.{false};
 ghost use Prim.Native.Nat.{_-_, _*_, _≤_, _<_, min};
+ghost use lib.ListN.{length};
 ghost use Rattle.article.specs.Pair.{rateLimit};
 ghost use Rattle.packed.specs.Packed.{AtMost, entry};
-ghost use Rattle.cover.specs.Cover.{Priced, FirstOpen, Finds, Valued, Totals, isDomestic, isForeign, markOf, OtherClass, Asks, Covered, RowCovered, Places, Shorts};
+ghost use Rattle.cover.specs.Cover.{Priced, FirstOpen, Finds, Valued, Totals, isDomestic, isForeign, markOf, OtherClass, Asks, Covered, RowCovered, Places, Shorts, Parts, Free, ShortsByPart};
 
 // Whether a leg is in CAD and of Canada or a province.
 fn is_domestic(leg: Leg) -> bool
@@ -112,7 +113,7 @@ fn row_open(
     price: u16,
 ) -> bool
     requires { ⌜ (m ≤ 256) × ((rate ≤ rateLimit) × (AtMost rateLimit m (entry (now rates)))) ⌝ }
-    ensures { λ r. ⌜ (r ≡ false → Covered mark rate price (now (marks .entry)) (now (rates .entry)) (now (prices .entry)) m) ⌝ }
+    ensures { λ r. ⌜ (r ≡ false → Covered mark rate price (now (marks .entry)) (now (rates .entry)) (now (prices .entry)) 0 m) ⌝ }
 {
     let mut worst: u16 = 0;
     let mut j: usize = 0;
@@ -136,7 +137,7 @@ fn long_open(
     price: u16,
 ) -> bool
     requires { ⌜ (m ≤ 256) × ((long .period < 256) × ((long .rate ≤ rateLimit) × (AtMost rateLimit m (entry (now rates))))) ⌝ }
-    ensures { λ r. ⌜ (r ≡ false → RowCovered long price (now (marks .entry)) (now (strips .entry)) (now (rates .entry)) (now (prices .entry)) m) ⌝ }
+    ensures { λ r. ⌜ (r ≡ false → RowCovered long price (now (marks .entry)) (now (strips .entry)) (now (rates .entry)) (now (prices .entry)) 0 m) ⌝ }
 {
     let mark = mark_of(long.kind != 0, long);
     let rate = long.rate as u16;
@@ -265,8 +266,147 @@ fn scan(n: usize, legs: &[u64], price: &[u8]) -> Fault
     scanned(n, legs, price, m, &marks, &strips, &rates, &prices)
 }
 
+// The same as `row_open` for the shorts from one place to another.
+fn part_open(
+    from: usize,
+    to: usize,
+    marks: &[u16],
+    rates: &[u16],
+    prices: &[u16],
+    mark: u16,
+    rate: u16,
+    price: u16,
+) -> bool
+    requires { ⌜ (to ≤ length (now marks)) × ((to ≤ length (now rates)) × ((to ≤ length (now prices)) × ((rate ≤ rateLimit) × (AtMost rateLimit to (entry (now rates)))))) ⌝ }
+    ensures { λ r. ⌜ (r ≡ false → Covered mark rate price (now (marks .entry)) (now (rates .entry)) (now (prices .entry)) from to) ⌝ }
+{
+    let mut worst: u16 = 0;
+    let mut j: usize = from;
+    while j < to {
+        let s = asked(mark, rate, marks[j], rates[j]);
+        let missing = above(above(s, price), prices[j]);
+        worst = greater(worst, missing);
+        j = j + 1;
+    }
+    0 < worst
+}
+
+// The same for a long leg.
+fn long_part_open(
+    from: usize,
+    to: usize,
+    marks: &[u16],
+    strips: &[u16],
+    rates: &[u16],
+    prices: &[u16],
+    long: Leg,
+    price: u16,
+) -> bool
+    requires { ⌜ (to ≤ length (now marks)) × ((to ≤ length (now strips)) × ((to ≤ length (now rates)) × ((to ≤ length (now prices))
+        × ((long .period < 256) × ((long .rate ≤ rateLimit) × (AtMost rateLimit to (entry (now rates)))))))) ⌝ }
+    ensures { λ r. ⌜ (r ≡ false → RowCovered long price (now (marks .entry)) (now (strips .entry)) (now (rates .entry)) (now (prices .entry)) from to) ⌝ }
+{
+    let mark = mark_of(long.kind != 0, long);
+    let rate = long.rate as u16;
+    if long.kind == 0 {
+        return part_open(from, to, strips, rates, prices, mark, rate, price);
+    }
+    part_open(from, to, marks, rates, prices, mark, rate, price)
+}
+
+// The shorts of the first n holdings in columns, each in the part of its period.
+fn shorts_by_part(
+    n: usize,
+    legs: &[u64],
+    price: &[u8],
+    counts: &mut [usize],
+    marks: &mut [u16],
+    strips: &mut [u16],
+    rates: &mut [u16],
+    prices: &mut [u16],
+)
+    requires { ⌜ Priced n (now legs) (now price) × (Parts (now counts) (now marks) (now strips) (now rates) (now prices) × Free (now counts)) ⌝ }
+    ensures { λ _. ⌜ Parts (now (counts .exit)) (now (marks .exit)) (now (strips .exit)) (now (rates .exit)) (now (prices .exit))
+        × ShortsByPart n (now (legs .entry)) (now (price .entry))
+        (now (counts .exit)) (now (marks .exit)) (now (strips .exit)) (now (rates .exit)) (now (prices .exit)) ⌝ }
+{
+    let mut j: usize = 0;
+    while j < n {
+        let leg = packed::leg_in(legs[j]);
+        if leg.side == 1 {
+            let part = (leg.period % 8) as usize;
+            let m = counts[part];
+            let k = 256 * part + m;
+            let mark = mark_of(leg.kind == 0, leg);
+            marks[k] = mark;
+            strips[k] = strip_mark(leg.kind, mark);
+            rates[k] = leg.rate as u16;
+            prices[k] = words::word(price, j) as u16;
+            counts[part] = m + 1;
+        }
+        j = j + 1;
+    }
+}
+
+// The same as `scanned`, by parts. A part is scanned by sixteen places, so that no short is left to be looked at alone.
+fn scanned_by_part(
+    n: usize,
+    legs: &[u64],
+    price: &[u8],
+    counts: &[usize],
+    marks: &[u16],
+    strips: &[u16],
+    rates: &[u16],
+    prices: &[u16],
+) -> Fault
+    requires { ⌜ Priced n (now legs) (now price) × (Parts (now counts) (now marks) (now strips) (now rates) (now prices)
+        × ShortsByPart n (now legs) (now price) (now counts) (now marks) (now strips) (now rates) (now prices)) ⌝ }
+    ensures { λ r. ⌜ Finds n (now (legs .entry)) (now (price .entry)) r ⌝ }
+{
+    let mut i: usize = 0;
+    while i < n {
+        let long = packed::leg_in(legs[i]);
+        if long.side == 0 {
+            let part = (long.period % 8) as usize;
+            let from = 256 * part;
+            let to = from + (counts[part] + 15) / 16 * 16;
+            let first = words::word(price, i);
+            if long_part_open(from, to, marks, strips, rates, prices, long, first as u16) {
+                let j = first_open(n, legs, price, i);
+                if j < n {
+                    return proposal::fault_at(16, i, j);
+                }
+            }
+        }
+        i = i + 1;
+    }
+    proposal::fault_at(0, 0, 0)
+}
+
+fn scan_by_part(n: usize, legs: &[u64], price: &[u8]) -> Fault
+    requires { ⌜ Priced n (now legs) (now price) ⌝ }
+    ensures { λ r. ⌜ Finds n (now (legs .entry)) (now (price .entry)) r ⌝ }
+{
+    let mut counts = [0usize; 8];
+    let mut marks = [0u16; 2048];
+    let mut strips = [0u16; 2048];
+    let mut rates = [0u16; 2048];
+    let mut prices = [0u16; 2048];
+    shorts_by_part(
+        n,
+        legs,
+        price,
+        &mut counts,
+        &mut marks,
+        &mut strips,
+        &mut rates,
+        &mut prices,
+    );
+    scanned_by_part(n, legs, price, &counts, &marks, &strips, &rates, &prices)
+}
+
 // The first allowed pair of the book that the prices do not cover, lowest long, then lowest short, or no fault. Columns of the shorts are
-// worth their making from nine holdings on.
+// worth their making from nine holdings on, and parts of them from 65 on.
 pub fn first_uncovered(n: usize, legs: &[u64], price: &[u8]) -> Fault
     requires { ⌜ Priced n (now legs) (now price) ⌝ }
     ensures { λ r. ⌜ Finds n (now (legs .entry)) (now (price .entry)) r ⌝ }
@@ -274,7 +414,10 @@ pub fn first_uncovered(n: usize, legs: &[u64], price: &[u8]) -> Fault
     if n < 9 {
         return searched(n, legs, price);
     }
-    scan(n, legs, price)
+    if n < 65 {
+        return scan(n, legs, price);
+    }
+    scan_by_part(n, legs, price)
 }
 
 // The sum of price times whole market value.

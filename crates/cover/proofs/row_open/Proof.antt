@@ -1,26 +1,18 @@
 -- `row_open` finds a row closed only where it is covered: what is missing of each short passed is at most `worst`. Assumes nothing.
-use Prim.Native.Nat.{ℕ, _-_, _≤_, _<_}
-use native.Mathlib.Omega.{arith}
-use lib.ListN.{getD}
-use borrow.Author.Count.{below-more}
+use Prim.Native.Nat.{_-_}
 use borrow.Author.Needs.{needs}
-use borrow.Author.Tests.{ltb-false}
-use native.Mathlib.Nat.{le-trans, lt-of-lt-of-le}
-use Rattle.article.specs.declared.pair.Leg.{Leg}
-use Rattle.savings.specs.Savings.{savingOf}
-use Rattle.cover.specs.Cover.{Seeks, Marked}
+use Rattle.cover.proofs.Rows.{Passed, passed-none, passed-more, passed-all}
 use Rattle.cover.proofs.row_open.Statement.{statement}
 use Rattle.cover.proofs.row_open.Tie as tie
 
 abbrev Inv-loop : tie.InvT-loop
-Inv-loop m marks rates prices mark rate price worst₀ j₀ worst j =
-    (k : ℕ) → k < j → (l s : Leg) → Seeks l mark rate → Marked s (getD marks k 0) (getD rates k 0) → savingOf l s - price - getD prices k 0 ≤ worst
+Inv-loop m marks rates prices mark rate price worst₀ j₀ worst j = Passed mark rate price marks rates prices 0 worst j
 
 abbrev μ-loop : tie.MeasureT-loop
 μ-loop m marks rates prices mark rate price worst₀ j₀ worst j = m - j
 
 loop-holds : tie.Need-loop-holds Inv-loop μ-loop
-loop-holds c = λ k h. absurd (omega arith)
+loop-holds c = passed-none
 
 mul-asked : tie.Need-mul-asked Inv-loop μ-loop
 mul-asked c = search needs
@@ -62,18 +54,12 @@ loop-less c = search needs
 
 loop-again : tie.Need-loop-again Inv-loop μ-loop
 loop-again c =
-    let done = c .greater .ensures in
-    let second = c .before .above2 .ensures in
-    let first = c .before .before .before .above .ensures in
-    let enough = c .before .before .before .before .asked .ensures .enough in
-    below-more _ _ (λ k h l s ml ms. le-trans (c .before .before .before .before .before .before .before .before .loop .inv k h l s ml ms) (done .0))
-    (λ l s ml ms. omega (arith, done .1, first, second, enough l s ml ms))
+    let at-asked = c .before .before .before .before in
+    passed-more (at-asked .before .before .before .before .loop .inv) (at-asked .asked .ensures) (c .before .before .before .above .ensures)
+    (c .before .above2 .ensures) (c .greater .ensures)
 
 returns : tie.Need-returns Inv-loop μ-loop
-returns c = λ e.
-    let passed = c .before .loop .inv in
-    let none : c .before .loop .worst ≤ 0 = ltb-false 0 (c .before .loop .worst) e in
-    record { covered = λ k h l s ml ms. omega (arith, none, passed k (lt-of-lt-of-le h (c .loop-test .left)) l s ml ms) }
+returns c = passed-all (c .before .loop .inv) (c .loop-test .left)
 
 pub row-open-spec : {M : Type 1} → statement M
 row-open-spec =

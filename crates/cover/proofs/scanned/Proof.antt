@@ -71,7 +71,7 @@ loop-again c =
     ⊎-elim
     (λ w. closed-row closed taken (w .4 .ensures) (w .5 .left))
     (⊎-elim
-    (λ w. closed-more closed taken (scan-closed shorts _ leg (w .1 .ensures) (w .2 .ensures (w .3 .left))))
+    (λ w. closed-more closed taken (scan-closed (start .args .legs .now) (start .args .price .now) _ leg (w .1 .ensures) (shorts .all _ _ (w .2 .ensures (w .3 .left)))))
     (λ w. closed-more closed taken (λ j _. other-covered (start .args .legs .now) _ _ leg (w .left) j)))
     (c .if1 .came)
 

@@ -1,0 +1,167 @@
+-- The columns of the shorts in parts by period, filled holding by holding. Assumes nothing.
+use mathlib.Core.Path.{_≡_, refl, sym, ap, _∙_}
+use mathlib.Core.Logic.{_≢_}
+use mathlib.Core.List.{List}
+use Prim.Native.Nat.{ℕ, _+_, _*_, _%_, _≤_, _<_}
+use native.Mathlib.Omega.{arith}
+use lib.ListN.{length, getD, set, length-set}
+use lib.Seq.{getD-set-same, getD-set-other}
+use borrow.Author.Count.{below-more}
+use Rattle.lists.proofs.Tests.{by-test, same-or-not}
+use Rattle.words.specs.Words.{wordAt}
+use Rattle.article.specs.Pair.{allowed}
+use Rattle.article.proofs.Legs.{Meets, allowed-meets}
+use Rattle.article.specs.declared.pair.Leg.{Leg}
+use Rattle.packed.specs.Packed.{legAt}
+use Rattle.savings.specs.Savings.{savingOf}
+use Rattle.cover.specs.Cover.{Priced, soughtMark, shortMark, Seeks, Marked, Covered, RowCovered, partOf, Parts, Free, ShortsByPart}
+use Rattle.cover.proofs.Estimate.{two-bonds}
+use Rattle.cover.proofs.Filled.{rate-low}
+
+-- two legs that are no allowed pair save nothing
+unmet : (l s : Leg) → (Meets l s → ⊥) → savingOf l s ≡ 0
+unfolding savingOf
+unmet l s h = by-test (λ (x : ℕ). x ≡ 0) (allowed l s) (λ e. absurd (h (allowed-meets l s e))) (λ _. refl)
+
+-- there are eight parts
+part-low : (l : Leg) → partOf l < 8
+unfolding partOf
+part-low l = omega arith
+
+-- legs of two parts have two periods, and save nothing
+apart : (l s : Leg) → (partOf l ≡ partOf s → ⊥) → savingOf l s ≡ 0
+unfolding partOf
+apart l s h = unmet l s (λ m. h (ap (λ (x : ℕ). x % 8) (m .period)))
+
+-- a short is written at place k of the columns
+module _ (k : ℕ) (rates prices : List ℕ) (r z : ℕ) where
+  -- by one column of marks: those of all shorts, or those of the strips
+  module _ (column : List ℕ) (w : ℕ) {long rate p from more : ℕ} (c : Covered long rate p (set column k w) (set rates k r) (set prices k z) from more) where
+    -- no other place is touched
+    column-kept : {to : ℕ} → to ≤ more → ((i : ℕ) → from ≤ i → i < to → i ≢ k) → Covered long rate p column rates prices from to
+    column-kept h others = record {
+      covered = λ i f g l s ml ms.
+          let ne : i ≢ k = others i f g in
+          rw (getD-set-other prices k i z 0 ne) at
+          (c .covered i f (omega arith) l s ml (rw (getD-set-other column k i w 0 ne, getD-set-other rates k i r 0 ne) ms));
+    }
+
+    -- the short itself is at the place
+    column-added : from ≤ k → k < more → k < length column → k < length rates → k < length prices → {l s : Leg} → Seeks l long rate → Marked s w r
+        → savingOf l s ≤ p + z
+    column-added f g a b d {l} {s} ml ms =
+        rw (getD-set-same prices k z 0 d) at (c .covered k f g l s ml (rw (getD-set-same column k w 0 a, getD-set-same rates k r 0 b) ms))
+
+  -- the same by both
+  module _ (marks strips : List ℕ) (x y : ℕ) {l : Leg} {p from more : ℕ}
+      (c : RowCovered l p (set marks k x) (set strips k y) (set rates k r) (set prices k z) from more) where
+    row-kept : {to : ℕ} → to ≤ more → ((i : ℕ) → from ≤ i → i < to → i ≢ k) → RowCovered l p marks strips rates prices from to
+    row-kept h others = record { bond = λ b. column-kept strips y (c .bond b) h others; other = λ b. column-kept marks x (c .other b) h others }
+
+    -- a bond saves nothing with a bond, and the strips hold any other short
+    row-added : from ≤ k → k < more → k < length marks → k < length strips → k < length rates → k < length prices → (s : Leg) → Marked s x r
+        → ((s .kind ≡ 0 → ⊥) → y ≡ x) → savingOf l s ≤ p + z
+    row-added f g a a′ b d s ms strip =
+        let own : Seeks l (soughtMark l) (l .rate) = record { marked = refl; rated = refl } in
+        same-or-not (l .kind) 0
+        (λ e. same-or-not (s .kind) 0
+        (λ t. rw (two-bonds l s e t) (omega arith))
+        (λ t. column-added strips y (c .bond e) f g a′ b d own (rw (strip t) ms)))
+        (λ e. column-added marks x (c .other e) f g a b d own ms)
+
+-- the shorts before holding j stand in their parts
+pub record Parting (n : ℕ) (legs price counts marks strips rates prices : List ℕ) (j : ℕ) : Type 0 where
+  pub few : j ≤ n
+  pub priced : Priced n legs price
+  pub parts : Parts counts marks strips rates prices
+  pub shorts : ShortsByPart j legs price counts marks strips rates prices
+
+module _ {n : ℕ} {legs price counts marks strips rates prices : List ℕ} where
+  pub parting-none : Priced n legs price → Parts counts marks strips rates prices → Free counts → Parting n legs price counts marks strips rates prices 0
+  parting-none priced p e = record {
+    few = omega arith;
+    priced = priced;
+    parts = p;
+    shorts = record { few = λ b h. omega (arith, e .none b h); all = λ l p c j h. absurd (omega arith) };
+  }
+
+  module _ {j : ℕ} (f : Parting n legs price counts marks strips rates prices j) where
+    pub parting-all : n ≤ j → ShortsByPart n legs price counts marks strips rates prices
+    parting-all h =
+        let e : j ≡ n = omega (arith, f .few) in
+        rw e at (f .shorts)
+
+    module _ {leg : Leg} (found : leg ≡ legAt legs j) (h : j < n) where
+      -- a holding that is not short is passed over
+      pub parting-other : (leg .side ≡ 1 → ⊥) → Parting n legs price counts marks strips rates prices (j + 1)
+      parting-other e = record {
+        few = omega arith;
+        priced = f .priced;
+        parts = f .parts;
+        shorts = record {
+          few = λ b l. omega (arith, f .shorts .few b l);
+          all = λ l p c. below-more _ _ (f .shorts .all l p c) (rw (unmet l (legAt legs j) (λ m. rw found at e (m .short))) (omega arith));
+        };
+      }
+
+      -- a part has room for one more
+      part-room : (b : ℕ) → b < 8 → getD counts b 0 < 256
+      part-room b l = omega (arith, h, f .priced .bounded .few, f .shorts .few b l)
+
+      -- and the columns have the place for it
+      pub place-low : 256 * (leg .period % 8) + getD counts (leg .period % 8) 0 < 2048
+      place-low = omega (arith, part-room (leg .period % 8) (omega arith))
+
+      -- one more short, at place k, after the m in the part b of its period
+      module _ {b m k x y z : ℕ} (own : b ≡ partOf leg) (count : m ≡ getD counts b 0) (at : k ≡ 256 * b + m)
+          (mark : x ≡ shortMark leg) (strip : (leg .kind ≡ 0 → ⊥) → y ≡ x) (e : z ≡ wordAt price j) where
+        -- the place is in each column, and no short before stands there
+        place : k < 2048
+        unfolding partOf
+        place = rw (at, count, own) place-low
+
+        untaken : (q : ℕ) → q < 8 → (i : ℕ) → 256 * q ≤ i → i < 256 * q + getD counts q 0 → i ≢ k
+        untaken q l i g t u =
+            let same : q ≡ b = omega (arith, u, at, count, part-room b (rw own (part-low leg)), part-room q l) in
+            omega (arith, u, at, count, same, ap (λ (v : ℕ). getD counts v 0) same)
+
+        -- the count of its part grows by one, and no other does
+        own-count : getD (set counts b (m + 1)) b 0 ≡ m + 1
+        own-count = getD-set-same counts b (m + 1) 0 (rw (f .parts .counts-held, own) (part-low leg))
+
+        counts-up : (q : ℕ) → (getD counts q 0 ≤ getD (set counts b (m + 1)) q 0) × (getD (set counts b (m + 1)) q 0 ≤ getD counts q 0 + 1)
+        counts-up q =
+            same-or-not q b (λ t. rw (t, own-count, count) (omega arith, omega arith)) (λ t. rw (getD-set-other counts b q (m + 1) 0 t) (omega arith, omega arith))
+
+        -- a long of its part is covered with it, and one of another part saves nothing with it
+        new-covered : (l : Leg) (p : ℕ) → RowCovered l p (set marks k x) (set strips k y) (set rates k (leg .rate)) (set prices k z)
+            (256 * partOf l) (256 * partOf l + getD (set counts b (m + 1)) (partOf l) 0) → savingOf l (legAt legs j) ≤ p + wordAt price j
+        new-covered l p c =
+            same-or-not (partOf l) b
+            (λ t. rw (← found, ← e) (row-added k rates prices (leg .rate) z marks strips x y (rw (t, own-count) at c) (omega (arith, at)) (omega (arith, at))
+            (rw (f .parts .marks-held) place) (rw (f .parts .strips-held) place) (rw (f .parts .rates-held) place) (rw (f .parts .prices-held) place) leg (record { marked = mark; rated = refl }) strip))
+            (λ t. rw (apart l (legAt legs j) (λ u. t (u ∙ sym (own ∙ ap partOf found)))) (omega arith))
+
+        pub parting-more : Parting n legs price (set counts b (m + 1)) (set marks k x) (set strips k y) (set rates k (leg .rate)) (set prices k z) (j + 1)
+        parting-more = record {
+          few = omega arith;
+          priced = f .priced;
+          parts = record {
+            counts-held = length-set counts b (m + 1) ∙ f .parts .counts-held;
+            marks-held = length-set marks k x ∙ f .parts .marks-held;
+            strips-held = length-set strips k y ∙ f .parts .strips-held;
+            rates-held = length-set rates k (leg .rate) ∙ f .parts .rates-held;
+            prices-held = length-set prices k z ∙ f .parts .prices-held;
+            rates-high = λ i l.
+                same-or-not i k
+                (λ t. rw (t, getD-set-same rates k (leg .rate) 0 (rw (f .parts .rates-held) place)) (rate-low j (f .priced) h found))
+                (λ t. rw (getD-set-other rates k i (leg .rate) 0 t) (f .parts .rates-high i l));
+          };
+          shorts = record {
+            few = λ q l. omega (arith, counts-up q .1, f .shorts .few q l);
+            all = λ l p c. below-more _ _
+                (f .shorts .all l p
+                (row-kept k rates prices (leg .rate) z marks strips x y c (omega (arith, counts-up (partOf l) .0)) (untaken (partOf l) (part-low l))))
+                (new-covered l p c);
+          };
+        }

@@ -1,0 +1,84 @@
+-- `part_open` finds a part of a row closed only where it is covered, as `row_open` does. Assumes nothing.
+use Prim.Native.Nat.{_-_}
+use borrow.Author.Needs.{needs}
+use Rattle.cover.proofs.Rows.{Passed, passed-none, passed-more, passed-all}
+use Rattle.cover.proofs.part_open.Statement.{statement}
+use Rattle.cover.proofs.part_open.Tie as tie
+
+abbrev Inv-loop : tie.InvT-loop
+Inv-loop from to marks rates prices mark rate price worst₀ j₀ worst j = Passed mark rate price marks rates prices from worst j
+
+abbrev μ-loop : tie.MeasureT-loop
+μ-loop from to marks rates prices mark rate price worst₀ j₀ worst j = to - j
+
+loop-holds : tie.Need-loop-holds Inv-loop μ-loop
+loop-holds c = passed-none
+
+mul-asked : tie.Need-mul-asked Inv-loop μ-loop
+mul-asked c = search needs
+
+shared-slice-read-asked : tie.Need-shared-slice-read-asked Inv-loop μ-loop
+shared-slice-read-asked c = search needs
+
+mul-asked-2 : tie.Need-mul-asked-2 Inv-loop μ-loop
+mul-asked-2 c = search needs
+
+shared-slice-read-asked-2 : tie.Need-shared-slice-read-asked-2 Inv-loop μ-loop
+shared-slice-read-asked-2 c = search needs
+
+asked-requires : tie.Need-asked-requires Inv-loop μ-loop
+asked-requires c κs =
+    let (_, (_, (_, (rate, rates)))) = c .before .before .before .before .before .before .before .pre in
+    (rate, rates _ (c .before .before .loop-test .taken))
+
+above-requires : tie.Need-above-requires Inv-loop μ-loop
+above-requires c κs = search needs
+
+mul-above : tie.Need-mul-above Inv-loop μ-loop
+mul-above c = search needs
+
+shared-slice-read-above : tie.Need-shared-slice-read-above Inv-loop μ-loop
+shared-slice-read-above c = search needs
+
+above-requires-2 : tie.Need-above-requires-2 Inv-loop μ-loop
+above-requires-2 c κs = search needs
+
+greater-requires : tie.Need-greater-requires Inv-loop μ-loop
+greater-requires c κs = search needs
+
+add-j : tie.Need-add-j Inv-loop μ-loop
+add-j c = search needs
+
+loop-less : tie.Need-loop-less Inv-loop μ-loop
+loop-less c = search needs
+
+loop-again : tie.Need-loop-again Inv-loop μ-loop
+loop-again c =
+    let at-asked = c .before .before .before .before in
+    passed-more (at-asked .before .before .before .before .loop .inv) (at-asked .asked .ensures) (c .before .before .before .above .ensures)
+    (c .before .above2 .ensures) (c .greater .ensures)
+
+returns : tie.Need-returns Inv-loop μ-loop
+returns c = passed-all (c .before .loop .inv) (c .loop-test .left)
+
+pub part-open-spec : {M : Type 1} → statement M
+part-open-spec =
+    tie.close
+    (tie.spec
+    Inv-loop
+    μ-loop
+    loop-holds
+    mul-asked
+    shared-slice-read-asked
+    mul-asked-2
+    shared-slice-read-asked-2
+    asked-requires
+    above-requires
+    mul-above
+    shared-slice-read-above
+    above-requires-2
+    greater-requires
+    add-j
+    loop-less
+    loop-again
+    returns)
