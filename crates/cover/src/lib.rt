@@ -306,12 +306,12 @@ fn long_part_open(
         × ((long .period < 256) × ((long .rate ≤ rateLimit) × (AtMost rateLimit to (entry (now rates)))))))) ⌝ }
     ensures { λ r. ⌜ (r ≡ false → RowCovered long price (now (marks .entry)) (now (strips .entry)) (now (rates .entry)) (now (prices .entry)) from to) ⌝ }
 {
-    let mark = mark_of(long.kind != 0, long);
+    let sought = mark_of(long.kind != 0, long);
     let rate = long.rate as u16;
     if long.kind == 0 {
-        return part_open(from, to, strips, rates, prices, mark, rate, price);
+        return part_open(from, to, strips, rates, prices, sought, rate, price);
     }
-    part_open(from, to, marks, rates, prices, mark, rate, price)
+    part_open(from, to, marks, rates, prices, sought, rate, price)
 }
 
 // The shorts of the first n holdings in columns, each in the part of its period.
@@ -372,9 +372,9 @@ fn scanned_by_part(
             let to = from + (counts[part] + 15) / 16 * 16;
             let first = words::word(price, i);
             if long_part_open(from, to, marks, strips, rates, prices, long, first as u16) {
-                let j = first_open(n, legs, price, i);
-                if j < n {
-                    return proposal::fault_at(16, i, j);
+                let short = first_open(n, legs, price, i);
+                if short < n {
+                    return proposal::fault_at(16, i, short);
                 }
             }
         }
