@@ -15,8 +15,9 @@ use Rattle.article.specs.Pair.{isShort, isLong, allowed, rateLimit, RateInRange
 use Rattle.article.specs.declared.pair.Leg.{Leg}
 use Rattle.packed.specs.Packed.{legIn, legAt}
 use Rattle.savings.specs.Savings.{savingOf}
-use Rattle.cover.specs.Cover.{PairCovered, Priced, soughtMark, shortMark, Seeks, Marked, Covered, RowCovered, Places, Shorts}
-use Rattle.cover.proofs.Estimate.{two-bonds}
+use Rattle.marks.specs.Marks.{soughtMark, shortMark, Seeks, Marked}
+use Rattle.cover.specs.Cover.{PairCovered, Priced, Covered, RowCovered, Places, Shorts}
+use Rattle.marks.proofs.Estimate.{two-bonds}
 
 -- a holding that is not short saves nothing as the short
 not-short : (l s : Leg) → (s .side ≡ 1 → ⊥) → savingOf l s ≡ 0

@@ -14,8 +14,9 @@ use Rattle.article.proofs.Legs.{Meets, allowed-meets}
 use Rattle.article.specs.declared.pair.Leg.{Leg}
 use Rattle.packed.specs.Packed.{legAt}
 use Rattle.savings.specs.Savings.{savingOf}
-use Rattle.cover.specs.Cover.{Priced, soughtMark, shortMark, Seeks, Marked, Covered, RowCovered, partOf, Parts, Free, ShortsByPart}
-use Rattle.cover.proofs.Estimate.{two-bonds}
+use Rattle.marks.specs.Marks.{soughtMark, shortMark, Seeks, Marked}
+use Rattle.cover.specs.Cover.{Priced, Covered, RowCovered, partOf, Parts, Free, ShortsByPart}
+use Rattle.marks.proofs.Estimate.{two-bonds}
 use Rattle.cover.proofs.Filled.{rate-low}
 
 -- two legs that are no allowed pair save nothing

@@ -13,7 +13,8 @@ use Rattle.words.specs.Words.{wordAt}
 use Rattle.article.specs.declared.pair.Leg.{Leg}
 use Rattle.packed.specs.Packed.{legAt}
 use Rattle.savings.specs.Savings.{savingOf}
-use Rattle.cover.specs.Cover.{PairCovered, Priced, Seeks, Marked, Asks, Covered, RowCovered, partOf, Parts, Free, ShortsByPart}
+use Rattle.marks.specs.Marks.{Seeks, Marked, Asks}
+use Rattle.cover.specs.Cover.{PairCovered, Priced, Covered, RowCovered, partOf, Parts, Free, ShortsByPart}
 use Rattle.cover.proofs.Filled.{scan-closed}
 
 -- of each short from one place to another at most so much is missing

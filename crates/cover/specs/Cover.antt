@@ -5,54 +5,13 @@ use lib.{Dec.ltb, ListN.length, ListN.getD}
 use Rattle.words.specs.Words.{wordAt, entries}
 use Rattle.article.specs.declared.pair.Leg.{Leg}
 use Rattle.savings.specs.Savings.{savingOf}
+use Rattle.marks.specs.Marks.{soughtMark, Seeks, Marked}
 use Rattle.article.specs.Pair.{isLong, isBond, isCanada, isProvince, inCad, rateLimit}
 use Rattle.packed.specs.Packed.{legAt, AtMost, entry, Legs, LegsOf, Same}
 use Rattle.holding.specs.Holding.{valueLimit}
 use Rattle.pairing.specs.Pairing.{pricedTotal}
 use Rattle.proposal.specs.{Submission.PricedBook, Submission.termsOf, Submission.priceLimit, Outcome.faultAnswer, Outcome.uncoveredPairs, Outcome.firstFault}
 use Rattle.proposal.specs.declared.Fault.{Fault}
-
--- a leg that paragraph 2 can have: in CAD, of Canada or a province
-unfoldable pub isDomestic : Leg → Bool
-isDomestic l = inCad l && (isCanada l || isProvince l)
-
--- a leg that is not domestic and may have a pair: in another currency than CAD, of Canada or of no province
-unfoldable pub isForeign : Leg → Bool
-isForeign l = not (inCad l) && (isCanada l || ltb 10 (l .issuer))
-
--- what the two legs of a pair have in common, as one number: the period; of a leg that is not domestic the currency and the issuer too
-unfoldable pub keyOf : Leg → ℕ
-keyOf l = l .period + 256 * cond (isDomestic l) 0 (16 * (l .currency % 4) + l .issuer % 16)
-
--- what a pair asks of a leg beside its side and rate, as one number: its key with, of a domestic leg, its class, 0 for Canada and 1 for a province, and of any
--- other, whether it is a bond; of one that no paragraph can have, its side
-unfoldable pub markOf : Bool → Leg → ℕ
-markOf bond l = 4 * keyOf l + cond (isDomestic l) (cond (isCanada l) 0 1) (cond (cond (isForeign l) bond (isLong l)) 0 2)
-
--- the mark that a short has, and the one that a long seeks: outside paragraph 2 just one of the two is a bond
-unfoldable pub shortMark : Leg → ℕ
-shortMark s = markOf (isBond s) s
-
-unfoldable pub soughtMark : Leg → ℕ
-soughtMark l = markOf (not (isBond l)) l
-
--- two marks of one key and two classes
-pub record OtherClass (mark other : ℕ) : Type 0 where
-  pub key : other / 2 ≡ mark / 2
-  pub class : other % 2 + mark % 2 ≡ 1
-
--- a long that seeks this mark, a short that has it, at this rate
-pub record Seeks (l : Leg) (mark rate : ℕ) : Type 0 where
-  pub marked : mark ≡ soughtMark l
-  pub rated : rate ≡ l .rate
-
-pub record Marked (s : Leg) (mark rate : ℕ) : Type 0 where
-  pub marked : mark ≡ shortMark s
-  pub rated : rate ≡ s .rate
-
--- at least what any long and short with these marks and rates save
-pub record Asks (long a short b asked : ℕ) : Type 0 where
-  pub enough : (l s : Leg) → Seeks l long a → Marked s short b → savingOf l s ≤ asked
 
 -- a long with this mark, rate and price is covered with each of the shorts that stand from one place to another
 pub record Covered (mark rate price : ℕ) (marks rates prices : List ℕ) (from to : ℕ) : Type 0 where

@@ -7,99 +7,7 @@ ghost use Prim.Native.Nat.{_-_, _*_, _≤_, _<_, min};
 ghost use lib.ListN.{length};
 ghost use Rattle.article.specs.Pair.{rateLimit};
 ghost use Rattle.packed.specs.Packed.{AtMost, entry};
-ghost use Rattle.cover.specs.Cover.{Priced, FirstOpen, Finds, Valued, Totals, isDomestic, isForeign, markOf, OtherClass, Asks, Covered, RowCovered, Places, Shorts, Parts, Free, ShortsByPart};
-
-// Whether a leg is in CAD and of Canada or a province.
-fn is_domestic(leg: Leg) -> bool
-    ensures { λ r. ⌜ r ≡ isDomestic leg ⌝ }
-{
-    if leg.currency != 0 {
-        return false;
-    }
-    leg.issuer <= 10
-}
-
-// Whether a leg that is not domestic may have a pair: in another currency than CAD, of Canada or of no province.
-fn is_foreign(leg: Leg) -> bool
-    ensures { λ r. ⌜ r ≡ isForeign leg ⌝ }
-{
-    if leg.currency == 0 {
-        return false;
-    }
-    if leg.issuer == 0 {
-        return true;
-    }
-    leg.issuer > 10
-}
-
-// What a pair asks of a leg beside its side and rate, as one small number: the period, and of a domestic leg the class, 0 for Canada and 1 for a province;
-// of any other the currency, the issuer and whether it is to be a bond, or where it has no pair, its side.
-fn mark_of(bond: bool, leg: Leg) -> u16
-    requires { ⌜ leg .period < 256 ⌝ }
-    ensures { λ r. ⌜ r ≡ markOf bond leg ⌝ }
-{
-    if is_domestic(leg) {
-        if leg.issuer == 0 {
-            return (4 * leg.period) as u16;
-        }
-        return (4 * leg.period + 1) as u16;
-    }
-    let first = if is_foreign(leg) { bond } else { leg.side == 0 };
-    let key = leg.period + 256 * (16 * (leg.currency % 4) + leg.issuer % 16);
-    if first {
-        return (4 * key) as u16;
-    }
-    (4 * key + 2) as u16
-}
-
-// The mark of a short in the column of the strips, where a bond has 0.
-fn strip_mark(kind: u64, mark: u16) -> u16
-    ensures { λ r. ⌜ ((kind ≡ 0 → ⊥) → r ≡ mark) ⌝ }
-{
-    if kind == 0 { 0 } else { mark }
-}
-
-// The mark of the same key and the other class; no leg that is not domestic has it.
-fn other_class(mark: u16) -> u16
-    ensures { λ r. ⌜ OtherClass mark r ⌝ }
-{
-    if mark % 2 == 0 { mark + 1 } else { mark - 1 }
-}
-
-fn twice_lesser(a: u16, b: u16) -> u16
-    requires { ⌜ (a ≤ rateLimit) × (b ≤ rateLimit) ⌝ }
-    ensures { λ r. ⌜ r ≡ 2 * min a b ⌝ }
-{
-    if b < a { 2 * b } else { 2 * a }
-}
-
-// At least what a long and a short save as a pair, by their marks and their rates a and b. Nothing else of the scan knows the pair rules.
-fn asked(long: u16, a: u16, short: u16, b: u16) -> u16
-    requires { ⌜ (a ≤ rateLimit) × (b ≤ rateLimit) ⌝ }
-    ensures { λ r. ⌜ Asks long a short b r ⌝ }
-{
-    let cross = other_class(long);
-    if short == cross {
-        return (a + b + 1) / 2;
-    }
-    if short == long {
-        return twice_lesser(a, b);
-    }
-    0
-}
-
-// What a number is above another.
-fn above(a: u16, b: u16) -> u16
-    ensures { λ r. ⌜ r ≡ a - b ⌝ }
-{
-    if b < a { a - b } else { 0 }
-}
-
-fn greater(a: u16, b: u16) -> u16
-    ensures { λ r. ⌜ (a ≤ r) × (b ≤ r) ⌝ }
-{
-    if a < b { b } else { a }
-}
+ghost use Rattle.cover.specs.Cover.{Priced, FirstOpen, Finds, Valued, Totals, Covered, RowCovered, Places, Shorts, Parts, Free, ShortsByPart};
 
 // Whether a long with this mark, rate and price may be uncovered with one of the first m shorts. The loop has no exit: so it runs on many
 // shorts at once.
@@ -118,9 +26,9 @@ fn row_open(
     let mut worst: u16 = 0;
     let mut j: usize = 0;
     while j < m {
-        let s = asked(mark, rate, marks[j], rates[j]);
-        let missing = above(above(s, price), prices[j]);
-        worst = greater(worst, missing);
+        let s = marks::asked(mark, rate, marks[j], rates[j]);
+        let missing = marks::above(marks::above(s, price), prices[j]);
+        worst = marks::greater(worst, missing);
         j = j + 1;
     }
     0 < worst
@@ -139,7 +47,7 @@ fn long_open(
     requires { ⌜ (m ≤ 256) × ((long .period < 256) × ((long .rate ≤ rateLimit) × (AtMost rateLimit m (entry (now rates))))) ⌝ }
     ensures { λ r. ⌜ (r ≡ false → RowCovered long price (now (marks .entry)) (now (strips .entry)) (now (rates .entry)) (now (prices .entry)) 0 m) ⌝ }
 {
-    let mark = mark_of(long.kind != 0, long);
+    let mark = marks::mark_of(long.kind != 0, long);
     let rate = long.rate as u16;
     if long.kind == 0 {
         return row_open(m, strips, rates, prices, mark, rate, price);
@@ -165,9 +73,9 @@ fn shorts_of(
     while j < n {
         let leg = packed::leg_in(legs[j]);
         if leg.side == 1 {
-            let mark = mark_of(leg.kind == 0, leg);
+            let mark = marks::mark_of(leg.kind == 0, leg);
             marks[m] = mark;
-            strips[m] = strip_mark(leg.kind, mark);
+            strips[m] = marks::strip_mark(leg.kind, mark);
             rates[m] = leg.rate as u16;
             prices[m] = words::word(price, j) as u16;
             m = m + 1;
@@ -283,9 +191,9 @@ fn part_open(
     let mut worst: u16 = 0;
     let mut j: usize = from;
     while j < to {
-        let s = asked(mark, rate, marks[j], rates[j]);
-        let missing = above(above(s, price), prices[j]);
-        worst = greater(worst, missing);
+        let s = marks::asked(mark, rate, marks[j], rates[j]);
+        let missing = marks::above(marks::above(s, price), prices[j]);
+        worst = marks::greater(worst, missing);
         j = j + 1;
     }
     0 < worst
@@ -306,7 +214,7 @@ fn long_part_open(
         × ((long .period < 256) × ((long .rate ≤ rateLimit) × (AtMost rateLimit to (entry (now rates)))))))) ⌝ }
     ensures { λ r. ⌜ (r ≡ false → RowCovered long price (now (marks .entry)) (now (strips .entry)) (now (rates .entry)) (now (prices .entry)) from to) ⌝ }
 {
-    let sought = mark_of(long.kind != 0, long);
+    let sought = marks::mark_of(long.kind != 0, long);
     let rate = long.rate as u16;
     if long.kind == 0 {
         return part_open(from, to, strips, rates, prices, sought, rate, price);
@@ -337,9 +245,9 @@ fn shorts_by_part(
             let part = (leg.period % 8) as usize;
             let m = counts[part];
             let k = 256 * part + m;
-            let mark = mark_of(leg.kind == 0, leg);
+            let mark = marks::mark_of(leg.kind == 0, leg);
             marks[k] = mark;
-            strips[k] = strip_mark(leg.kind, mark);
+            strips[k] = marks::strip_mark(leg.kind, mark);
             rates[k] = leg.rate as u16;
             prices[k] = words::word(price, j) as u16;
             counts[part] = m + 1;

@@ -6,7 +6,8 @@ use Prim.Native.Nat.{_-_}
 use native.Mathlib.Omega.{arith}
 use borrow.Author.Needs.{needs}
 use Rattle.article.specs.Pair.{isBond}
-use Rattle.cover.specs.Cover.{shortMark, partOf}
+use Rattle.marks.specs.Marks.{shortMark}
+use Rattle.cover.specs.Cover.{partOf}
 use Rattle.cover.proofs.Filled.{period-low, rate-low}
 use Rattle.cover.proofs.Parts.{Parting, place-low, parting-none, parting-other, parting-more, parting-all}
 use Rattle.cover.proofs.shorts_by_part.Statement.{statement}

@@ -1,8 +1,8 @@
 -- `asked` asks enough, return by return: one law of the estimate for each. Assumes nothing.
-use Rattle.cover.proofs.Estimate.{neither-mark, equal-marks, other-mark}
+use Rattle.marks.proofs.Estimate.{neither-mark, equal-marks, other-mark}
 use borrow.Author.Needs.{needs}
-use Rattle.cover.proofs.asked.Statement.{statement}
-use Rattle.cover.proofs.asked.Tie as tie
+use Rattle.marks.proofs.asked.Statement.{statement}
+use Rattle.marks.proofs.asked.Tie as tie
 
 other-class-requires : tie.Need-other-class-requires
 other-class-requires c κs = search needs

@@ -14,7 +14,7 @@ use Rattle.article.proofs.Legs.{allowed-meets, bonds-no-rule, no-rule, Permitte
 use Rattle.article.specs.declared.pair.Rule.{Rule}
 use Rattle.article.specs.declared.pair.Leg.{Leg}
 use Rattle.savings.specs.Savings.{savingOf}
-use Rattle.cover.specs.Cover.{isDomestic, isForeign, keyOf, markOf, shortMark, soughtMark, OtherClass, Asks}
+use Rattle.marks.specs.Marks.{isDomestic, isForeign, keyOf, markOf, shortMark, soughtMark, OtherClass, Asks}
 
 -- two bonds save nothing
 pub two-bonds : (l s : Leg) → l .kind ≡ 0 → s .kind ≡ 0 → savingOf l s ≡ 0

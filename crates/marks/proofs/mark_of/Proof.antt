@@ -4,10 +4,10 @@ use mathlib.Core.Logic.{⊎-elim}
 use mathlib.Core.Bool.{cond}
 use borrow.Author.Tests.{eq-eqb, ne-eqb}
 use Rattle.article.specs.Pair.{isLong, isCanada}
-use Rattle.cover.specs.Cover.{isForeign, keyOf, markOf}
+use Rattle.marks.specs.Marks.{isForeign, keyOf, markOf}
 use borrow.Author.Needs.{needs}
-use Rattle.cover.proofs.mark_of.Statement.{statement}
-use Rattle.cover.proofs.mark_of.Tie as tie
+use Rattle.marks.proofs.mark_of.Statement.{statement}
+use Rattle.marks.proofs.mark_of.Tie as tie
 
 is-domestic-requires : tie.Need-is-domestic-requires
 is-domestic-requires c κs = search needs

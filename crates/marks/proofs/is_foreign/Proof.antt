@@ -1,9 +1,9 @@
 -- `is_foreign` is `isForeign`. Assumes nothing.
 use borrow.Author.Tests.{eq-eqb, ne-eqb}
 use Rattle.article.specs.Pair.{inCad, isCanada}
-use Rattle.cover.specs.Cover.{isForeign}
-use Rattle.cover.proofs.is_foreign.Statement.{statement}
-use Rattle.cover.proofs.is_foreign.Tie as tie
+use Rattle.marks.specs.Marks.{isForeign}
+use Rattle.marks.proofs.is_foreign.Statement.{statement}
+use Rattle.marks.proofs.is_foreign.Tie as tie
 
 returns : tie.Need-returns
 unfolding isForeign inCad

@@ -8,9 +8,9 @@ use borrow.Author.Tests.{eq-eqb, ne-eqb, le-leb}
 use Rattle.lists.specs.Choice.{within}
 use Rattle.lists.proofs.Tests.{same-or-not}
 use Rattle.article.specs.Pair.{inCad, isCanada, isProvince}
-use Rattle.cover.specs.Cover.{isDomestic}
-use Rattle.cover.proofs.is_domestic.Statement.{statement}
-use Rattle.cover.proofs.is_domestic.Tie as tie
+use Rattle.marks.specs.Marks.{isDomestic}
+use Rattle.marks.proofs.is_domestic.Statement.{statement}
+use Rattle.marks.proofs.is_domestic.Tie as tie
 
 -- up to a number: 0, or from 1 on
 up-to : (high n : ℕ) → leb n high ≡ (eqb n 0 || within 1 high n)

@@ -1,0 +1,98 @@
+// The estimate of what a pair saves at least as much as, by small numbers of the two legs.
+use article::pair::Leg;
+ghost use mathlib.Core.Path.{_≡_};
+ghost use Prim.Native.Nat.{_-_, _*_, _≤_, _<_, min};
+ghost use Rattle.article.specs.Pair.{rateLimit};
+ghost use Rattle.marks.specs.Marks.{isDomestic, isForeign, markOf, OtherClass, Asks};
+
+// Whether a leg is in CAD and of Canada or a province.
+fn is_domestic(leg: Leg) -> bool
+    ensures { λ r. ⌜ r ≡ isDomestic leg ⌝ }
+{
+    if leg.currency != 0 {
+        return false;
+    }
+    leg.issuer <= 10
+}
+
+// Whether a leg that is not domestic may have a pair: in another currency than CAD, of Canada or of no province.
+fn is_foreign(leg: Leg) -> bool
+    ensures { λ r. ⌜ r ≡ isForeign leg ⌝ }
+{
+    if leg.currency == 0 {
+        return false;
+    }
+    if leg.issuer == 0 {
+        return true;
+    }
+    leg.issuer > 10
+}
+
+// What a pair asks of a leg beside its side and rate, as one small number: the period, and of a domestic leg the class, 0 for Canada and 1 for a province;
+// of any other the currency, the issuer and whether it is to be a bond, or where it has no pair, its side.
+pub fn mark_of(bond: bool, leg: Leg) -> u16
+    requires { ⌜ leg .period < 256 ⌝ }
+    ensures { λ r. ⌜ r ≡ markOf bond leg ⌝ }
+{
+    if is_domestic(leg) {
+        if leg.issuer == 0 {
+            return (4 * leg.period) as u16;
+        }
+        return (4 * leg.period + 1) as u16;
+    }
+    let first = if is_foreign(leg) { bond } else { leg.side == 0 };
+    let key = leg.period + 256 * (16 * (leg.currency % 4) + leg.issuer % 16);
+    if first {
+        return (4 * key) as u16;
+    }
+    (4 * key + 2) as u16
+}
+
+// The mark of a short in the column of the strips, where a bond has 0.
+pub fn strip_mark(kind: u64, mark: u16) -> u16
+    ensures { λ r. ⌜ ((kind ≡ 0 → ⊥) → r ≡ mark) ⌝ }
+{
+    if kind == 0 { 0 } else { mark }
+}
+
+// The mark of the same key and the other class; no leg that is not domestic has it.
+fn other_class(mark: u16) -> u16
+    ensures { λ r. ⌜ OtherClass mark r ⌝ }
+{
+    if mark % 2 == 0 { mark + 1 } else { mark - 1 }
+}
+
+fn twice_lesser(a: u16, b: u16) -> u16
+    requires { ⌜ (a ≤ rateLimit) × (b ≤ rateLimit) ⌝ }
+    ensures { λ r. ⌜ r ≡ 2 * min a b ⌝ }
+{
+    if b < a { 2 * b } else { 2 * a }
+}
+
+// At least what a long and a short save as a pair, by their marks and their rates a and b. Nothing else of the scan knows the pair rules.
+pub fn asked(long: u16, a: u16, short: u16, b: u16) -> u16
+    requires { ⌜ (a ≤ rateLimit) × (b ≤ rateLimit) ⌝ }
+    ensures { λ r. ⌜ Asks long a short b r ⌝ }
+{
+    let cross = other_class(long);
+    if short == cross {
+        return (a + b + 1) / 2;
+    }
+    if short == long {
+        return twice_lesser(a, b);
+    }
+    0
+}
+
+// What a number is above another.
+pub fn above(a: u16, b: u16) -> u16
+    ensures { λ r. ⌜ r ≡ a - b ⌝ }
+{
+    if b < a { a - b } else { 0 }
+}
+
+pub fn greater(a: u16, b: u16) -> u16
+    ensures { λ r. ⌜ (a ≤ r) × (b ≤ r) ⌝ }
+{
+    if a < b { b } else { a }
+}
