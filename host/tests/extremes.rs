@@ -213,7 +213,7 @@ fn largest_and_one_more() {
 }
 
 #[test]
-fn a_stack_of_24_kib_is_enough() {
+fn a_stack_of_40_kib_is_enough() {
     let mut run = Run::new("a small stack", 0x0503);
     let sheet = largest(&mut run, &ANY);
     let units = run.units(&sheet, format_args!("on the test's own stack"));
@@ -221,7 +221,7 @@ fn a_stack_of_24_kib_is_enough() {
         let (mut remainder, mut ranking) = (vec![0; 256], vec![0; 256]);
         check_columns(&sheet, &mut remainder, &mut ranking)
     };
-    let small = thread::Builder::new().stack_size(24 * 1_024);
+    let small = thread::Builder::new().stack_size(40 * 1_024);
     let answer = small.spawn(call).expect("a thread").join();
     let cents = units.div_ceil(146_000);
     assert_eq!(answer.expect("an answer"), Ok(Figures { units, cents }));
