@@ -1,12 +1,12 @@
 -- Document 01, "16 an allowed pair not covered, lowest long, then lowest short", over packed legs and a column of prices. Assumes nothing.
-use mathlib.Core.{Path._≡_, Bool.Bool, Bool.cond, Bool.not, Bool._&&_, Bool._||_, List.List}
-use Prim.Native.Nat.{ℕ, _+_, _*_, _/_, _%_, _≤_, _<_}
-use lib.{Dec.ltb, ListN.length, ListN.getD}
+use mathlib.Core.{Path._≡_, List.List}
+use Prim.Native.Nat.{ℕ, _+_, _*_, _%_, _≤_, _<_}
+use lib.ListN.{length, getD}
 use Rattle.words.specs.Words.{wordAt, entries}
 use Rattle.article.specs.declared.pair.Leg.{Leg}
 use Rattle.savings.specs.Savings.{savingOf}
 use Rattle.marks.specs.Marks.{soughtMark, Seeks, Marked}
-use Rattle.article.specs.Pair.{isLong, isBond, isCanada, isProvince, inCad, rateLimit}
+use Rattle.article.specs.Pair.{rateLimit}
 use Rattle.packed.specs.Packed.{legAt, AtMost, entry, Legs, LegsOf, Same}
 use Rattle.holding.specs.Holding.{valueLimit}
 use Rattle.pairing.specs.Pairing.{pricedTotal}

@@ -3,7 +3,7 @@ use article::pair::Leg;
 use proposal::Fault;
 ghost use mathlib.Core.Path.{_≡_};
 ghost use mathlib.Core.Bool.{false};
-ghost use Prim.Native.Nat.{_-_, _*_, _≤_, _<_, min};
+ghost use Prim.Native.Nat.{_-_, _*_, _≤_, _<_};
 ghost use lib.ListN.{length};
 ghost use Rattle.article.specs.Pair.{rateLimit};
 ghost use Rattle.packed.specs.Packed.{AtMost, entry};

@@ -1,4 +1,4 @@
-// The estimate of what a pair saves at least as much as, by small numbers of the two legs.
+// An estimate of what two legs save as a pair, never too low, by a small number of each.
 use article::pair::Leg;
 ghost use mathlib.Core.Path.{_≡_};
 ghost use Prim.Native.Nat.{_-_, _*_, _≤_, _<_, min};

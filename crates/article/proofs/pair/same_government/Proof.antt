@@ -1,5 +1,5 @@
 -- `same_government` is `sameGovernment`: two issuers, or one that is Canada, US or GB, or another. Assumes nothing.
-use mathlib.Core.Path.{_≡_, sym}
+use mathlib.Core.Path.{_≡_}
 use mathlib.Core.Bool.{true, false}
 use Prim.Native.Nat.{_≤_, _<_}
 use native.Mathlib.Omega.{arith}
