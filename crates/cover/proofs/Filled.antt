@@ -1,37 +1,19 @@
 -- The columns of the shorts, filled holding by holding. Assumes nothing.
-use mathlib.Core.Path.{_≡_, refl, ap, _∙_}
-use mathlib.Core.Logic.{_≢_}
-use mathlib.Core.Bool.{and-false}
+use mathlib.Core.Path.{_≡_, refl, _∙_}
 use mathlib.Core.List.{List}
 use Prim.Native.Nat.{ℕ, _+_, _≤_, _<_}
 use native.Mathlib.Omega.{arith}
-use lib.ListN.{length, getD, set, length-set}
+use lib.ListN.{getD, set, length-set}
 use lib.Seq.{getD-set-same, getD-set-other}
 use borrow.Author.Count.{below-more}
-use borrow.Author.Tests.{ne-eqb}
-use Rattle.lists.proofs.Tests.{same-or-not}
 use Rattle.words.specs.Words.{wordAt}
-use Rattle.article.specs.Pair.{isShort, isLong, allowed, rateLimit, RateInRange}
+use Rattle.article.specs.Pair.{rateLimit}
 use Rattle.article.specs.declared.pair.Leg.{Leg}
-use Rattle.packed.specs.Packed.{legIn, legAt}
+use Rattle.packed.specs.Packed.{legAt}
 use Rattle.savings.specs.Savings.{savingOf}
-use Rattle.marks.specs.Marks.{soughtMark, shortMark, Seeks, Marked}
+use Rattle.marks.specs.Marks.{soughtMark, shortMark}
 use Rattle.cover.specs.Cover.{PairCovered, Priced, Covered, RowCovered, Places, Shorts}
-use Rattle.marks.proofs.Estimate.{two-bonds}
-
--- a holding that is not short saves nothing as the short
-not-short : (l s : Leg) → (s .side ≡ 1 → ⊥) → savingOf l s ≡ 0
-unfolding savingOf allowed isShort
-not-short l s h = rw (ne-eqb _ _ h, and-false (isLong l))
-
--- the period of a packed leg is small
-pub period-low : (code : ℕ) → legIn code .period < 256
-unfolding legIn
-period-low code = omega arith
-
--- a leg in the list has a rate within the article's
-pub rate-low : {n : ℕ} {legs price : List ℕ} (j : ℕ) {leg : Leg} → Priced n legs price → j < n → leg ≡ legAt legs j → RateInRange leg
-rate-low j priced h found = rw found (priced .bounded .rate j h)
+use Rattle.cover.proofs.Written.{unmet, row-kept, row-added, rate-low}
 
 -- the shorts before holding j stand in the first m places
 pub record Filling (n : ℕ) (legs price marks strips rates prices : List ℕ) (m j : ℕ) : Type 0 where
@@ -62,7 +44,7 @@ module _ {n : ℕ} {legs price marks strips rates prices : List ℕ} where
         shorts = record {
           few = omega (arith, f .shorts .few);
           rates-high = f .shorts .rates-high;
-          all = λ l p c. below-more _ _ (f .shorts .all l p c) (rw (not-short l (legAt legs j) (rw found at e)) (omega arith));
+          all = λ l p c. below-more _ _ (f .shorts .all l p c) (rw (unmet l (legAt legs j) (λ m. rw found at e (m .short))) (omega arith));
         };
       }
 
@@ -77,35 +59,15 @@ module _ {n : ℕ} {legs price marks strips rates prices : List ℕ} where
         old-rate : (k : ℕ) → k < m → getD (set rates m (leg .rate)) k 0 ≡ getD rates k 0
         old-rate k l = getD-set-other rates m k (leg .rate) 0 (λ q. omega (arith, q))
 
-        -- by one column of marks: those of all shorts, or those of the strips
-        module _ (column : List ℕ) (w : ℕ) {long rate p : ℕ} (c : Covered long rate p (set column m w) (set rates m (leg .rate)) (set prices m z) 0 (m + 1)) where
-          column-old : Covered long rate p column rates prices 0 m
-          column-old = record {
-            covered = λ k b g l t ml mt.
-                let ne : k ≢ m = λ q. omega (arith, q) in
-                rw (getD-set-other prices m k z 0 ne) at
-                (c .covered k b (omega arith) l t ml (rw (getD-set-other column m k w 0 ne, old-rate k g) mt));
-          }
-
-          column-new : length column ≡ 256 → w ≡ x → {l : Leg} → Seeks l long rate → savingOf l (legAt legs j) ≤ p + wordAt price j
-          column-new held same {l} ml =
-              let marked : Marked (legAt legs j) w (leg .rate) = record { marked = same ∙ mark ∙ ap shortMark found; rated = ap (λ (t : Leg). t .rate) found } in
-              rw (getD-set-same prices m z 0 (omega (arith, room, f .places .prices-held)), e) at
-              (c .covered m (omega arith) (omega arith) l (legAt legs j) ml (rw (getD-set-same column m w 0 (omega (arith, room, held)), new-rate) marked))
-
         module _ {l : Leg} {p : ℕ} (c : RowCovered l p (set marks m x) (set strips m y) (set rates m (leg .rate)) (set prices m z) 0 (m + 1)) where
           row-old : RowCovered l p marks strips rates prices 0 m
-          row-old = record { bond = λ b. column-old strips y (c .bond b); other = λ b. column-old marks x (c .other b) }
+          row-old = row-kept m rates prices (leg .rate) z marks strips x y c (omega arith) (λ k _ g q. omega (arith, g, q))
 
-          -- a bond saves nothing with a bond, and the strips hold any other short
           row-new : savingOf l (legAt legs j) ≤ p + wordAt price j
           row-new =
-              let own : Seeks l (soughtMark l) (l .rate) = record { marked = refl; rated = refl } in
-              same-or-not (l .kind) 0
-              (λ b. same-or-not (leg .kind) 0
-              (λ d. rw (two-bonds l (legAt legs j) b (rw found at d)) (omega arith))
-              (λ d. column-new strips y (c .bond b) (f .places .strips-held) (strip d) own))
-              (λ b. column-new marks x (c .other b) (f .places .marks-held) refl own)
+              rw (← found, ← e) (row-added m rates prices (leg .rate) z marks strips x y c (omega arith) (omega arith)
+              (rw (f .places .marks-held) room) (rw (f .places .strips-held) room) (rw (f .places .rates-held) room) (rw (f .places .prices-held) room)
+              leg (record { marked = mark; rated = refl }) strip)
 
         pub filling-more : Filling n legs price (set marks m x) (set strips m y) (set rates m (leg .rate)) (set prices m z) (m + 1) (j + 1)
         filling-more = record {

@@ -5,7 +5,7 @@ use native.Mathlib.Omega.{arith}
 use borrow.Author.Count.{below-more}
 use borrow.Author.Needs.{needs}
 use Rattle.cover.specs.Cover.{PairCovered}
-use Rattle.cover.proofs.Filled.{rate-low}
+use Rattle.cover.proofs.Written.{rate-low}
 use Rattle.cover.proofs.Uncovered.{first-more, first-all, first-here, other-covered}
 use Rattle.cover.proofs.first_open.Statement.{statement}
 use Rattle.cover.proofs.first_open.Tie as tie

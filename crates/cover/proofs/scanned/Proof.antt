@@ -4,7 +4,8 @@ use mathlib.Core.Logic.{⊎-elim}
 use Prim.Native.Nat.{_-_}
 use native.Mathlib.Omega.{arith}
 use borrow.Author.Needs.{needs}
-use Rattle.cover.proofs.Filled.{period-low, rate-low, scan-closed}
+use Rattle.cover.proofs.Written.{period-low, rate-low}
+use Rattle.cover.proofs.Filled.{scan-closed}
 use Rattle.cover.proofs.Uncovered.{Closed, closed-none, other-covered, closed-row, closed-more, finds-open, finds-none}
 use Rattle.cover.proofs.scanned.Statement.{statement}
 use Rattle.cover.proofs.scanned.Tie as tie

@@ -3,7 +3,7 @@ use mathlib.Core.Logic.{⊎-elim}
 use Prim.Native.Nat.{_-_}
 use native.Mathlib.Omega.{arith}
 use borrow.Author.Needs.{needs}
-use Rattle.cover.proofs.Filled.{period-low, rate-low}
+use Rattle.cover.proofs.Written.{period-low, rate-low}
 use Rattle.cover.proofs.Rows.{part-few, part-closed}
 use Rattle.cover.proofs.Uncovered.{Closed, closed-none, other-covered, closed-row, closed-more, finds-open, finds-none}
 use Rattle.cover.proofs.scanned_by_part.Statement.{statement}

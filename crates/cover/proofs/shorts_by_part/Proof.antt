@@ -8,7 +8,7 @@ use borrow.Author.Needs.{needs}
 use Rattle.article.specs.Pair.{isBond}
 use Rattle.marks.specs.Marks.{shortMark}
 use Rattle.cover.specs.Cover.{partOf}
-use Rattle.cover.proofs.Filled.{period-low, rate-low}
+use Rattle.cover.proofs.Written.{period-low, rate-low}
 use Rattle.cover.proofs.Parts.{Parting, place-low, parting-none, parting-other, parting-more, parting-all}
 use Rattle.cover.proofs.shorts_by_part.Statement.{statement}
 use Rattle.cover.proofs.shorts_by_part.Tie as tie

@@ -6,7 +6,8 @@ use native.Mathlib.Omega.{arith}
 use borrow.Author.Needs.{needs}
 use Rattle.article.specs.Pair.{isBond}
 use Rattle.marks.specs.Marks.{shortMark}
-use Rattle.cover.proofs.Filled.{Filling, filling-none, filling-other, filling-more, filling-all, period-low, rate-low}
+use Rattle.cover.proofs.Written.{period-low, rate-low}
+use Rattle.cover.proofs.Filled.{Filling, filling-none, filling-other, filling-more, filling-all}
 use Rattle.cover.proofs.shorts_of.Statement.{statement}
 use Rattle.cover.proofs.shorts_of.Tie as tie
 
