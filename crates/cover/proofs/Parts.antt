@@ -96,7 +96,8 @@ module _ {n : ℕ} {legs price counts marks strips rates prices : List ℕ} wher
         new-covered l p c =
             same-or-not (partOf l) b
             (λ t. rw (← found, ← e) (row-added k rates prices (leg .rate) z marks strips x y (rw (t, own-count) at c) (omega (arith, at)) (omega (arith, at))
-            (rw (f .parts .marks-held) place) (rw (f .parts .strips-held) place) (rw (f .parts .rates-held) place) (rw (f .parts .prices-held) place) leg (record { marked = mark; rated = refl }) strip))
+            (rw (f .parts .marks-held) place) (rw (f .parts .strips-held) place) (rw (f .parts .rates-held) place) (rw (f .parts .prices-held) place)
+            leg (record { marked = mark; rated = refl }) strip))
             (λ t. rw (apart l (legAt legs j) (λ u. t (u ∙ sym (own ∙ ap partOf found)))) (omega arith))
 
         pub parting-more : Parting n legs price (set counts b (m + 1)) (set marks k x) (set strips k y) (set rates k (leg .rate)) (set prices k z) (j + 1)

@@ -18,27 +18,27 @@ use Rattle.cover.specs.Cover.{PairCovered, Priced, Covered, RowCovered, 
 use Rattle.cover.proofs.Filled.{scan-closed}
 
 -- of each short from one place to another at most so much is missing
-pub record Passed (mark rate price : ℕ) (marks rates prices : List ℕ) (from worst to : ℕ) : Type 0 where
+pub record Missing (mark rate price : ℕ) (marks rates prices : List ℕ) (from worst to : ℕ) : Type 0 where
   pub most : (k : ℕ) → k < to → from ≤ k → (l s : Leg) → Seeks l mark rate → Marked s (getD marks k 0) (getD rates k 0)
       → savingOf l s - price - getD prices k 0 ≤ worst
 
 module _ {mark rate price : ℕ} {marks rates prices : List ℕ} {from : ℕ} where
-  pub passed-none : {worst : ℕ} → Passed mark rate price marks rates prices from worst from
-  passed-none = record { most = λ k h b. absurd (omega arith) }
+  pub missing-none : {worst : ℕ} → Missing mark rate price marks rates prices from worst from
+  missing-none = record { most = λ k h b. absurd (omega arith) }
 
-  module _ {worst to : ℕ} (p : Passed mark rate price marks rates prices from worst to) where
+  module _ {worst to : ℕ} (p : Missing mark rate price marks rates prices from worst to) where
     -- one more short: what it asks, what is left above the long's price and above its own
-    pub passed-more : {asked first second next : ℕ} → Asks mark rate (getD marks to 0) (getD rates to 0) asked → first ≡ asked - price
-        → second ≡ first - getD prices to 0 → (worst ≤ next) × (second ≤ next) → Passed mark rate price marks rates prices from next (to + 1)
-    passed-more asks first second next = record {
+    pub missing-more : {asked first second next : ℕ} → Asks mark rate (getD marks to 0) (getD rates to 0) asked → first ≡ asked - price
+        → second ≡ first - getD prices to 0 → (worst ≤ next) × (second ≤ next) → Missing mark rate price marks rates prices from next (to + 1)
+    missing-more asks first second next = record {
       most =
           below-more _ _ (λ k h b l s ml ms. le-trans (p .most k h b l s ml ms) (next .0))
           (λ b l s ml ms. omega (arith, next .1, first, second, asks .enough l s ml ms));
     }
 
     -- where nothing is missing, the row is covered
-    pub passed-all : {end : ℕ} → end ≤ to → ltb 0 worst ≡ false → Covered mark rate price marks rates prices from end
-    passed-all g e =
+    pub missing-all : {end : ℕ} → end ≤ to → ltb 0 worst ≡ false → Covered mark rate price marks rates prices from end
+    missing-all g e =
         let none : worst ≤ 0 = ltb-false 0 worst e in
         record { covered = λ k b h l s ml ms. omega (arith, none, p .most k (omega arith) b l s ml ms) }
 

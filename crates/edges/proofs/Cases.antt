@@ -194,7 +194,8 @@ abbrev pub columns : String → List Row → List ℕ → List Line → List ℕ
 columns name rows prices lines expected =
     let old = encode (0 ∷ 11 ∷ []) in
     let c = filled (record { rows = rows; prices = prices; lines = lines }) (makeColumns (replicate 6 old) old (replicate 3 old)) in
-    let named : Submission → List ℕ = λ s. flatMap (λ r. r .side ∷ r .kind ∷ r .issuer ∷ r .days ∷ r .value ∷ r .currency ∷ []) (s .rows) ++ s .prices ++ flatMap (λ l. l .long ∷ l .short ∷ l .amount ∷ []) (s .lines) in
+    let numbers : Submission → List ℕ = λ s. flatMap (λ r. r .side ∷ r .kind ∷ r .issuer ∷ r .days ∷ r .value ∷ r .currency ∷ []) (s .rows) in
+    let named : Submission → List ℕ = λ s. numbers s ++ s .prices ++ flatMap (λ l. l .long ∷ l .short ∷ l .amount ∷ []) (s .lines) in
     record { name = name; computed = flatMap decode (c .holdings ++ (c .price ∷ c .lines)) ++ named (submission c); stated = expected }
 
 -- an answer slice after 16 at long 1 and short 2 was put into it

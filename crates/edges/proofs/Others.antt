@@ -8,7 +8,8 @@ use Rattle.lists.specs.Tables.{ascii}
 use Rattle.holding.specs.declared.Row.{Row}
 use Rattle.layout.specs.declared.Sort.the-variants.{Side, Kind, Issuer, Currency}
 use Rattle.layout.specs.Layout.{Meaning, good, letters, sides, kinds, issuers, currencies}
-use Rattle.edges.proofs.Cases.{Case, rate, fault, faults, pair, no-pair, proposal, lent, figures, prints, record-at, code, lists, fields, letter, byte, decodes, encodes, lengths, columns, slice, answers, emptyFields, H, P, unended}
+use Rattle.edges.proofs.Cases.{Case, rate, fault, faults, pair, no-pair, proposal, lent, figures, prints, record-at, code, lists, fields}
+use Rattle.edges.proofs.Cases.{letter, byte, decodes, encodes, lengths, columns, slice, answers, emptyFields, H, P, unended}
 use Rattle.edges.proofs.Cases.{line, row, of, L, S, B, C, R, CA, ON, QC, CAD, file, file-lines}
 
 -- the book of "Largest saving first", and prices that cover it
@@ -176,7 +177,8 @@ lending =
     ∷ lengths "1 before 2" (set (set right 6 8) 12 15 ∷ []) 1
     ∷ lengths "one side, kind, issuer, days, value, currency or price" (map (λ j. set right j 8) (0 ∷ 1 ∷ 2 ∷ 3 ∷ 4 ∷ 5 ∷ 6 ∷ [])) 1
     ∷ lengths "three currencies, three prices, two longs, no short, or two amounts" (set right 5 24 ∷ set right 6 24 ∷ set right 7 16 ∷ set right 8 0 ∷ set right 9 16 ∷ []) 1
-    ∷ lengths "one column of the holdings of 17 bytes, or of the lines of 9" (map (λ j. set right j 17) (0 ∷ 1 ∷ 2 ∷ 3 ∷ 4 ∷ 5 ∷ 6 ∷ []) ++ map (λ j. set right j 9) (7 ∷ 8 ∷ 9 ∷ [])) 1
+    ∷ lengths "one column of the holdings of 17 bytes, or of the lines of 9"
+    (map (λ j. set right j 17) (0 ∷ 1 ∷ 2 ∷ 3 ∷ 4 ∷ 5 ∷ 6 ∷ []) ++ map (λ j. set right j 9) (7 ∷ 8 ∷ 9 ∷ [])) 1
     ∷ lengths "holdings of 21 bytes, or lines of 13" ((replicate 7 21 ++ drop 7 right) ∷ (take 7 right ++ replicate 3 13 ++ drop 10 right) ∷ []) 1
     ∷ lengths "one remainder, one rank, or an answer of 15 bytes" (set right 10 15 ∷ set right 11 15 ∷ set right 12 15 ∷ []) 2
     ∷ columns "the columns, each number by its name" (of 6 (row 1 2 3 4 5) ∷ []) (7 ∷ []) (line 8 9 10 ∷ [])

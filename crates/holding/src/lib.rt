@@ -1,7 +1,8 @@
 // A holding: the raw numbers of a row, their ranges, and the record that numbers within them make.
 ghost use mathlib.Core.Path.{_≡_};
 ghost use Rattle.lists.specs.Choice.{firstOf};
-ghost use Rattle.holding.specs.Holding.{identityFaults, termFaults, worthFaults, moneyFaults, sideOf, kindOf, issuerOf, currencyOf, faultOf, Builds, sideNumber, kindNumber, issuerNumber, currencyNumber, rowOf};
+ghost use Rattle.holding.specs.Holding.{identityFaults, termFaults, worthFaults, moneyFaults, faultOf, Builds};
+ghost use Rattle.holding.specs.Holding.{sideOf, kindOf, issuerOf, currencyOf, sideNumber, kindNumber, issuerNumber, currencyNumber, rowOf};
 
 pub enum Side {
     Long,

@@ -1,18 +1,18 @@
 -- `part_open` finds a part of a row closed only where it is covered, as `row_open` does. Assumes nothing.
 use Prim.Native.Nat.{_-_}
 use borrow.Author.Needs.{needs}
-use Rattle.cover.proofs.Rows.{Passed, passed-none, passed-more, passed-all}
+use Rattle.cover.proofs.Rows.{Missing, missing-none, missing-more, missing-all}
 use Rattle.cover.proofs.part_open.Statement.{statement}
 use Rattle.cover.proofs.part_open.Tie as tie
 
 abbrev Inv-loop : tie.InvT-loop
-Inv-loop from to marks rates prices mark rate price worst₀ j₀ worst j = Passed mark rate price marks rates prices from worst j
+Inv-loop from to marks rates prices mark rate price worst₀ j₀ worst j = Missing mark rate price marks rates prices from worst j
 
 abbrev μ-loop : tie.MeasureT-loop
 μ-loop from to marks rates prices mark rate price worst₀ j₀ worst j = to - j
 
 loop-holds : tie.Need-loop-holds Inv-loop μ-loop
-loop-holds c = passed-none
+loop-holds c = missing-none
 
 mul-asked : tie.Need-mul-asked Inv-loop μ-loop
 mul-asked c = search needs
@@ -55,11 +55,11 @@ loop-less c = search needs
 loop-again : tie.Need-loop-again Inv-loop μ-loop
 loop-again c =
     let at-asked = c .before .before .before .before in
-    passed-more (at-asked .before .before .before .before .loop .inv) (at-asked .asked .ensures) (c .before .before .before .above .ensures)
+    missing-more (at-asked .before .before .before .before .loop .inv) (at-asked .asked .ensures) (c .before .before .before .above .ensures)
     (c .before .above2 .ensures) (c .greater .ensures)
 
 returns : tie.Need-returns Inv-loop μ-loop
-returns c = passed-all (c .before .loop .inv) (c .loop-test .left)
+returns c = missing-all (c .before .loop .inv) (c .loop-test .left)
 
 pub part-open-spec : {M : Type 1} → statement M
 part-open-spec =

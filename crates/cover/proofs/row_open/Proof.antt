@@ -1,18 +1,18 @@
 -- `row_open` finds a row closed only where it is covered: what is missing of each short passed is at most `worst`. Assumes nothing.
 use Prim.Native.Nat.{_-_}
 use borrow.Author.Needs.{needs}
-use Rattle.cover.proofs.Rows.{Passed, passed-none, passed-more, passed-all}
+use Rattle.cover.proofs.Rows.{Missing, missing-none, missing-more, missing-all}
 use Rattle.cover.proofs.row_open.Statement.{statement}
 use Rattle.cover.proofs.row_open.Tie as tie
 
 abbrev Inv-loop : tie.InvT-loop
-Inv-loop m marks rates prices mark rate price worst₀ j₀ worst j = Passed mark rate price marks rates prices 0 worst j
+Inv-loop m marks rates prices mark rate price worst₀ j₀ worst j = Missing mark rate price marks rates prices 0 worst j
 
 abbrev μ-loop : tie.MeasureT-loop
 μ-loop m marks rates prices mark rate price worst₀ j₀ worst j = m - j
 
 loop-holds : tie.Need-loop-holds Inv-loop μ-loop
-loop-holds c = passed-none
+loop-holds c = missing-none
 
 mul-asked : tie.Need-mul-asked Inv-loop μ-loop
 mul-asked c = search needs
@@ -55,11 +55,11 @@ loop-less c = search needs
 loop-again : tie.Need-loop-again Inv-loop μ-loop
 loop-again c =
     let at-asked = c .before .before .before .before in
-    passed-more (at-asked .before .before .before .before .loop .inv) (at-asked .asked .ensures) (c .before .before .before .above .ensures)
+    missing-more (at-asked .before .before .before .before .loop .inv) (at-asked .asked .ensures) (c .before .before .before .above .ensures)
     (c .before .above2 .ensures) (c .greater .ensures)
 
 returns : tie.Need-returns Inv-loop μ-loop
-returns c = passed-all (c .before .loop .inv) (c .loop-test .left)
+returns c = missing-all (c .before .loop .inv) (c .loop-test .left)
 
 pub row-open-spec : {M : Type 1} → statement M
 row-open-spec =

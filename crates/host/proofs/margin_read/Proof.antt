@@ -7,10 +7,14 @@ use Rattle.host.proofs.margin_read.Tie as tie
 
 -- from the end of each way back to where the text was read
 abbrev read-small : tie.After-slice-known22 → tie.After-read-into
-read-small c = c .before .before .before .before .before .before .before .before .before .before .before .before .before .before .before .before .before .before .before .before .before .before .before .before
+read-small c =
+    let half = c .before .before .before .before .before .before .before .before .before .before .before .before in
+    half .before .before .before .before .before .before .before .before .before .before .before .before
 
 abbrev read-large : tie.After-slice-known33 → tie.After-read-into2
-read-large c = c .before .before .before .before .before .before .before .before .before .before .before .before .before .before .before .before .before .before .before .before .before .before .before .before
+read-large c =
+    let half = c .before .before .before .before .before .before .before .before .before .before .before .before in
+    half .before .before .before .before .before .before .before .before .before .before .before .before
 
 -- up to 64 bytes are up to 64 records
 pub margin-read-spec : {M : Type 1} → statement M

@@ -7,7 +7,7 @@ use Rattle.layout.proofs.Letters.{past-listed, past-letters}
 use Rattle.layout.proofs.sort_at.Statement.{statement}
 use Rattle.layout.proofs.sort_at.Tie as tie
 
--- none of the first n numbers, as the last arm of a `match` on them is told: n or more
+-- none of the first n numbers, which the last arm of a `match` on them has: n or more
 abbrev NoneOf : ℕ → ℕ → Type 0
 NoneOf zero j = Unit {0}
 NoneOf (suc n) j = NoneOf n j × (j ≡ n → ⊥)

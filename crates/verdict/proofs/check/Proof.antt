@@ -15,10 +15,16 @@ use Rattle.verdict.proofs.check.Tie as tie
 abbrev start : tie.After-lengths → tie.Start
 start c = c .before .before .before .before .before .before .before .before .before .before .before .before .before .before .before
 
+-- the columns of the holdings after the side's
+abbrev others : tie.Start → List (List ℕ)
+others c =
+    let a = c .args in
+    a .kind .now ∷ a .issuer .now ∷ a .days .now ∷ a .value .now ∷ a .currency .now ∷ []
+
 abbrev SizedAt : tie.Start → Type 0
 SizedAt c =
     let a = c .args in
-    Sized (a .two) (a .side .now) (a .kind .now ∷ a .issuer .now ∷ a .days .now ∷ a .value .now ∷ a .currency .now ∷ []) (a .price .now) (a .long .now) (a .short .now ∷ a .amount .now ∷ [])
+    Sized (a .two) (a .side .now) (others c) (a .price .now) (a .long .now) (a .short .now ∷ a .amount .now ∷ [])
 
 sized : (c : tie.Else1) → SizedAt (start (c .before))
 unfolding holdingSizes lineSizes
@@ -37,7 +43,7 @@ left c = c .«open» .last .1 .1 .1 .1 .1 .1 .1 .1 .0
 abbrev HeldAt : tie.After-open → Type 0
 HeldAt c =
     let a = start (before-open c .before) .args in
-    Held (a .two) (a .side .now) (a .kind .now ∷ a .issuer .now ∷ a .days .now ∷ a .value .now ∷ a .currency .now ∷ []) (a .price .now) (a .long .now) (a .short .now ∷ a .amount .now ∷ []) (a .left .now) (legs c) (left c)
+    Held (a .two) (a .side .now) (others (start (before-open c .before))) (a .price .now) (a .long .now) (a .short .now ∷ a .amount .now ∷ []) (a .left .now) (legs c) (left c)
 
 abbrev opened : tie.Else2 → tie.After-open
 opened c = c .before .before .before .before .before .before
