@@ -1,7 +1,7 @@
 -- What the tests on two legs say of their records, and back: the two paragraphs of the page. Assumes nothing.
 use mathlib.Core.Path.{_≡_, refl, sym, ap, _∙_}
 use mathlib.Core.Logic.{_⊎_, inl, inr, ⊎-elim}
-use mathlib.Core.Bool.{true, false, and-eq-true-iff, false≢true}
+use mathlib.Core.Bool.{Bool, true, false, _&&_, and-eq-true-iff, false≢true}
 use Prim.Native.Nat.{ℕ, _≤_}
 use native.Mathlib.Omega.{arith}
 use lib.Dec.{eqb}
@@ -62,6 +62,10 @@ strip-of : (k : Kind) → within 1 2 (kindNumber k) ≡ true → k ≡ Bond → 
 unfolding within
 strip-of k e b = false≢true (sym (ap (λ (x : Kind). within 1 2 (kindNumber x)) b) ∙ e)
 
+-- what follows where two tests hold
+both : {A : Type 0} (t u : Bool) → (t ≡ true → u ≡ true → A) → (t && u) ≡ true → A
+both t u f e = let (a, b) = and-eq-true-iff t u .0 e in f a b
+
 -- what the tests say of two records
 module _ (l s : Holding) where
   both-cad : bothCad (legOf l) (legOf s) ≡ true → (l .currency ≡ Cad) × (s .currency ≡ Cad)
@@ -72,24 +76,24 @@ module _ (l s : Holding) where
   unfolding sameForeign inUsd inGbp legOf rowOf currencyOf
   same-foreign e =
       ⊎-elim
-      (λ f. let (a, b) = and-eq-true-iff _ _ .0 f in rw (currency-of (l .currency) 1 a, currency-of (s .currency) 1 b) both-usd)
-      (λ f. let (a, b) = and-eq-true-iff _ _ .0 f in rw (currency-of (l .currency) 2 a, currency-of (s .currency) 2 b) both-gbp)
+      (both _ _ (λ a b. rw (currency-of (l .currency) 1 a, currency-of (s .currency) 1 b) both-usd))
+      (both _ _ (λ a b. rw (currency-of (l .currency) 2 a, currency-of (s .currency) 2 b) both-gbp))
       (one-of _ _ e)
 
   same-class : sameClass (legOf l) (legOf s) ≡ true → OneClass (l .issuer) (s .issuer)
   unfolding sameClass isCanada isProvince legOf rowOf
   same-class e =
       ⊎-elim
-      (λ f. let (a, b) = and-eq-true-iff _ _ .0 f in rw (canada-of (l .issuer) a, canada-of (s .issuer) b) both-canada)
-      (λ f. let (a, b) = and-eq-true-iff _ _ .0 f in rw (province-of (l .issuer) a, province-of (s .issuer) b) (both-provincial _ _))
+      (both _ _ (λ a b. rw (canada-of (l .issuer) a, canada-of (s .issuer) b) both-canada))
+      (both _ _ (λ a b. rw (province-of (l .issuer) a, province-of (s .issuer) b) (both-provincial _ _)))
       (one-of _ _ e)
 
   mixed-class : mixedClass (legOf l) (legOf s) ≡ true → TwoClasses (l .issuer) (s .issuer)
   unfolding mixedClass isCanada isProvince legOf rowOf
   mixed-class e =
       ⊎-elim
-      (λ f. let (a, b) = and-eq-true-iff _ _ .0 f in rw (canada-of (l .issuer) a, province-of (s .issuer) b) (canada-long _))
-      (λ f. let (a, b) = and-eq-true-iff _ _ .0 f in rw (province-of (l .issuer) a, canada-of (s .issuer) b) (canada-short _))
+      (both _ _ (λ a b. rw (canada-of (l .issuer) a, province-of (s .issuer) b) (canada-long _)))
+      (both _ _ (λ a b. rw (province-of (l .issuer) a, canada-of (s .issuer) b) (canada-short _)))
       (one-of _ _ e)
 
   same-government : sameGovernment (legOf l) (legOf s) ≡ true → SameGovernment (l .issuer) (s .issuer)
@@ -97,18 +101,18 @@ module _ (l s : Holding) where
   same-government e =
       ⊎-elim
       (λ o. ⊎-elim
-      (λ f. let (a, b) = and-eq-true-iff _ _ .0 f in rw (canada-of (l .issuer) a, canada-of (s .issuer) b) of-canada)
-      (λ f. let (a, b) = and-eq-true-iff _ _ .0 f in rw (us-of (l .issuer) a, us-of (s .issuer) b) of-us)
+      (both _ _ (λ a b. rw (canada-of (l .issuer) a, canada-of (s .issuer) b) of-canada))
+      (both _ _ (λ a b. rw (us-of (l .issuer) a, us-of (s .issuer) b) of-us))
       (one-of _ _ o))
-      (λ f. let (a, b) = and-eq-true-iff _ _ .0 f in rw (gb-of (l .issuer) a, gb-of (s .issuer) b) of-gb)
+      (both _ _ (λ a b. rw (gb-of (l .issuer) a, gb-of (s .issuer) b) of-gb))
       (one-of _ _ e)
 
   one-bond : oneBond (legOf l) (legOf s) ≡ true → OneBond (l .kind) (s .kind)
   unfolding oneBond isBond isStrip legOf rowOf
   one-bond e =
       ⊎-elim
-      (λ f. let (a, b) = and-eq-true-iff _ _ .0 f in record { some = inl (bond-of (l .kind) a); not-both = λ _ n. strip-of (s .kind) b n })
-      (λ f. let (a, b) = and-eq-true-iff _ _ .0 f in record { some = inr (bond-of (s .kind) b); not-both = λ m _. strip-of (l .kind) a m })
+      (both _ _ (λ a b. record { some = inl (bond-of (l .kind) a); not-both = λ _ n. strip-of (s .kind) b n }))
+      (both _ _ (λ a b. record { some = inr (bond-of (s .kind) b); not-both = λ m _. strip-of (l .kind) a m }))
       (one-of _ _ e)
 
   not-bonds : kindsPair (legOf l) (legOf s) ≡ true → l .kind ≡ Bond → s .kind ≡ Bond → ⊥
