@@ -1,4 +1,3 @@
 pub mod Answer
-pub mod Rate
 pub mod Pair
 pub mod Article

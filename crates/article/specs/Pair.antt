@@ -3,21 +3,22 @@ use mathlib.Core.{Bool.Bool, Bool.true, Bool.false, Bool.cond, Bool._&&_, Bool._
 use Prim.Native.Nat.{ℕ, _+_, _-_, _/_, _≤_, min, max}
 use lib.Dec.{eqb}
 use Rattle.lists.specs.Choice.{firstOf, within}
-use Rattle.article.specs.{Answer.Answer, Answer.makeAnswer, Rate.periodOf, Rate.rateOf}
+use Rattle.article.specs.Answer.{Answer, makeAnswer}
+use Rattle.rates.specs.Rate.{periodOf, rateOf}
 use Rattle.holding.specs.Holding.{rowOf}
-use Rattle.holding.specs.declared.Holding.{Holding}
+use Rattle.holding.specs.declared.{Account.Account, Holding.Holding}
 use Rattle.article.specs.declared.pair.{Rule.Rule, Rule.the-variants.Difference, Rule.the-variants.HalfSum, Rule.the-variants.NotAllowed, Leg.Leg, Pair.Pair}
 use Rattle.article.specs.declared.pair.Pair.the-variants as pairs
 
--- what a pair asks of a holding: the numbers of its side, kind, issuer and currency, its period, and its rate alone
-unfoldable pub legOf : Holding → Leg
-legOf h = record {
+-- what a pair asks of a holding in an account: the numbers of its side, kind, issuer and currency, its period, and its rate alone
+unfoldable pub legOf : Account → Holding → Leg
+legOf a h = record {
   side = rowOf h .side;
   kind = rowOf h .kind;
   issuer = rowOf h .issuer;
   currency = rowOf h .currency;
-  period = periodOf (h .days);
-  rate = rateOf h;
+  period = periodOf a (h .maturity);
+  rate = rateOf a h;
 }
 
 unfoldable pub isLong : Leg → Bool

@@ -1,5 +1,5 @@
 // A pair of a long and a short: whether the article allows it, its rate, and what it saves.
-use crate::rate;
+use holding::Account;
 use holding::Holding;
 ghost use mathlib.Core.Path.{_≡_};
 ghost use Prim.Native.Nat.{_+_, _≤_};
@@ -30,8 +30,8 @@ pub enum Pair {
 }
 
 // What a pair asks of this holding, worked out once.
-pub fn leg_of(h: Holding) -> Leg
-    ensures { λ r. ⌜ (r ≡ legOf h) × (InRange h → RateInRange r) ⌝ }
+pub fn leg_of(account: Account, h: Holding) -> Leg
+    ensures { λ r. ⌜ (r ≡ legOf account h) × (InRange account h → RateInRange r) ⌝ }
 {
     let row = holding::row_of(h);
     Leg {
@@ -39,8 +39,8 @@ pub fn leg_of(h: Holding) -> Leg
         kind: row.kind,
         issuer: row.issuer,
         currency: row.currency,
-        period: rate::period(h.days),
-        rate: rate::rate(h),
+        period: rates::period(account, h.maturity),
+        rate: rates::rate(account, h),
     }
 }
 

@@ -4,12 +4,12 @@ use Prim.Native.Nat.{ℕ, suc, _+_, _*_, _/_, _≤_, _<_}
 use lib.ListN.{length, getD, take, drop}
 use Rattle.lists.specs.Tables.{Each, listTo, front}
 use Rattle.holding.specs.Holding.{numbersOf, rowBy}
-use Rattle.holding.specs.declared.Row.{Row}
+use Rattle.holding.specs.declared.{Head.Head, Row.Row}
 use Rattle.pairing.specs.declared.Line.{Line}
 use Rattle.proposal.specs.Submission.{Submission, noRow, noLine, lineNumbers, lineBy}
 use Rattle.words.specs.Words.{wordAt, withWord, entries, decode, encode}
 
--- the columns of the holdings, side, kind, issuer, days, value, currency; of their prices; and of the lines, long, short, amount
+-- the columns of the holdings, side, kind, issuer, maturity, value, currency; of their prices; and of the lines, long, short, amount
 pub record Columns : Type 0 where
   pub holdings : List (List ℕ)
   pub price : List ℕ
@@ -36,8 +36,9 @@ rowsIn columns = listTo (countIn columns) (λ k. rowBy (numbersAt columns k))
 unfoldable pub linesIn : List (List ℕ) → List Line
 linesIn columns = listTo (countIn columns) (λ k. lineBy (numbersAt columns k))
 
-unfoldable pub submission : Columns → Submission
-submission c = record { rows = rowsIn (c .holdings); prices = decode (c .price); lines = linesIn (c .lines) }
+-- what is submitted by a head and columns
+unfoldable pub submission : Head → Columns → Submission
+submission h c = record { head = h; rows = rowsIn (c .holdings); prices = decode (c .price); lines = linesIn (c .lines) }
 
 -- their byte lengths: of the holdings' columns and the price's, and of the lines'
 unfoldable pub holdingSizes : Columns → List ℕ
@@ -55,7 +56,7 @@ pub record RowAt (columns : List (List ℕ)) (k : ℕ) (row : Row) : Type 0 wher
   pub side : row .side ≡ wordAt (columnAt columns 0) k
   pub kind : row .kind ≡ wordAt (columnAt columns 1) k
   pub issuer : row .issuer ≡ wordAt (columnAt columns 2) k
-  pub days : row .days ≡ wordAt (columnAt columns 3) k
+  pub maturity : row .maturity ≡ wordAt (columnAt columns 3) k
   pub value : row .value ≡ wordAt (columnAt columns 4) k
   pub currency : row .currency ≡ wordAt (columnAt columns 5) k
 
@@ -64,13 +65,14 @@ pub record LineAt (columns : List (List ℕ)) (k : ℕ) (line : Line) : Type 0 w
   pub short : line .short ≡ wordAt (columnAt columns 1) k
   pub amount : line .amount ≡ wordAt (columnAt columns 2) k
 
--- a book or proposal has as many holdings or lines as its columns have entries, each with the numbers that stand there, and a price for each entry of its column
-pub record ColumnEntries (c : Columns) : Type 0 where
-  pub holdings : length (submission c .rows) ≡ length (columnAt (c .holdings) 0) / 8
-  pub lines : length (submission c .lines) ≡ length (columnAt (c .lines) 0) / 8
-  pub holding : (k : ℕ) → k < length (columnAt (c .holdings) 0) / 8 → RowAt (c .holdings) k (getD (submission c .rows) k noRow)
-  pub price : (k : ℕ) → k < length (c .price) / 8 → getD (submission c .prices) k 0 ≡ wordAt (c .price) k
-  pub line : (k : ℕ) → k < length (columnAt (c .lines) 0) / 8 → LineAt (c .lines) k (getD (submission c .lines) k noLine)
+-- a book or proposal has as many holdings or lines as its columns have entries, each with the numbers that stand there, a price for each entry of its column, and its head
+pub record ColumnEntries (h : Head) (c : Columns) : Type 0 where
+  pub head : submission h c .head ≡ h
+  pub holdings : length (submission h c .rows) ≡ length (columnAt (c .holdings) 0) / 8
+  pub lines : length (submission h c .lines) ≡ length (columnAt (c .lines) 0) / 8
+  pub holding : (k : ℕ) → k < length (columnAt (c .holdings) 0) / 8 → RowAt (c .holdings) k (getD (submission h c .rows) k noRow)
+  pub price : (k : ℕ) → k < length (c .price) / 8 → getD (submission h c .prices) k 0 ≡ wordAt (c .price) k
+  pub line : (k : ℕ) → k < length (columnAt (c .lines) 0) / 8 → LineAt (c .lines) k (getD (submission h c .lines) k noLine)
 
 -- numbers at the front of a column of bytes; what the column held past them is kept
 unfoldable pub column : List ℕ → List ℕ → List ℕ

@@ -35,21 +35,21 @@ pub fn copy_book(
     side: &mut [u8],
     kind: &mut [u8],
     issuer: &mut [u8],
-    days: &mut [u8],
+    maturity: &mut [u8],
     value: &mut [u8],
     price: &mut [u8],
     currency: &mut [u8],
 )
     requires { ⌜ CopyRoom rows n (now table)
-        (now side ∷ now kind ∷ now issuer ∷ now days ∷ now value ∷ now price ∷ now currency ∷ []) ⌝ }
-    ensures { λ _. ⌜ (now (side .exit) ∷ now (kind .exit) ∷ now (issuer .exit) ∷ now (days .exit) ∷ now (value .exit) ∷ now (price .exit) ∷ now (currency .exit) ∷ [])
+        (now side ∷ now kind ∷ now issuer ∷ now maturity ∷ now value ∷ now price ∷ now currency ∷ []) ⌝ }
+    ensures { λ _. ⌜ (now (side .exit) ∷ now (kind .exit) ∷ now (issuer .exit) ∷ now (maturity .exit) ∷ now (value .exit) ∷ now (price .exit) ∷ now (currency .exit) ∷ [])
         ≡ copied rows n (now (table .entry)) 0
-        (now (side .entry) ∷ now (kind .entry) ∷ now (issuer .entry) ∷ now (days .entry) ∷ now (value .entry) ∷ now (price .entry) ∷ now (currency .entry) ∷ []) ⌝ }
+        (now (side .entry) ∷ now (kind .entry) ∷ now (issuer .entry) ∷ now (maturity .entry) ∷ now (value .entry) ∷ now (price .entry) ∷ now (currency .entry) ∷ []) ⌝ }
 {
     lists::copy(column(table, rows, n, 0), side);
     lists::copy(column(table, rows, n, 1), kind);
     lists::copy(column(table, rows, n, 2), issuer);
-    lists::copy(column(table, rows, n, 3), days);
+    lists::copy(column(table, rows, n, 3), maturity);
     lists::copy(column(table, rows, n, 4), value);
     lists::copy(column(table, rows, n, 5), price);
     lists::copy(column(table, rows, n, 6), currency);

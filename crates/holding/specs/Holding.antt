@@ -1,36 +1,65 @@
--- Document 01, "A holding", and document 02 a), its currency: the ranges of raw numbers, and the record that numbers within them make. Assumes nothing.
-use mathlib.Core.{Path._≡_, Bool.Bool, Bool.cond, Bool.not, Bool.true, List.List, List.[], List._∷_, List._++_, Logic._⊎_}
+-- Document 01, "A holding", document 02 a), its currency, and b), its maturity and the valuation date: the ranges of raw numbers, and the record that numbers within them make. Assumes nothing.
+use mathlib.Core.{Path._≡_, Bool.Bool, Bool.cond, Bool.not, Bool._||_, Bool.true, Bool.false, List.List, List.[], List._∷_, List._++_, Logic._⊎_}
 use Prim.Native.Nat.{ℕ, _≤_, _<_}
-use lib.{Dec.eqb, ListN.getD}
+use lib.{Dec.eqb, Dec.ltb, Dec.leb, ListN.getD}
 use Rattle.lists.specs.Choice.{firstOf, within}
+use Rattle.dates.specs.Calendar.{isDate, anniversary}
 use Rattle.holding.specs.declared.{Side.Side, Side.the-variants.Long, Side.the-variants.Short, Kind.Kind, Kind.the-variants.Bond, Kind.the-variants.Coupon, Kind.the-variants.Residual}
 use Rattle.holding.specs.declared.Issuer.{Issuer, the-variants.Canada, the-variants.Province, the-variants.UnitedStates, the-variants.UnitedKingdom}
-use Rattle.holding.specs.declared.{Currency.Currency, Currency.the-variants.Cad, Currency.the-variants.Usd, Currency.the-variants.Gbp, Holding.Holding, Row.Row}
+use Rattle.holding.specs.declared.{Currency.Currency, Currency.the-variants.Cad, Currency.the-variants.Usd, Currency.the-variants.Gbp, Holding.Holding, Row.Row, Head.Head, Account.Account}
 use Rattle.holding.specs.declared.Built.{Built, the-variants.Made, the-variants.Refused}
 
 -- the most cents that a market value may be
 abbrev pub valueLimit : ℕ
 valueLimit = 100000000000
 
+-- the head of a submission, what is said once for all of its holdings: its numbers, and the head of such a list
+unfoldable pub headNumbers : Head → List ℕ
+headNumbers h = h .date ∷ []
+
+abbrev pub headBy : List ℕ → Head
+headBy xs = record { date = getD xs 0 0 }
+
+-- 24 a valuation date that is unreal or outside the years 1900 to 2299
+unfoldable pub headFaults : Head → List (Bool × ℕ)
+headFaults h = (not (isDate (h .date)), 24) ∷ []
+
+unfoldable pub headFault : Head → ℕ
+headFault h = firstOf (headFaults h) 0
+
+-- the account of a head: it is valued on this date
+unfoldable pub accountOf : Head → Account
+accountOf h = record { date = h .date }
+
 -- the numbers of a row in the order of their columns, and the row of such a list
 unfoldable pub numbersOf : Row → List ℕ
-numbersOf r = r .side ∷ r .kind ∷ r .issuer ∷ r .days ∷ r .value ∷ r .currency ∷ []
+numbersOf r = r .side ∷ r .kind ∷ r .issuer ∷ r .maturity ∷ r .value ∷ r .currency ∷ []
 
 abbrev pub rowBy : List ℕ → Row
-rowBy xs = record { side = getD xs 0 0; kind = getD xs 1 0; issuer = getD xs 2 0; days = getD xs 3 0; value = getD xs 4 0; currency = getD xs 5 0 }
+rowBy xs = record { side = getD xs 0 0; kind = getD xs 1 0; issuer = getD xs 2 0; maturity = getD xs 3 0; value = getD xs 4 0; currency = getD xs 5 0 }
 
--- side 0 and 1, kind 0 to 2, issuer 0 to 12, days 1 to 36,500, market value 1 to 100,000,000,000 cents, currency 0 to 2
-pub record Ranges (r : Row) : Type 0 where
+-- matured by the valuation date, or past its 100th anniversary
+unfoldable pub outOfTerm : Account → ℕ → Bool
+outOfTerm a maturity = leb maturity (a .date) || ltb (anniversary (a .date) 100) maturity
+
+-- a maturity that is held: a date, after the valuation date and up to its 100th anniversary
+pub record InTerm (a : Account) (maturity : ℕ) : Type 0 where
+  pub date : isDate maturity ≡ true
+  pub after : a .date < maturity
+  pub until : maturity ≤ anniversary (a .date) 100
+
+-- side 0 and 1, kind 0 to 2, issuer 0 to 12, a maturity that is held, market value 1 to 100,000,000,000 cents, currency 0 to 2
+pub record Ranges (a : Account) (r : Row) : Type 0 where
   pub side : r .side ≤ 1
   pub kind : r .kind ≤ 2
   pub issuer : r .issuer ≤ 12
-  pub days-low : 1 ≤ r .days
-  pub days-high : r .days ≤ 36500
+  pub maturity : InTerm a (r .maturity)
   pub value-low : 1 ≤ r .value
   pub value-high : r .value ≤ 100000000000
   pub currency : r .currency ≤ 2
 
--- the refusals of a row, each with its test: of what it is 4 side, 5 kind, 6 issuer, of its term 7 days, of its worth 8 value, of its money 23 currency outside its range
+-- the refusals of a row, each with its test: of what it is 4 side, 5 kind, 6 issuer outside its range; of its term 24 a maturity that is unreal or outside the years, 7 matured or
+-- past the 100th anniversary; of its worth 8 value, of its money 23 currency outside its range
 unfoldable pub identityFaults : Row → List (Bool × ℕ)
 identityFaults r =
     (not (within 0 1 (r .side)), 4)
@@ -38,8 +67,8 @@ identityFaults r =
     ∷ (not (within 0 12 (r .issuer)), 6)
     ∷ []
 
-unfoldable pub termFaults : Row → List (Bool × ℕ)
-termFaults r = (not (within 1 36500 (r .days)), 7) ∷ []
+unfoldable pub termFaults : Account → Row → List (Bool × ℕ)
+termFaults a r = (not (isDate (r .maturity)), 24) ∷ (outOfTerm a (r .maturity), 7) ∷ []
 
 unfoldable pub worthFaults : Row → List (Bool × ℕ)
 worthFaults r = (not (within 1 valueLimit (r .value)), 8) ∷ []
@@ -47,13 +76,13 @@ worthFaults r = (not (within 1 valueLimit (r .value)), 8) ∷ []
 unfoldable pub moneyFaults : Row → List (Bool × ℕ)
 moneyFaults r = (not (within 0 2 (r .currency)), 23) ∷ []
 
--- 23 comes after 8
-unfoldable pub rowFaults : Row → List (Bool × ℕ)
-rowFaults r = identityFaults r ++ termFaults r ++ worthFaults r ++ moneyFaults r
+-- 24 comes just before 7, 23 after 8
+unfoldable pub rowFaults : Account → Row → List (Bool × ℕ)
+rowFaults a r = identityFaults r ++ termFaults a r ++ worthFaults r ++ moneyFaults r
 
 -- the first that holds, 0 for none
-unfoldable pub faultOf : Row → ℕ
-faultOf r = firstOf (rowFaults r) 0
+unfoldable pub faultOf : Account → Row → ℕ
+faultOf a r = firstOf (rowFaults a r) 0
 
 -- side: 0 long, 1 short
 abbrev pub sideNumber : Side → ℕ
@@ -89,14 +118,15 @@ rowOf h = record {
   side = sideNumber (h .side);
   kind = kindNumber (h .kind);
   issuer = issuerNumber (h .issuer);
-  days = h .days;
+  maturity = h .maturity;
   value = h .value;
   currency = currencyNumber (h .currency);
 }
 
--- a record whose numbers are within the ranges
-abbrev pub InRange : Holding → Type 0
-InRange h = Ranges (rowOf h)
+-- an account valued on a date, and a record whose numbers are within the ranges
+pub record InRange (a : Account) (h : Holding) : Type 0 where
+  pub valued : isDate (a .date) ≡ true
+  pub ranges : Ranges a (rowOf h)
 
 -- from a number to its case
 unfoldable pub sideOf : ℕ → Side
@@ -117,7 +147,7 @@ holdingOf r = record {
   side = sideOf (r .side);
   kind = kindOf (r .kind);
   issuer = issuerOf (r .issuer);
-  days = r .days;
+  maturity = r .maturity;
   value = r .value;
   currency = currencyOf (r .currency);
 }
@@ -128,22 +158,23 @@ numberOf (Made h) = 0
 numberOf (Refused n) = n
 
 -- a row without fault makes its record
-unfoldable pub builtOf : Row → Built
-builtOf r = cond (eqb (faultOf r) 0) (Made (holdingOf r)) (Refused (faultOf r))
+unfoldable pub builtOf : Account → Row → Built
+builtOf a r = cond (eqb (faultOf a r) 0) (Made (holdingOf r)) (Refused (faultOf a r))
 
 -- what making a record of a row promises
-pub record Builds (row : Row) (r : Built) : Type 0 where
-  pub number : numberOf r ≡ faultOf row
-  pub built : r ≡ builtOf row
+pub record Builds (a : Account) (row : Row) (r : Built) : Type 0 where
+  pub number : numberOf r ≡ faultOf a row
+  pub built : r ≡ builtOf a row
 
--- the refusal that a row has: of the first of side, kind, issuer, days, value and currency that is outside its range
-pub record RowRefused (r : Row) : Type 0 where
-  pub side : 1 < r .side → faultOf r ≡ 4
-  pub kind : r .side ≤ 1 → 2 < r .kind → faultOf r ≡ 5
-  pub issuer : r .side ≤ 1 → r .kind ≤ 2 → 12 < r .issuer → faultOf r ≡ 6
-  pub days : r .side ≤ 1 → r .kind ≤ 2 → r .issuer ≤ 12 → (r .days < 1) ⊎ (36500 < r .days) → faultOf r ≡ 7
-  pub value : r .side ≤ 1 → r .kind ≤ 2 → r .issuer ≤ 12 → 1 ≤ r .days → r .days ≤ 36500 → (r .value < 1) ⊎ (100000000000 < r .value) → faultOf r ≡ 8
-  pub currency : r .side ≤ 1 → r .kind ≤ 2 → r .issuer ≤ 12 → 1 ≤ r .days → r .days ≤ 36500 → 1 ≤ r .value → r .value ≤ 100000000000 → 2 < r .currency → faultOf r ≡ 23
+-- the refusal that a row has: of the first of side, kind, issuer, maturity, value and currency that is outside its range
+pub record RowRefused (a : Account) (r : Row) : Type 0 where
+  pub side : 1 < r .side → faultOf a r ≡ 4
+  pub kind : r .side ≤ 1 → 2 < r .kind → faultOf a r ≡ 5
+  pub issuer : r .side ≤ 1 → r .kind ≤ 2 → 12 < r .issuer → faultOf a r ≡ 6
+  pub unreal : r .side ≤ 1 → r .kind ≤ 2 → r .issuer ≤ 12 → isDate (r .maturity) ≡ false → faultOf a r ≡ 24
+  pub term : r .side ≤ 1 → r .kind ≤ 2 → r .issuer ≤ 12 → isDate (r .maturity) ≡ true → (r .maturity ≤ a .date) ⊎ (anniversary (a .date) 100 < r .maturity) → faultOf a r ≡ 7
+  pub value : r .side ≤ 1 → r .kind ≤ 2 → r .issuer ≤ 12 → InTerm a (r .maturity) → (r .value < 1) ⊎ (100000000000 < r .value) → faultOf a r ≡ 8
+  pub currency : r .side ≤ 1 → r .kind ≤ 2 → r .issuer ≤ 12 → InTerm a (r .maturity) → 1 ≤ r .value → r .value ≤ 100000000000 → 2 < r .currency → faultOf a r ≡ 23
 
 -- the numbers of a record. Side: 0 long, 1 short. Kind: 0 bond or debenture, 1 stripped coupon, 2 residual. Issuer: 0 Canada, 1 to 10 a province, 11 US, 12 GB. Currency: 0 CAD, 1 USD, 2 GBP
 pub record Numbers (h : Holding) : Type 0 where
@@ -159,5 +190,5 @@ pub record Numbers (h : Holding) : Type 0 where
   pub of-cad : h .currency ≡ Cad → rowOf h .currency ≡ 0
   pub of-usd : h .currency ≡ Usd → rowOf h .currency ≡ 1
   pub of-gbp : h .currency ≡ Gbp → rowOf h .currency ≡ 2
-  pub days : rowOf h .days ≡ h .days
+  pub maturity : rowOf h .maturity ≡ h .maturity
   pub value : rowOf h .value ≡ h .value

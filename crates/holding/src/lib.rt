@@ -1,7 +1,7 @@
-// A holding: the raw numbers of a row, their ranges, and the record that numbers within them make.
+// A holding and the account that it is valued in: raw numbers, their ranges, and the records that numbers within them make.
 ghost use mathlib.Core.Path.{_≡_};
 ghost use Rattle.lists.specs.Choice.{firstOf};
-ghost use Rattle.holding.specs.Holding.{identityFaults, termFaults, worthFaults, moneyFaults, faultOf, Builds};
+ghost use Rattle.holding.specs.Holding.{headFault, accountOf, identityFaults, termFaults, worthFaults, moneyFaults, faultOf, Builds};
 ghost use Rattle.holding.specs.Holding.{sideOf, kindOf, issuerOf, currencyOf, sideNumber, kindNumber, issuerNumber, currencyNumber, rowOf};
 
 pub enum Side {
@@ -28,11 +28,21 @@ pub enum Currency {
     Gbp,
 }
 
+// What is said once for all holdings, as it comes, of any size: the valuation date as a number YYYYMMDD.
+pub struct Head {
+    pub date: u64,
+}
+
+// The account of a head without fault.
+pub struct Account {
+    pub date: u32,
+}
+
 pub struct Holding {
     pub side: Side,
     pub kind: Kind,
     pub issuer: Issuer,
-    pub days: u64,
+    pub maturity: u32,
     pub value: u64,
     pub currency: Currency,
 }
@@ -42,7 +52,7 @@ pub struct Row {
     pub side: u64,
     pub kind: u64,
     pub issuer: u64,
-    pub days: u64,
+    pub maturity: u64,
     pub value: u64,
     pub currency: u64,
 }
@@ -51,6 +61,25 @@ pub struct Row {
 pub enum Built {
     Made(Holding),
     Refused(u64),
+}
+
+// The fault of a head: 24 for a valuation date that is none, or 0.
+pub fn head_fault(head: Head) -> u64
+    ensures { λ r. ⌜ r ≡ headFault head ⌝ }
+{
+    if !dates::is_date(head.date) {
+        return 24;
+    }
+    0
+}
+
+// The account of a head; of one with a fault it is free.
+pub fn account_of(head: Head) -> Account
+    ensures { λ r. ⌜ headFault head ≡ 0 → r ≡ accountOf head ⌝ }
+{
+    Account {
+        date: head.date as u32,
+    }
 }
 
 // The number of the first fault of what a row is, 4 to 6, or 0 for none.
@@ -69,14 +98,17 @@ pub fn identity_fault(row: Row) -> u64
     0
 }
 
-// The fault of its term, 7, or 0.
-pub fn term_fault(row: Row) -> u64
-    ensures { λ r. ⌜ r ≡ firstOf (termFaults row) 0 ⌝ }
+// The first fault of its term: 24 for a maturity that is no date, 7 for one by the valuation date or past its 100th anniversary, or 0.
+pub fn term_fault(account: Account, row: Row) -> u64
+    ensures { λ r. ⌜ r ≡ firstOf (termFaults account row) 0 ⌝ }
 {
-    if row.days < 1 {
+    if !dates::is_date(row.maturity) {
+        return 24;
+    }
+    if row.maturity <= account.date as u64 {
         return 7;
     }
-    if row.days > 36500 {
+    if row.maturity > dates::anniversary(account.date, 100) {
         return 7;
     }
     0
@@ -105,15 +137,15 @@ pub fn money_fault(row: Row) -> u64
     0
 }
 
-// The number of a row's first fault, 4 to 8 or 23, or 0 for none.
-pub fn fault(row: Row) -> u64
-    ensures { λ r. ⌜ r ≡ faultOf row ⌝ }
+// The number of a row's first fault, 4 to 6, 24, 7, 8 or 23, or 0 for none.
+pub fn fault(account: Account, row: Row) -> u64
+    ensures { λ r. ⌜ r ≡ faultOf account row ⌝ }
 {
     let number = identity_fault(row);
     if number != 0 {
         return number;
     }
-    let number = term_fault(row);
+    let number = term_fault(account, row);
     if number != 0 {
         return number;
     }
@@ -165,10 +197,10 @@ fn currency_of(currency: u64) -> Currency
 }
 
 // The record of a row, or the number of its first fault.
-pub fn holding_of(row: Row) -> Built
-    ensures { λ r. ⌜ Builds row r ⌝ }
+pub fn holding_of(account: Account, row: Row) -> Built
+    ensures { λ r. ⌜ Builds account row r ⌝ }
 {
-    let number = fault(row);
+    let number = fault(account, row);
     if number != 0 {
         return Built::Refused(number);
     }
@@ -180,7 +212,7 @@ pub fn holding_of(row: Row) -> Built
         side,
         kind,
         issuer,
-        days: row.days,
+        maturity: row.maturity as u32,
         value: row.value,
         currency,
     })
@@ -244,7 +276,7 @@ pub fn row_of(h: Holding) -> Row
         side: side_number(side),
         kind: kind_number(kind),
         issuer: issuer_number(issuer),
-        days: h.days,
+        maturity: h.maturity as u64,
         value: h.value,
         currency: currency_number(currency),
     }

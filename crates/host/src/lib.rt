@@ -1,5 +1,7 @@
 // The reader and the check for the desk's Rust host: columns and lent lists as byte slices.
+use holding::Head;
 ghost use mathlib.Core.List.{[], _∷_};
+ghost use Rattle.holding.specs.Holding.{headBy};
 ghost use Rattle.columns.specs.Columns.{makeColumns};
 ghost use Rattle.lent.specs.Boundary.{makeLent, Checks};
 ghost use Rattle.received.specs.Reading.{Reads};
@@ -9,10 +11,11 @@ ghost use Rattle.received.specs.Reading.{Reads};
 // what a slice means, and the host's borrow sees to it.
 #[no_mangle]
 pub extern "C" fn margin_check(
+    date: u64,
     side: &[u8],
     kind: &[u8],
     issuer: &[u8],
-    days: &[u8],
+    maturity: &[u8],
     value: &[u8],
     price: &[u8],
     currency: &[u8],
@@ -23,24 +26,26 @@ pub extern "C" fn margin_check(
     ranking: &mut [u8],
     answer: &mut [u8],
 ) -> u64
-    ensures { λ r. ⌜ Checks
+    ensures { λ r. ⌜ Checks (headBy (date ∷ []))
         (makeColumns
-        (now (side .entry) ∷ now (kind .entry) ∷ now (issuer .entry) ∷ now (days .entry) ∷ now (value .entry) ∷ now (currency .entry) ∷ [])
+        (now (side .entry) ∷ now (kind .entry) ∷ now (issuer .entry) ∷ now (maturity .entry) ∷ now (value .entry) ∷ now (currency .entry) ∷ [])
         (now (price .entry))
         (now (long .entry) ∷ now (short .entry) ∷ now (amount .entry) ∷ []))
         (makeLent (now (remainder .entry)) (now (ranking .entry)) (now (answer .entry)))
         (makeLent (now (remainder .exit)) (now (ranking .exit)) (now (answer .exit))) r ⌝ }
 {
+    let head = Head { date };
     if side.len() <= 128 {
         let mut legs = [0u64; 16];
         let mut left = [0u64; 16];
         let mut margins = [0u64; 16];
         let mut ranks = [0u64; 16];
         return lent::judge(
+            head,
             side,
             kind,
             issuer,
-            days,
+            maturity,
             value,
             price,
             currency,
@@ -61,10 +66,11 @@ pub extern "C" fn margin_check(
     let mut margins = lists::zeros();
     let mut ranks = lists::zeros();
     lent::judge(
+        head,
         side,
         kind,
         issuer,
-        days,
+        maturity,
         value,
         price,
         currency,
@@ -86,10 +92,11 @@ pub extern "C" fn margin_check(
 #[no_mangle]
 pub extern "C" fn margin_read(
     text: &[u8],
+    head: &mut [u8],
     side: &mut [u8],
     kind: &mut [u8],
     issuer: &mut [u8],
-    days: &mut [u8],
+    maturity: &mut [u8],
     value: &mut [u8],
     price: &mut [u8],
     currency: &mut [u8],
@@ -98,13 +105,13 @@ pub extern "C" fn margin_read(
     amount: &mut [u8],
     answer: &mut [u8],
 ) -> u64
-    ensures { λ r. ⌜ Reads (now (text .entry))
+    ensures { λ r. ⌜ Reads (now (text .entry)) (now (head .entry)) (now (head .exit))
         (makeColumns
-        (now (side .entry) ∷ now (kind .entry) ∷ now (issuer .entry) ∷ now (days .entry) ∷ now (value .entry) ∷ now (currency .entry) ∷ [])
+        (now (side .entry) ∷ now (kind .entry) ∷ now (issuer .entry) ∷ now (maturity .entry) ∷ now (value .entry) ∷ now (currency .entry) ∷ [])
         (now (price .entry))
         (now (long .entry) ∷ now (short .entry) ∷ now (amount .entry) ∷ []))
         (makeColumns
-        (now (side .exit) ∷ now (kind .exit) ∷ now (issuer .exit) ∷ now (days .exit) ∷ now (value .exit) ∷ now (currency .exit) ∷ [])
+        (now (side .exit) ∷ now (kind .exit) ∷ now (issuer .exit) ∷ now (maturity .exit) ∷ now (value .exit) ∷ now (currency .exit) ∷ [])
         (now (price .exit))
         (now (long .exit) ∷ now (short .exit) ∷ now (amount .exit) ∷ []))
         (now (answer .entry)) (now (answer .exit)) r ⌝ }
@@ -117,10 +124,11 @@ pub extern "C" fn margin_read(
             64,
             &mut book,
             &mut lines,
+            head,
             side,
             kind,
             issuer,
-            days,
+            maturity,
             value,
             price,
             currency,
@@ -137,10 +145,11 @@ pub extern "C" fn margin_read(
         512,
         &mut book,
         &mut lines,
+        head,
         side,
         kind,
         issuer,
-        days,
+        maturity,
         value,
         price,
         currency,

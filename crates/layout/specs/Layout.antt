@@ -1,13 +1,15 @@
--- Document 01, "The file", and document 02 a): the layout of a record, parsed, and the refusals 19 to 21. Assumes nothing.
-use mathlib.Core.{Path._≡_, Bool.cond, Bool.Bool, Bool.true, Bool.false, List.List, List.[], List._∷_, List._++_, List.map}
-use Prim.Native.Nat.{ℕ, _≤_, suc, _-_}
-use lib.{Dec.eqb, Dec.leb, ListN.length, ListN.getD, ListN.replicate}
+-- Document 01, "The file", and document 02 a) and b): the layout of a record, parsed, and the refusals 19 to 21. Assumes nothing.
+use mathlib.Core.{Path._≡_, Bool.cond, Bool.Bool, Bool._&&_, List.List, List.[], List._∷_, List._++_, List.map}
+use Prim.Native.Nat.{ℕ, _≤_, _<_, suc, _-_}
+use lib.{Dec.eqb, Dec.leb, Dec.ltb, ListN.length, ListN.getD, ListN.replicate}
 use Rattle.lists.specs.Tables.{ascii}
 use Rattle.numerals.specs.Numerals.{digits, numeralOf}
 use Rattle.numerals.specs.declared.Numeral.{Numeral, the-variants.Number, the-variants.NotANumeral}
+use Rattle.dates.specs.Text.{dateText, readDate}
+use Rattle.dates.specs.declared.text.Reading.{Reading, the-variants.Number as Dated, the-variants.NotADate}
 use Rattle.codes.specs.Codes.{placeOf, Named}
 use Rattle.codes.specs.declared.Place.{Place, the-variants.At, the-variants.Nowhere}
-use Rattle.layout.specs.declared.Sort.{Sort, the-variants.Side, the-variants.Kind, the-variants.Issuer, the-variants.Currency, the-variants.Six, the-variants.Twelve, the-variants.Empty}
+use Rattle.layout.specs.declared.Sort.{Sort, the-variants.Side, the-variants.Kind, the-variants.Issuer, the-variants.Currency, the-variants.Date, the-variants.Six, the-variants.Twelve, the-variants.Empty}
 use Rattle.layout.specs.declared.{Value.Value, Value.the-variants.Of, Value.the-variants.Wrong, Parsed.Parsed, Parsed.the-variants.Good, Parsed.the-variants.Refused, Entry.Entry}
 use Rattle.csv.specs.Reading.{part, Split, fields, malformed, recordAt, fieldCount, Read, formed, broken}
 
@@ -28,12 +30,13 @@ currencies = map ascii ("CAD" ∷ "USD" ∷ "GBP" ∷ [])
 abbrev pub Numbered : ℕ → List ℕ → ℕ → Type 0
 Numbered most t v = (t ≡ digits v) × (length t ≤ most)
 
--- a text is a value of its sort: "value and amount have 1 to 12 digits, others 1 to 6"
+-- a text is a value of its sort: "value and amount have 1 to 12 digits, others 1 to 6"; a date is "as YYYY-MM-DD", real or not
 abbrev pub IsValue : Sort → List ℕ → ℕ → Type 0
 IsValue Side t v = Named t sides v
 IsValue Kind t v = Named t kinds v
 IsValue Issuer t v = Named t issuers v
 IsValue Currency t v = Named t currencies v
+IsValue Date t v = (t ≡ dateText v) × (v < 100000000)
 IsValue Six t v = Numbered 6 t v
 IsValue Twelve t v = Numbered 12 t v
 IsValue Empty t v = (t ≡ []) × (v ≡ 0)
@@ -52,12 +55,18 @@ abbrev pub byNumeral : Numeral → Value
 byNumeral (Number n) = Of n
 byNumeral NotANumeral = Wrong
 
+-- and so is the number of a date
+abbrev pub byDate : Reading → Value
+byDate (Dated n) = Of n
+byDate NotADate = Wrong
+
 -- the value that a text is of its sort
 unfoldable pub valueOf : Sort → List ℕ → Value
 valueOf Side t = byPlace (placeOf t sides)
 valueOf Kind t = byPlace (placeOf t kinds)
 valueOf Issuer t = byPlace (placeOf t issuers)
 valueOf Currency t = byPlace (placeOf t currencies)
+valueOf Date t = byDate (readDate t)
 valueOf Six t = byNumeral (numeralOf 6 t)
 valueOf Twelve t = byNumeral (numeralOf 12 t)
 valueOf Empty t = cond (eqb (length t) 0) (Of 0) Wrong
@@ -66,9 +75,14 @@ valueOf Empty t = cond (eqb (length t) 0) (Of 0) Wrong
 abbrev pub padded : {A : Type 0} → A → List A → List A
 padded x xs = xs ++ replicate (fieldCount - suc (length xs)) x
 
--- the letters, each with what follows it: `H`, side, kind, issuer, days, value, price, currency; `P`, long, short, amount; further fields are empty
+-- the letters, each with what follows it: `D`, valuation date; `H`, side, kind, issuer, maturity, value, price, currency; `P`, long, short, amount; further
+-- fields are empty
 abbrev pub layouts : List (List ℕ × List Sort)
-layouts = (ascii "H", Side ∷ Kind ∷ Issuer ∷ Six ∷ Twelve ∷ Six ∷ Currency ∷ []) ∷ (ascii "P", Six ∷ Six ∷ Twelve ∷ []) ∷ []
+layouts =
+    (ascii "D", Date ∷ [])
+    ∷ (ascii "H", Side ∷ Kind ∷ Issuer ∷ Date ∷ Twelve ∷ Six ∷ Currency ∷ [])
+    ∷ (ascii "P", Six ∷ Six ∷ Twelve ∷ [])
+    ∷ []
 
 -- the letters by number, and the sorts of the fields after each
 abbrev pub letters : List (List ℕ)
@@ -77,10 +91,10 @@ letters = map (λ l. l .0) layouts
 abbrev pub sortsBy : ℕ → List Sort
 sortsBy k = padded Empty (getD layouts k ([], []) .1)
 
--- what may follow what, by letter, all H before all P: anything comes first, and then nothing of an earlier letter
+-- what may follow what, by letter: D comes first, and then no other D and nothing of an earlier letter, all H before all P
 abbrev pub mayFollow : Place → ℕ → Bool
-mayFollow Nowhere letter = true
-mayFollow (At before) letter = leb before letter
+mayFollow Nowhere letter = eqb letter 0
+mayFollow (At before) letter = ltb 0 letter && leb before letter
 
 -- a good record of the letter of number k, with the values after it
 abbrev pub IsRecord : ℕ → List (List ℕ) → List ℕ → Type 0

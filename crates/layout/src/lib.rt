@@ -1,21 +1,23 @@
 // The layout of a record: a letter, and after it fields, each of a sort.
 use codes::Place;
 use csv::Scanned;
+use dates::text::Reading;
 use numerals::Numeral;
 ghost use mathlib.Core.Path.{_≡_};
 ghost use lib.ListN.{drop, getD};
 ghost use Rattle.csv.specs.Reading.{fieldCount, textsIn};
-ghost use Rattle.layout.specs.Layout.{byPlace, byNumeral, valueOf, sortsBy, valuesOf, Found, mayFollow, entry, EntryAt};
+ghost use Rattle.layout.specs.Layout.{byPlace, byNumeral, byDate, valueOf, sortsBy, valuesOf, Found, mayFollow, entry, EntryAt};
 
 // The number of values in a record: one for each field after its letter.
 pub const VALUES: usize = csv::FIELDS - 1;
 
-// What a field can be: a letter or a code that is named, a numeral of at most so many digits, or nothing.
+// What a field can be: a letter or a code that is named, a date, a numeral of at most so many digits, or nothing.
 pub enum Sort {
     Side,
     Kind,
     Issuer,
     Currency,
+    Date,
     Six,
     Twelve,
     Empty,
@@ -39,23 +41,29 @@ pub struct Entry {
     pub next: usize,
 }
 
-// The sort of field j after the letter of a number: H, then P.
+// The sort of field j after the letter of a number: D, H, then P.
 fn sort_at(letter: usize, j: usize) -> Sort
     ensures { λ r. ⌜ r ≡ getD (sortsBy letter) j Sort.Empty ⌝ }
 {
     if letter == 0 {
         return match j {
+            0 => Sort::Date,
+            _ => Sort::Empty,
+        };
+    }
+    if letter == 1 {
+        return match j {
             0 => Sort::Side,
             1 => Sort::Kind,
             2 => Sort::Issuer,
-            3 => Sort::Six,
+            3 => Sort::Date,
             4 => Sort::Twelve,
             5 => Sort::Six,
             6 => Sort::Currency,
             _ => Sort::Empty,
         };
     }
-    if letter == 1 {
+    if letter == 2 {
         return match j {
             0 => Sort::Six,
             1 => Sort::Six,
@@ -86,6 +94,16 @@ fn by_numeral(numeral: Numeral) -> Value
     }
 }
 
+// The number of a date, as a value.
+fn by_date(reading: Reading) -> Value
+    ensures { λ r. ⌜ r ≡ byDate reading ⌝ }
+{
+    match reading {
+        Reading::Number(n) => Value::Of(n),
+        Reading::NotADate => Value::Wrong,
+    }
+}
+
 // The value that a text is of its sort.
 fn value_in(sort: Sort, text: &[u8]) -> Value
     ensures { λ r. ⌜ r ≡ valueOf sort (now (text .entry)) ⌝ }
@@ -95,6 +113,7 @@ fn value_in(sort: Sort, text: &[u8]) -> Value
         Sort::Kind => by_place(codes::place_in(text, b"BCR", 1, 3)),
         Sort::Issuer => by_place(codes::place_in(text, b"CAABBCMBNBNLNSONPEQCSKUSGB", 2, 13)),
         Sort::Currency => by_place(codes::place_in(text, b"CADUSDGBP", 3, 3)),
+        Sort::Date => by_date(dates::text::read_date(text)),
         Sort::Six => by_numeral(numerals::read_numeral(text, 6)),
         Sort::Twelve => by_numeral(numerals::read_numeral(text, 12)),
         Sort::Empty => if text.len() == 0 {
@@ -137,13 +156,17 @@ fn values_after<'a>(
     true
 }
 
-// Whether a record of a letter may follow one of the letter before, or none.
+// Whether a record of a letter may follow one of the letter before, or none: D comes first and only there.
 pub fn may_follow(before: Place, letter: usize) -> bool
     ensures { λ r. ⌜ r ≡ mayFollow before letter ⌝ }
 {
     match before {
-        Place::Nowhere => true,
-        Place::At(k) => k <= letter,
+        Place::Nowhere => letter == 0,
+        Place::At(k) => if letter == 0 {
+            false
+        } else {
+            k <= letter
+        },
     }
 }
 
@@ -170,7 +193,7 @@ pub fn entry_at(text: &[u8], at: usize, values: &mut [u64; VALUES]) -> Entry
     if count != csv::FIELDS {
         return refused(20, next);
     }
-    let place = codes::place_in(csv::field(text, count, &starts, &ends, 0), b"HP", 1, 2);
+    let place = codes::place_in(csv::field(text, count, &starts, &ends, 0), b"DHP", 1, 3);
     let Place::At(letter) = place else {
         return refused(21, next);
     };

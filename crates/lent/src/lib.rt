@@ -1,4 +1,5 @@
 // The check on what the host lends: columns of bytes in, lists of bytes written.
+use holding::Head;
 use verdict::Verdict;
 ghost use mathlib.Core.List.{[], _∷_};
 ghost use Rattle.article.specs.Answer.{makeAnswer};
@@ -21,10 +22,11 @@ pub fn put_answer(number: u64, first: u64, second: u64, out: &mut [u8]) -> u64
 // The check of what is lent, with scratch for its holdings: an accepted answer's remainders and ranking go into their lists, and the answer's
 // number is returned.
 pub fn judge(
+    head: Head,
     side: &[u8],
     kind: &[u8],
     issuer: &[u8],
-    days: &[u8],
+    maturity: &[u8],
     value: &[u8],
     price: &[u8],
     currency: &[u8],
@@ -40,8 +42,8 @@ pub fn judge(
     ranks: &mut [u64],
 ) -> u64
     requires { ⌜ ScratchRoom (entries (now side)) (now legs) (now left) (now margins) (now ranks) ⌝ }
-    ensures { λ r. ⌜ Checks (makeColumns
-        (now (side .entry) ∷ now (kind .entry) ∷ now (issuer .entry) ∷ now (days .entry) ∷ now (value .entry) ∷ now (currency .entry) ∷ [])
+    ensures { λ r. ⌜ Checks head (makeColumns
+        (now (side .entry) ∷ now (kind .entry) ∷ now (issuer .entry) ∷ now (maturity .entry) ∷ now (value .entry) ∷ now (currency .entry) ∷ [])
         (now (price .entry))
         (now (long .entry) ∷ now (short .entry) ∷ now (amount .entry) ∷ []))
         (makeLent (now (remainder .entry)) (now (ranking .entry)) (now (answer .entry)))
@@ -51,10 +53,11 @@ pub fn judge(
     let two = sizes::lists_too_short(n, remainder.len(), ranking.len(), answer.len());
     let verdict = verdict::check(
         two,
+        head,
         side,
         kind,
         issuer,
-        days,
+        maturity,
         value,
         price,
         currency,

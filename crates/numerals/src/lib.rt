@@ -10,7 +10,7 @@ pub enum Numeral {
 }
 
 // The number of a digit.
-fn digit(c: u8) -> u64
+pub fn digit(c: u8) -> u64
     requires { ⌜ 48 ≤ c ⌝ }
     ensures { λ r. ⌜ r + 48 ≡ c ⌝ }
 {

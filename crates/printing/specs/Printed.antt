@@ -9,15 +9,16 @@ use Rattle.proposal.specs.Demands.{Demands}
 use Rattle.csv.specs.Reading.{fieldCount}
 use Rattle.reader.specs.File.{submissionIn, fileFault}
 use Rattle.readable.specs.Readable.{Submits}
+use Rattle.holding.specs.declared.Head.{Head}
 use Rattle.columns.specs.Columns.{Columns, makeColumns, submission, columnIn}
 use Rattle.verdict.specs.Judges.{outcomeIn}
 use Rattle.report.specs.Report.{lineOf, printedOf, reportRoom, Prints, printedAnswer}
 use Rattle.report.specs.declared.Printed.{Printed}
 
--- what is printed of columns: the lines of what they submit, by its outcome, where nothing else is lent; they are no longer than a report can be
-pub record PrintsColumns (c : Columns) (before after : List ℕ) (r : Printed) : Type 0 where
-  pub prints : Prints (printedOf (submission c) (outcomeIn false c)) before after r
-  pub room : length (printedOf (submission c) (outcomeIn false c)) ≤ reportRoom
+-- what is printed of a head and columns: the lines of what they submit, by its outcome, where nothing else is lent; they are no longer than a report can be
+pub record PrintsColumns (h : Head) (c : Columns) (before after : List ℕ) (r : Printed) : Type 0 where
+  pub prints : Prints (printedOf (submission h c) (outcomeIn false h c)) before after r
+  pub room : length (printedOf (submission h c) (outcomeIn false h c)) ≤ reportRoom
 
 -- the columns of the first n holdings and the first m lines of two tables, and tables that hold them
 abbrev pub columnsOf : ℕ → ℕ → List ℕ → List ℕ → Columns

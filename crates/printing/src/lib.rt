@@ -1,16 +1,18 @@
 // What the program `margin` prints of a file: read, checked and reported.
+use holding::Head;
 use reader::Contents;
 use report::Printed;
 ghost use mathlib.Core.List.{[], _∷_};
 ghost use Rattle.columns.specs.Columns.{makeColumns};
 ghost use Rattle.printing.specs.Printed.{TablesHold, columnsOf, PrintsColumns, PrintsFile};
 
-// Checks columns, and prints what is found.
+// Checks columns for an account, by its head, and prints what is found.
 fn print_columns(
+    head: Head,
     side: &[u8],
     kind: &[u8],
     issuer: &[u8],
-    days: &[u8],
+    maturity: &[u8],
     value: &[u8],
     price: &[u8],
     currency: &[u8],
@@ -19,8 +21,8 @@ fn print_columns(
     amount: &[u8],
     out: &mut [u8],
 ) -> Printed
-    ensures { λ r. ⌜ PrintsColumns (makeColumns
-        (now (side .entry) ∷ now (kind .entry) ∷ now (issuer .entry) ∷ now (days .entry) ∷ now (value .entry) ∷ now (currency .entry) ∷ [])
+    ensures { λ r. ⌜ PrintsColumns head (makeColumns
+        (now (side .entry) ∷ now (kind .entry) ∷ now (issuer .entry) ∷ now (maturity .entry) ∷ now (value .entry) ∷ now (currency .entry) ∷ [])
         (now (price .entry))
         (now (long .entry) ∷ now (short .entry) ∷ now (amount .entry) ∷ []))
         (now (out .entry)) (now (out .exit)) r ⌝ }
@@ -31,10 +33,11 @@ fn print_columns(
     let mut ranks = lists::zeros();
     let verdict = verdict::check(
         false,
+        head,
         side,
         kind,
         issuer,
-        days,
+        maturity,
         value,
         price,
         currency,
@@ -50,12 +53,13 @@ fn print_columns(
 }
 
 // The same of the first n holdings and the first m lines of two tables.
-fn print_tables(n: usize, m: usize, book: &[u8], lines: &[u8], out: &mut [u8]) -> Printed
+fn print_tables(head: Head, n: usize, m: usize, book: &[u8], lines: &[u8], out: &mut [u8]) -> Printed
     requires { ⌜ TablesHold n m (now book) (now lines) ⌝ }
-    ensures { λ r. ⌜ PrintsColumns (columnsOf n m (now (book .entry)) (now (lines .entry)))
+    ensures { λ r. ⌜ PrintsColumns head (columnsOf n m (now (book .entry)) (now (lines .entry)))
         (now (out .entry)) (now (out .exit)) r ⌝ }
 {
     print_columns(
+        head,
         columns::column(book, 512, n, 0),
         columns::column(book, 512, n, 1),
         columns::column(book, 512, n, 2),
@@ -80,8 +84,9 @@ pub fn print_file(text: &[u8], out: &mut [u8]) -> Printed
     match contents {
         Contents::Refused { number, place } => report::refusal(number, place, 0, out),
         Contents::Read {
+            head,
             holdings,
             lines: pairs,
-        } => print_tables(holdings, pairs, &book, &lines, out),
+        } => print_tables(head, holdings, pairs, &book, &lines, out),
     }
 }

@@ -1,28 +1,31 @@
--- THE PAGE TO READ FIRST: what document 01 demands of the check's answer, in its own words; proofs/Demands.antt proves it. Assumes nothing.
+-- THE PAGE TO READ FIRST: what document 01, with document 02 a) and b), demands of the check's answer, in its own words; proofs/Demands.antt proves it. Assumes nothing.
 use mathlib.Core.{Path._≡_, Bool.Bool, Bool.true, Bool.false, Logic._↔_}
 use Prim.Native.Nat.{ℕ, _-_, _*_, _≤_, _<_}
 use lib.ListN.{length, getD}
 use Rattle.lists.specs.Tables.{Each}
 use Rattle.holding.specs.Holding.{Ranges, rowOf}
-use Rattle.article.specs.{Answer.Answer, Rate.rateOf, Pair.legOf, Pair.pairRateOf, Article.MayPair, Article.Pairing}
+use Rattle.dates.specs.Calendar.{isDate}
+use Rattle.rates.specs.Rate.{rateOf}
+use Rattle.article.specs.{Answer.Answer, Pair.legOf, Pair.pairRateOf, Article.MayPair, Article.Pairing}
 use Rattle.pairing.specs.Pairing.{used, saving, Covers, pricedTotal, Least}
 use Rattle.pairing.specs.declared.Line.{Line}
-use Rattle.proposal.specs.Submission.{Submission, termsOf, priced, noRow, holdingAt, margin, remaindersOf}
+use Rattle.proposal.specs.Submission.{Submission, accountIn, termsOf, priced, noRow, holdingAt, margin, remaindersOf}
 use Rattle.proposal.specs.Submission.{RoundedUp}
 
 module _ (s : Submission) where
-  -- the limits: none of 3 to 10 and 23 holds
+  -- the limits: none of 3 to 10, 23 and 24 holds
   pub record Limits : Type 0 where
+    pub valued : isDate (s .head .date) ≡ true
     pub holdings : length (s .rows) ≤ 256
     pub lines : length (s .lines) ≤ 512
-    pub each-row : (k : ℕ) → k < length (s .rows) → Ranges (getD (s .rows) k noRow)
+    pub each-row : (k : ℕ) → k < length (s .rows) → Ranges (accountIn s) (getD (s .rows) k noRow)
     pub prices : (k : ℕ) → k < length (s .rows) → getD (s .prices) k 0 ≤ 43800
 
   -- a line names a long of the book first and a short second, their pair is allowed, the amount is 1 cent or more
   pub record KeepsLine (l : Line) : Type 0 where
     pub long : l .long < length (s .rows)
     pub short : l .short < length (s .rows)
-    pub pair : MayPair (holdingAt s (l .long)) (holdingAt s (l .short))
+    pub pair : MayPair (accountIn s) (holdingAt s (l .long)) (holdingAt s (l .short))
     pub amount : 1 ≤ l .amount
 
   -- every line does, and no holding's amounts over all lines add up to more than its value
@@ -39,20 +42,22 @@ module _ (s : Submission) where
 
   -- the terms of two holdings of the book, and what the article says of them as a pair
   pub record PairTerms (i j : ℕ) : Type 0 where
+    -- the account is valued on the date of the head
+    pub date : accountIn s .date ≡ s .head .date
     -- the holding of a number has the numbers of its row, and its price stands at that number
     pub numbers : rowOf (holdingAt s i) ≡ getD (s .rows) i noRow
     pub value : termsOf (priced s) .value i ≡ getD (s .rows) i noRow .value
     pub price : priced s .price i ≡ getD (s .prices) i 0
-    pub rate : termsOf (priced s) .rate i ≡ rateOf (holdingAt s i)
-    pub allowed : (termsOf (priced s) .allowed i j ≡ true) ↔ MayPair (holdingAt s i) (holdingAt s j)
-    pub pair-rate : termsOf (priced s) .pairRate i j ≡ pairRateOf (legOf (holdingAt s i)) (legOf (holdingAt s j))
+    pub rate : termsOf (priced s) .rate i ≡ rateOf (accountIn s) (holdingAt s i)
+    pub allowed : (termsOf (priced s) .allowed i j ≡ true) ↔ MayPair (accountIn s) (holdingAt s i) (holdingAt s j)
+    pub pair-rate : termsOf (priced s) .pairRate i j ≡ pairRateOf (legOf (accountIn s) (holdingAt s i)) (legOf (accountIn s) (holdingAt s j))
     -- the difference, the half sum and the saving of the two
-    pub pair : Pairing (holdingAt s i) (holdingAt s j)
+    pub pair : Pairing (accountIn s) (holdingAt s i) (holdingAt s j)
 
   -- a holding's remainder is its value less its amounts over all lines, and its margin the rate times that
   pub record RemainderOf (k : ℕ) : Type 0 where
     pub left : getD (remaindersOf (priced s) (s .lines)) k 0 ≡ getD (s .rows) k noRow .value - used (s .lines) k
-    pub units : margin (priced s) (s .lines) k ≡ rateOf (holdingAt s k) * getD (remaindersOf (priced s) (s .lines)) k 0
+    pub units : margin (priced s) (s .lines) k ≡ rateOf (accountIn s) (holdingAt s k) * getD (remaindersOf (priced s) (s .lines)) k 0
 
   -- what an answer keeps; `one` and `two` say whether refusals 1 and 2 hold of what is lent
   pub record Demands (one two : Bool) (a : Answer) : Type 0 where

@@ -3,13 +3,13 @@ use mathlib.Core.{Bool.Bool, Bool.not, Bool._&&_, Bool._||_, List.List, List.[],
 use Prim.Native.Nat.{ℕ, _+_}
 use lib.{Dec.ltb, Dec.eqb, ListN.length, ListN.getD, ListN.take}
 use Rattle.lists.specs.{Choice.firstOf, Tables.inTurn}
-use Rattle.holding.specs.Holding.{rowFaults}
-use Rattle.holding.specs.declared.Row.{Row}
+use Rattle.holding.specs.Holding.{headFaults, rowFaults}
+use Rattle.holding.specs.declared.{Account.Account, Row.Row}
 use Rattle.article.specs.{Answer.Answer, Answer.makeAnswer, Pair.isLong, Pair.isShort, Pair.allowed}
 use Rattle.article.specs.declared.pair.Leg.{Leg}
 use Rattle.pairing.specs.Pairing.{savingRate, saving, pricedTotal}
 use Rattle.pairing.specs.declared.Line.{Line}
-use Rattle.proposal.specs.Submission.{Submission, PricedBook, termsOf, priced, noRow, noLine, priceLimit}
+use Rattle.proposal.specs.Submission.{Submission, accountIn, PricedBook, termsOf, priced, noRow, noLine, priceLimit}
 use Rattle.proposal.specs.Submission.{remainder, unitsOf, centsOf}
 use Rattle.proposal.specs.declared.Fault.{Fault}
 
@@ -24,9 +24,9 @@ faultAnswer f = makeAnswer (f .number) (f .place) (f .second)
 unfoldable pub atPlace : ℕ → List (Bool × ℕ) → List (Bool × Answer)
 atPlace place faults = map (λ f. (f .0, makeAnswer (f .1) place 0)) faults
 
--- of a holding 4 to 8 and 23, then 10 price above the highest, 43,800
-unfoldable pub holdingFaults : Row → ℕ → List (Bool × ℕ)
-holdingFaults row price = rowFaults row ++ ((ltb priceLimit price, 10) ∷ [])
+-- of a holding 4 to 8, 24 and 23, then 10 price above the highest, 43,800
+unfoldable pub holdingFaults : Account → Row → ℕ → List (Bool × ℕ)
+holdingFaults a row price = rowFaults a row ++ ((ltb priceLimit price, 10) ∷ [])
 
 -- of a line: 12 the first leg not long or the second not short, 13 pair not allowed, 14 amount zero, 15 amount above what remains of either leg
 unfoldable pub pairFaults : Leg → Leg → ℕ → ℕ → ℕ → List (Bool × ℕ)
@@ -43,12 +43,12 @@ lineFaults b earlier l =
     (not (ltb (l .long) (b .count) && ltb (l .short) (b .count)), 11)
     ∷ pairFaults (b .leg (l .long)) (b .leg (l .short)) (l .amount) (remainder b earlier (l .long)) (remainder b earlier (l .short))
 
--- each holding in turn 4 to 8, 23, 10
-unfoldable pub atHolding : List Row → List ℕ → ℕ → List (Bool × Answer)
-atHolding rows prices k = atPlace k (holdingFaults (getD rows k noRow) (getD prices k 0))
+-- each holding in turn 4, 5, 6, 24, 7, 8, 23, 10
+unfoldable pub atHolding : Account → List Row → List ℕ → ℕ → List (Bool × Answer)
+atHolding a rows prices k = atPlace k (holdingFaults a (getD rows k noRow) (getD prices k 0))
 
-unfoldable pub bookFaults : List Row → List ℕ → List (Bool × Answer)
-bookFaults rows prices = inTurn (length rows) (atHolding rows prices)
+unfoldable pub bookFaults : Account → List Row → List ℕ → List (Bool × Answer)
+bookFaults a rows prices = inTurn (length rows) (atHolding a rows prices)
 
 -- each line in turn 11 to 15, against what the lines before it leave
 unfoldable pub atLine : PricedBook → List Line → ℕ → List (Bool × Answer)
@@ -82,7 +82,7 @@ totalsFaults b lines = (totalsDiffer b lines, makeAnswer 17 0 0) ∷ []
 unfoldable pub sizeFaults : Bool → Bool → ℕ → ℕ → List (Bool × ℕ)
 sizeFaults one two holdings lines = (one, 1) ∷ (ltb 256 holdings, 3) ∷ (ltb 512 lines, 9) ∷ (two, 2) ∷ []
 
--- check order: 1, 3, 9, 2; each holding in turn; each line in turn; 16; 17
+-- check order: 1, 3, 9, 2; 24 on the valuation date; each holding in turn; each line in turn; 16; 17
 abbrev pub fromPairs : Submission → List (Bool × Answer)
 fromPairs s = uncoveredPairs (priced s) ++ totalsFaults (priced s) (s .lines)
 
@@ -90,10 +90,13 @@ abbrev pub fromLines : Submission → List (Bool × Answer)
 fromLines s = linesFaults (priced s) (s .lines) ++ fromPairs s
 
 abbrev pub fromBook : Submission → List (Bool × Answer)
-fromBook s = bookFaults (s .rows) (s .prices) ++ fromLines s
+fromBook s = bookFaults (accountIn s) (s .rows) (s .prices) ++ fromLines s
+
+abbrev pub fromHead : Submission → List (Bool × Answer)
+fromHead s = atPlace 0 (headFaults (s .head)) ++ fromBook s
 
 unfoldable pub faults : Bool → Bool → Submission → List (Bool × Answer)
-faults one two s = atPlace 0 (sizeFaults one two (length (s .rows)) (length (s .lines))) ++ fromBook s
+faults one two s = atPlace 0 (sizeFaults one two (length (s .rows)) (length (s .lines))) ++ fromHead s
 
 -- the first that holds of a part of the list, number 0 for none
 abbrev pub firstFault : List (Bool × Answer) → Answer

@@ -2,8 +2,8 @@
 use mathlib.Core.List.{List, [], _∷_, map}
 use Prim.Native.Nat.{ℕ, _+_, _-_, _*_, _/_, _≤_}
 use lib.ListN.{length, getD}
-use Rattle.holding.specs.Holding.{holdingOf, valueLimit}
-use Rattle.holding.specs.declared.{Holding.Holding, Row.Row}
+use Rattle.holding.specs.Holding.{accountOf, holdingOf, valueLimit}
+use Rattle.holding.specs.declared.{Head.Head, Account.Account, Holding.Holding, Row.Row}
 use Rattle.article.specs.Pair.{legOf, allowed, pairRateOf, rateLimit, savingLimit}
 use Rattle.article.specs.declared.pair.Leg.{Leg}
 use Rattle.pairing.specs.Pairing.{Terms, used, pairUnits}
@@ -11,8 +11,9 @@ use Rattle.pairing.specs.declared.Line.{Line}
 use Rattle.lists.specs.Tables.{sumTo, listTo}
 use Rattle.ranking.specs.Ranking.{rankingOf, Ranks}
 
--- a book's rows, the prices on its holdings, and the pair lines
+-- the head, which has the valuation date, a book's rows, the prices on its holdings, and the pair lines
 pub record Submission : Type 0 where
+  pub head : Head
   pub rows : List Row
   pub prices : List ℕ
   pub lines : List Line
@@ -27,17 +28,17 @@ lineBy xs = record { long = getD xs 0 0; short = getD xs 1 0; amount = getD xs 2
 -- the numbers of a holding and its price in the order of the file's fields and of the exported columns, where the price is the sixth; and the row and the
 -- price of such a list
 unfoldable pub pricedNumbers : Row → ℕ → List ℕ
-pricedNumbers r price = r .side ∷ r .kind ∷ r .issuer ∷ r .days ∷ r .value ∷ price ∷ r .currency ∷ []
+pricedNumbers r price = r .side ∷ r .kind ∷ r .issuer ∷ r .maturity ∷ r .value ∷ price ∷ r .currency ∷ []
 
 abbrev pub pricedRow : List ℕ → Row
-pricedRow xs = record { side = getD xs 0 0; kind = getD xs 1 0; issuer = getD xs 2 0; days = getD xs 3 0; value = getD xs 4 0; currency = getD xs 6 0 }
+pricedRow xs = record { side = getD xs 0 0; kind = getD xs 1 0; issuer = getD xs 2 0; maturity = getD xs 3 0; value = getD xs 4 0; currency = getD xs 6 0 }
 
 abbrev pub rowPrice : List ℕ → ℕ
 rowPrice xs = getD xs 5 0
 
 -- what is read where nothing stands
 abbrev pub noRow : Row
-noRow = record { side = 0; kind = 0; issuer = 0; days = 0; value = 0; currency = 0 }
+noRow = record { side = 0; kind = 0; issuer = 0; maturity = 0; value = 0; currency = 0 }
 
 abbrev pub noLine : Line
 noLine = record { long = 0; short = 0; amount = 0 }
@@ -52,10 +53,10 @@ pub record PricedBook : Type 0 where
   pub value : ℕ → ℕ
   pub price : ℕ → ℕ
 
-unfoldable pub bookOf : List Row → List ℕ → PricedBook
-bookOf rows prices = record {
+unfoldable pub bookOf : Account → List Row → List ℕ → PricedBook
+bookOf a rows prices = record {
   count = length rows;
-  leg = λ k. getD (map (λ r. legOf (holdingOf r)) rows) k noLeg;
+  leg = λ k. getD (map (λ r. legOf a (holdingOf r)) rows) k noLeg;
   value = λ k. getD (map (λ r. r .value) rows) k 0;
   price = λ k. getD prices k 0;
 }
@@ -70,9 +71,13 @@ termsOf b = record {
   pairRate = λ i j. pairRateOf (b .leg i) (b .leg j);
 }
 
+-- the account that it is submitted for
+abbrev pub accountIn : Submission → Account
+accountIn s = accountOf (s .head)
+
 -- what is submitted, by number
 unfoldable pub priced : Submission → PricedBook
-priced s = bookOf (s .rows) (s .prices)
+priced s = bookOf (accountIn s) (s .rows) (s .prices)
 
 -- the holding of a number
 unfoldable pub holdingAt : Submission → ℕ → Holding

@@ -1,8 +1,10 @@
--- Document 01, "Reader order: 18; each record in turn 19 to 22, then 3 or 9 if it is one too many; after all records 2". Assumes nothing.
-use mathlib.Core.{Path._≡_, Bool.Bool, Bool.true, Bool.false, Bool.cond, Bool.not, List.List, List.[], List._∷_, List._++_, List.map}
+-- Document 01, "Reader order: 18; each record in turn 19 to 22, then 3 or 9 if it is one too many; after all records 2", and document 02 b), the record D. Assumes nothing.
+use mathlib.Core.{Path._≡_, Bool.Bool, Bool.true, Bool.false, Bool.cond, Bool.not, Bool._&&_, List.List, List.[], List._∷_, List._++_, List.map}
 use Prim.Native.Nat.{ℕ, zero, suc, _-_, _*_, _≤_, _<_}
 use lib.{Dec.ltb, Dec.eqb, ListN.length, ListN.getD, ListN.take}
 use Rattle.lists.specs.{Choice.firstOf, Tables.inTurn}
+use Rattle.holding.specs.Holding.{headBy}
+use Rattle.holding.specs.declared.Head.{Head}
 use Rattle.article.specs.Answer.{Answer, makeAnswer}
 use Rattle.proposal.specs.Submission.{Submission, pricedRow, rowPrice, lineBy}
 use Rattle.codes.specs.declared.Place.{Place, the-variants.At, the-variants.Nowhere}
@@ -21,31 +23,26 @@ valuesBy k [] = []
 valuesBy k (good letter vs ∷ rest) = cond (eqb letter k) (vs ∷ valuesBy k rest) (valuesBy k rest)
 valuesBy k (refused number ∷ rest) = valuesBy k rest
 
--- what they submit: of each H a holding's row and its price, of each P a line
+-- what they submit: of the first D the head, of each H a holding's row and its price, of each P a line
 unfoldable pub submissionOf : List Meaning → Submission
 submissionOf parsed = record {
-  rows = map pricedRow (valuesBy 0 parsed);
-  prices = map rowPrice (valuesBy 0 parsed);
-  lines = map lineBy (valuesBy 1 parsed);
+  head = headBy (getD (valuesBy 0 parsed) 0 []);
+  rows = map pricedRow (valuesBy 1 parsed);
+  prices = map rowPrice (valuesBy 1 parsed);
+  lines = map lineBy (valuesBy 2 parsed);
 }
 
 -- what a text submits by its records
 abbrev pub submissionIn : List ℕ → Submission
 submissionIn text = submissionOf (parsedIn text)
 
--- the most records of a letter, and the refusal of one more: 3 more than 256 holdings, 9 more than 512 lines
-abbrev pub limits : List (ℕ × ℕ)
-limits = (256, 3) ∷ (512, 9) ∷ []
-
-abbrev pub limitOf : ℕ → ℕ × ℕ
-limitOf letter = getD limits letter (0, 0)
-
--- of record n, by the letter before it and the count of each letter before: 19 to 21, 22 a letter that may not follow, 3 or 9
+-- of record n, by the letter before it and the count of each letter before: 19 to 21, 22 a letter that may not follow, 3 more than 256 H, 9 more than 512 P
 abbrev pub faultsOf : ℕ → Place → (ℕ → ℕ) → Meaning → List (Bool × Answer)
 faultsOf n before count (refused number) = (true, makeAnswer number n 0) ∷ []
 faultsOf n before count (good letter vs) =
     (not (mayFollow before letter), makeAnswer 22 n 0)
-    ∷ (eqb (count letter) (limitOf letter .0), makeAnswer (limitOf letter .1) 0 0)
+    ∷ (eqb letter 1 && eqb (count 1) 256, makeAnswer 3 0 0)
+    ∷ (eqb letter 2 && eqb (count 2) 512, makeAnswer 9 0 0)
     ∷ []
 
 -- the letter of a record, and the letter before record n
@@ -64,9 +61,12 @@ atRecord parsed n = faultsOf n (letterBefore parsed n) (λ k. length (valuesBy k
 abbrev pub fileLimit : ℕ
 fileLimit = 65536
 
--- 18 longer than 65,536 bytes; each record in turn
+-- 18 longer than 65,536 bytes; an empty file has no D, 22; each record in turn
 unfoldable pub fileFaults : List ℕ → List (Bool × Answer)
-fileFaults text = (ltb fileLimit (length text), makeAnswer 18 0 0) ∷ inTurn (length (parsedIn text)) (atRecord (parsedIn text))
+fileFaults text =
+    (ltb fileLimit (length text), makeAnswer 18 0 0)
+    ∷ (eqb (length text) 0, makeAnswer 22 0 0)
+    ∷ inTurn (length (parsedIn text)) (atRecord (parsedIn text))
 
 -- the first of them that holds, number 0 for none
 unfoldable pub fileFault : List ℕ → Answer
@@ -81,12 +81,12 @@ readAnswer two text =
 
 -- the paper's number and values of each case: 0 with the number of holdings and of lines, or the refusal's number with its place
 abbrev pub contentsAnswer : Contents → Answer
-contentsAnswer (Read holdings lines) = makeAnswer 0 holdings lines
+contentsAnswer (Read head holdings lines) = makeAnswer 0 holdings lines
 contentsAnswer (Refused number place) = makeAnswer number place 0
 
--- the case of an answer: read for the number 0 and for no other
-unfoldable pub contentsOf : Answer → Contents
-contentsOf a = cond (eqb (a .number) 0) (Read (a .first) (a .second)) (Refused (a .number) (a .first))
+-- the case of an answer, with the head that was read: read for the number 0 and for no other
+unfoldable pub contentsOf : Answer → Head → Contents
+contentsOf a head = cond (eqb (a .number) 0) (Read head (a .first) (a .second)) (Refused (a .number) (a .first))
 
 -- tables for a file: a column for each value of an H, three for a P, each with an entry for any record that the file can have
 pub record TableRoom (rows : ℕ) (text book lines : List ℕ) : Type 0 where
@@ -98,8 +98,8 @@ pub record TableRoom (rows : ℕ) (text book lines : List ℕ) : Type 0 where
 pub record ReadsFile (text : List ℕ) (rows : ℕ) (book lines book′ lines′ : List ℕ) (r : Contents) : Type 0 where
   -- the first refusal in the reader's order, or the counts
   pub answer : contentsAnswer r ≡ readAnswer false text
-  -- read is a case of its own
-  pub contents : r ≡ contentsOf (readAnswer false text)
+  -- read is a case of its own, and has the head of what is submitted
+  pub contents : r ≡ contentsOf (readAnswer false text) (submissionIn text .head)
   -- the values of each H, and of each P, are in the columns of their tables
-  pub each-holding : contentsAnswer r .number ≡ 0 → Entered (fieldCount - 1) rows (valuesBy 0 (parsedIn text)) book book′
-  pub each-line : contentsAnswer r .number ≡ 0 → Entered 3 rows (valuesBy 1 (parsedIn text)) lines lines′
+  pub each-holding : contentsAnswer r .number ≡ 0 → Entered (fieldCount - 1) rows (valuesBy 1 (parsedIn text)) book book′
+  pub each-line : contentsAnswer r .number ≡ 0 → Entered 3 rows (valuesBy 2 (parsedIn text)) lines lines′

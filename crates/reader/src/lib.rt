@@ -1,18 +1,27 @@
 // The file of a book and a proposal, read in one pass into a table of holdings and a table of lines.
 use codes::Place;
+use holding::Head;
 use layout::Parsed;
 ghost use Rattle.reader.specs.File.{TableRoom, ReadsFile};
 
 // The most bytes that a file may have.
 pub const LIMIT: usize = 65536;
 
-// A file that was read: how many holdings and lines it has, or its refusal with the place.
+// A file that was read: its head, and how many holdings and lines it has, or its refusal with the place.
 pub enum Contents {
-    Read { holdings: usize, lines: usize },
-    Refused { number: u64, place: u64 },
+    Read {
+        head: Head,
+        holdings: usize,
+        lines: usize,
+    },
+    Refused {
+        number: u64,
+        place: u64,
+    },
 }
 
-// Reads a file: 18; each record in turn 19 to 22, then 3 or 9; else what it submits is in the two tables, each of whose columns has `rows` entries.
+// Reads a file: 18; an empty file 22; each record in turn 19 to 22, then 3 or 9; else its head is handed back, and what it submits is in the two
+// tables, each of whose columns has `rows` entries.
 // A value that depends on the records before is worked out here, between `entry_at` and `put_entry`.
 pub fn read(text: &[u8], rows: usize, book: &mut [u8], lines: &mut [u8]) -> Contents
     requires { ⌜ TableRoom rows (now text) (now book) (now lines) ⌝ }
@@ -24,8 +33,15 @@ pub fn read(text: &[u8], rows: usize, book: &mut [u8], lines: &mut [u8]) -> Cont
             place: 0,
         };
     }
+    if text.len() == 0 {
+        return Contents::Refused {
+            number: 22,
+            place: 0,
+        };
+    }
     let mut values = [0u64; layout::VALUES];
     let mut before = Place::Nowhere;
+    let mut date: u64 = 0;
     let mut holdings: usize = 0;
     let mut pairs: usize = 0;
     let mut record: usize = 0;
@@ -49,6 +65,10 @@ pub fn read(text: &[u8], rows: usize, book: &mut [u8], lines: &mut [u8]) -> Cont
                 }
                 before = Place::At(letter);
                 if letter == 0 {
+                    date = values[0];
+                    record = record + 1;
+                    at = entry.next;
+                } else if letter == 1 {
                     if holdings == 256 {
                         return Contents::Refused {
                             number: 3,
@@ -75,6 +95,7 @@ pub fn read(text: &[u8], rows: usize, book: &mut [u8], lines: &mut [u8]) -> Cont
         }
     }
     Contents::Read {
+        head: Head { date },
         holdings,
         lines: pairs,
     }

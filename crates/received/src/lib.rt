@@ -12,10 +12,11 @@ pub fn read_into(
     rows: usize,
     book: &mut [u8],
     lines: &mut [u8],
+    head: &mut [u8],
     side: &mut [u8],
     kind: &mut [u8],
     issuer: &mut [u8],
-    days: &mut [u8],
+    maturity: &mut [u8],
     value: &mut [u8],
     price: &mut [u8],
     currency: &mut [u8],
@@ -25,13 +26,13 @@ pub fn read_into(
     answer: &mut [u8],
 ) -> u64
     requires { ⌜ TableRoom rows (now text) (now book) (now lines) ⌝ }
-    ensures { λ r. ⌜ Reads (now (text .entry))
+    ensures { λ r. ⌜ Reads (now (text .entry)) (now (head .entry)) (now (head .exit))
         (makeColumns
-        (now (side .entry) ∷ now (kind .entry) ∷ now (issuer .entry) ∷ now (days .entry) ∷ now (value .entry) ∷ now (currency .entry) ∷ [])
+        (now (side .entry) ∷ now (kind .entry) ∷ now (issuer .entry) ∷ now (maturity .entry) ∷ now (value .entry) ∷ now (currency .entry) ∷ [])
         (now (price .entry))
         (now (long .entry) ∷ now (short .entry) ∷ now (amount .entry) ∷ []))
         (makeColumns
-        (now (side .exit) ∷ now (kind .exit) ∷ now (issuer .exit) ∷ now (days .exit) ∷ now (value .exit) ∷ now (currency .exit) ∷ [])
+        (now (side .exit) ∷ now (kind .exit) ∷ now (issuer .exit) ∷ now (maturity .exit) ∷ now (value .exit) ∷ now (currency .exit) ∷ [])
         (now (price .exit))
         (now (long .exit) ∷ now (short .exit) ∷ now (amount .exit) ∷ []))
         (now (answer .entry)) (now (answer .exit)) r ⌝ }
@@ -40,16 +41,18 @@ pub fn read_into(
     match contents {
         Contents::Refused { number, place } => lent::put_answer(number, place, 0, answer),
         Contents::Read {
+            head: valued,
             holdings,
             lines: pairs,
         } => {
             if sizes::columns_too_short(
                 holdings,
                 pairs,
+                head.len(),
                 side.len(),
                 kind.len(),
                 issuer.len(),
-                days.len(),
+                maturity.len(),
                 value.len(),
                 price.len(),
                 currency.len(),
@@ -60,6 +63,7 @@ pub fn read_into(
             ) {
                 return lent::put_answer(2, 0, 0, answer);
             }
+            words::put_word(head, 0, valued.date);
             columns::copy_book(
                 book,
                 rows,
@@ -67,7 +71,7 @@ pub fn read_into(
                 side,
                 kind,
                 issuer,
-                days,
+                maturity,
                 value,
                 price,
                 currency,

@@ -8,7 +8,7 @@ pub fn lengths(
     side: usize,
     kind: usize,
     issuer: usize,
-    days: usize,
+    maturity: usize,
     value: usize,
     price: usize,
     currency: usize,
@@ -17,7 +17,7 @@ pub fn lengths(
     amount: usize,
     two: bool,
 ) -> u64
-    ensures { λ r. ⌜ r ≡ lengthFault (side ∷ kind ∷ issuer ∷ days ∷ value ∷ currency ∷ price ∷ []) (long ∷ short ∷ amount ∷ []) two ⌝ }
+    ensures { λ r. ⌜ r ≡ lengthFault (side ∷ kind ∷ issuer ∷ maturity ∷ value ∷ currency ∷ price ∷ []) (long ∷ short ∷ amount ∷ []) two ⌝ }
 {
     let n = side / 8;
     let m = long / 8;
@@ -26,7 +26,7 @@ pub fn lengths(
     let unequal = (side != book)
         | (kind != book)
         | (issuer != book)
-        | (days != book)
+        | (maturity != book)
         | (value != book)
         | (currency != book)
         | (price != book)
@@ -55,14 +55,15 @@ pub fn lists_too_short(n: usize, remainder: usize, ranking: usize, answer: usize
     (remainder / 8 < n) | (ranking / 8 < n) | (answer < 16)
 }
 
-// The same of the lists that the reader fills: an entry for each holding, or each line.
+// The same of the lists that the reader fills: an entry for the valuation date, for each holding, or each line.
 pub fn columns_too_short(
     holdings: usize,
     lines: usize,
+    head: usize,
     side: usize,
     kind: usize,
     issuer: usize,
-    days: usize,
+    maturity: usize,
     value: usize,
     price: usize,
     currency: usize,
@@ -71,13 +72,14 @@ pub fn columns_too_short(
     amount: usize,
     answer: usize,
 ) -> bool
-    ensures { λ r. ⌜ r ≡ tooShort ((holdings, side) ∷ (holdings, kind) ∷ (holdings, issuer) ∷ (holdings, days) ∷ (holdings, value) ∷ (holdings, currency) ∷ (holdings, price)
+    ensures { λ r. ⌜ r ≡ tooShort ((1, head) ∷ (holdings, side) ∷ (holdings, kind) ∷ (holdings, issuer) ∷ (holdings, maturity) ∷ (holdings, value) ∷ (holdings, currency) ∷ (holdings, price)
         ∷ (lines, long) ∷ (lines, short) ∷ (lines, amount) ∷ []) answer ⌝ }
 {
-    (side / 8 < holdings)
+    (head / 8 < 1)
+        | (side / 8 < holdings)
         | (kind / 8 < holdings)
         | (issuer / 8 < holdings)
-        | (days / 8 < holdings)
+        | (maturity / 8 < holdings)
         | (value / 8 < holdings)
         | (currency / 8 < holdings)
         | (price / 8 < holdings)

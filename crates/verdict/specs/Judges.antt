@@ -4,6 +4,7 @@ use Prim.Native.Nat.{ℕ, _≤_}
 use lib.{Dec.eqb, ListN.length}
 use Rattle.lists.specs.Tables.{front}
 use Rattle.article.specs.Answer.{Answer, makeAnswer}
+use Rattle.holding.specs.declared.Head.{Head}
 use Rattle.columns.specs.Columns.{Columns, submission, holdingSizes, lineSizes}
 use Rattle.sizes.specs.Sizes.{differ}
 use Rattle.proposal.specs.{Submission.priced, Submission.remaindersOf, Submission.marginsOf, Submission.ranked, Submission.InRankingOrder, Outcome.outcome, Demands.Demands}
@@ -27,12 +28,12 @@ written a xs = cond (eqb (a .number) 0) xs []
 abbrev pub refusalOf : Fault → Verdict
 refusalOf f = Refused (f .number) (f .place) (f .second)
 
--- whether 1 holds of the columns, and the outcome of what they hold; `two` says whether 2 holds of what is lent
+-- whether 1 holds of the columns, and the outcome of what they hold with a head; `two` says whether 2 holds of what is lent
 abbrev pub columnsDiffer : Columns → Bool
 columnsDiffer c = differ (holdingSizes c) (lineSizes c)
 
-unfoldable pub outcomeIn : Bool → Columns → Answer
-outcomeIn two c = outcome (columnsDiffer c) two (submission c)
+unfoldable pub outcomeIn : Bool → Head → Columns → Answer
+outcomeIn two h c = outcome (columnsDiffer c) two (submission h c)
 
 -- scratch for a book of n holdings: where there are no more than 256, an entry for each in each list
 pub record ScratchRoom (n : ℕ) (legs left margins ranks : List ℕ) : Type 0 where
@@ -51,20 +52,20 @@ abbrev pub makeScratch : List ℕ → List ℕ → List ℕ → Scratch
 makeScratch left margins ranks = record { left = left; margins = margins; ranks = ranks }
 
 -- each holding's remainder, its margin and the ranking, at the front of the lists, the entries past them kept
-pub record Worked (c : Columns) (before after : Scratch) : Type 0 where
-  pub remainders : after .left ≡ front (remaindersOf (priced (submission c)) (submission c .lines)) (before .left)
-  pub margins : after .margins ≡ front (marginsOf (priced (submission c)) (submission c .lines)) (before .margins)
-  pub ranking : after .ranks ≡ front (ranked (priced (submission c)) (submission c .lines)) (before .ranks)
+pub record Worked (h : Head) (c : Columns) (before after : Scratch) : Type 0 where
+  pub remainders : after .left ≡ front (remaindersOf (priced (submission h c)) (submission h c .lines)) (before .left)
+  pub margins : after .margins ≡ front (marginsOf (priced (submission h c)) (submission h c .lines)) (before .margins)
+  pub ranking : after .ranks ≡ front (ranked (priced (submission h c)) (submission h c .lines)) (before .ranks)
 
 -- what the check promises
-pub record Judges (two : Bool) (c : Columns) (before after : Scratch) (r : Verdict) : Type 0 where
+pub record Judges (two : Bool) (h : Head) (c : Columns) (before after : Scratch) (r : Verdict) : Type 0 where
   -- the first refusal in the check's order, or the figures
-  pub answer : answerOf r ≡ outcomeIn two c
+  pub answer : answerOf r ≡ outcomeIn two h c
   -- accepted is a case of its own
-  pub verdict : r ≡ verdictOf (outcomeIn two c)
+  pub verdict : r ≡ verdictOf (outcomeIn two h c)
   -- after a refusal what the scratch holds is free
-  pub worked : answerOf r .number ≡ 0 → Worked c before after
+  pub worked : answerOf r .number ≡ 0 → Worked h c before after
   -- the ranking has every holding once, by margin of the remainder, largest first, ties by lower number
-  pub order : InRankingOrder (priced (submission c)) (submission c .lines)
+  pub order : InRankingOrder (priced (submission h c)) (submission h c .lines)
   -- accepted exactly when, the least, and the rounding
-  pub keeps : Demands (submission c) (columnsDiffer c) two (answerOf r)
+  pub keeps : Demands (submission h c) (columnsDiffer c) two (answerOf r)

@@ -1,4 +1,5 @@
 // The check: columns in, the answer out. Nothing is presumed of the columns; what it works on are lists that are lent to it.
+use holding::Head;
 use proposal::Fault;
 ghost use mathlib.Core.Path.{_≡_};
 ghost use mathlib.Core.List.{[], _∷_};
@@ -29,14 +30,15 @@ fn refused(fault: Fault) -> Verdict
     }
 }
 
-// The check, in document 01's order: 1, 3, 9, 2; each holding in turn; each line in turn; 16; 17; else the figures. `two` says whether 2 holds of
+// The check, in document 01's order: 1, 3, 9, 2; 24 on the valuation date; each holding in turn; each line in turn; 16; 17; else the figures. `two` says whether 2 holds of
 // what is lent. Where it accepts, `left` has each holding's remainder, `margins` the margin of that, and `ranks` the ranking.
 pub fn check(
     two: bool,
+    head: Head,
     side: &[u8],
     kind: &[u8],
     issuer: &[u8],
-    days: &[u8],
+    maturity: &[u8],
     value: &[u8],
     price: &[u8],
     currency: &[u8],
@@ -49,8 +51,8 @@ pub fn check(
     ranks: &mut [u64],
 ) -> Verdict
     requires { ⌜ ScratchRoom (entries (now side)) (now legs) (now left) (now margins) (now ranks) ⌝ }
-    ensures { λ r. ⌜ Judges two (makeColumns
-        (now (side .entry) ∷ now (kind .entry) ∷ now (issuer .entry) ∷ now (days .entry) ∷ now (value .entry) ∷ now (currency .entry) ∷ [])
+    ensures { λ r. ⌜ Judges two head (makeColumns
+        (now (side .entry) ∷ now (kind .entry) ∷ now (issuer .entry) ∷ now (maturity .entry) ∷ now (value .entry) ∷ now (currency .entry) ∷ [])
         (now (price .entry))
         (now (long .entry) ∷ now (short .entry) ∷ now (amount .entry) ∷ []))
         (makeScratch (now (left .entry)) (now (margins .entry)) (now (ranks .entry)))
@@ -60,7 +62,7 @@ pub fn check(
         side.len(),
         kind.len(),
         issuer.len(),
-        days.len(),
+        maturity.len(),
         value.len(),
         price.len(),
         currency.len(),
@@ -72,8 +74,13 @@ pub fn check(
     if number != 0 {
         return refused(proposal::fault_at(number, 0, 0));
     }
+    let number = holding::head_fault(head);
+    if number != 0 {
+        return refused(proposal::fault_at(number, 0, 0));
+    }
+    let account = holding::account_of(head);
     let n = side.len() / 8;
-    let fault = positions::open(side, kind, issuer, days, value, price, currency, legs, left);
+    let fault = positions::open(account, side, kind, issuer, maturity, value, price, currency, legs, left);
     if fault.number != 0 {
         return refused(fault);
     }
