@@ -75,7 +75,7 @@ pub fn head_fault(head: Head) -> u64
 
 // The account of a head; of one with a fault it is free.
 pub fn account_of(head: Head) -> Account
-    ensures { λ r. ⌜ headFault head ≡ 0 → r ≡ accountOf head ⌝ }
+    ensures { λ r. ⌜ (headFault head ≡ 0 → r ≡ accountOf head) ⌝ }
 {
     Account {
         date: head.date as u32,

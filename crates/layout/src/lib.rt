@@ -162,11 +162,7 @@ pub fn may_follow(before: Place, letter: usize) -> bool
 {
     match before {
         Place::Nowhere => letter == 0,
-        Place::At(k) => if letter == 0 {
-            false
-        } else {
-            k <= letter
-        },
+        Place::At(k) => if letter == 0 { false } else { k <= letter },
     }
 }
 

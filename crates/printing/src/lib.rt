@@ -53,7 +53,14 @@ fn print_columns(
 }
 
 // The same of the first n holdings and the first m lines of two tables.
-fn print_tables(head: Head, n: usize, m: usize, book: &[u8], lines: &[u8], out: &mut [u8]) -> Printed
+fn print_tables(
+    head: Head,
+    n: usize,
+    m: usize,
+    book: &[u8],
+    lines: &[u8],
+    out: &mut [u8],
+) -> Printed
     requires { ⌜ TablesHold n m (now book) (now lines) ⌝ }
     ensures { λ r. ⌜ PrintsColumns head (columnsOf n m (now (book .entry)) (now (lines .entry)))
         (now (out .entry)) (now (out .exit)) r ⌝ }

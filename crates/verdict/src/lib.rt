@@ -80,7 +80,18 @@ pub fn check(
     }
     let account = holding::account_of(head);
     let n = side.len() / 8;
-    let fault = positions::open(account, side, kind, issuer, maturity, value, price, currency, legs, left);
+    let fault = positions::open(
+        account,
+        side,
+        kind,
+        issuer,
+        maturity,
+        value,
+        price,
+        currency,
+        legs,
+        left,
+    );
     if fault.number != 0 {
         return refused(fault);
     }
