@@ -18,6 +18,6 @@ numbers h = record {
   of-cad = ap currencyNumber;
   of-usd = ap currencyNumber;
   of-gbp = ap currencyNumber;
-  days = refl;
+  maturity = refl;
   value = refl;
 }

@@ -9,6 +9,8 @@ use borrow.Author.Tests.{not-false, ne-eqb, eqb-true, eqb-false, lt-leb}
 use Rattle.lists.proofs.Tests.{within-true, true-within, none-out, above-out, by-test}
 use Rattle.lists.proofs.Firsts.{None, Listed, none-first}
 use Rattle.lists.specs.Choice.{firstOf, within}
+use Rattle.dates.specs.Calendar.{isDate}
+use Rattle.holding.proofs.Terms.{not-out, in-term, out}
 use Rattle.holding.specs.Holding.{Ranges, InRange, identityFaults, termFaults, worthFaults, moneyFaults, rowFaults, faultOf, RowRefused}
 use Rattle.holding.specs.Holding.{sideNumber, kindNumber, noIssuer, issuerNumber, currencyNumber, sideOf, kindOf, issuerOf, currencyOf, rowOf, holdingOf}
 use Rattle.holding.specs.declared.Side.{Side}
@@ -21,6 +23,7 @@ use Rattle.holding.specs.declared.Currency.{Currency}
 use Rattle.holding.specs.declared.Currency.the-variants.{Cad, Usd, Gbp}
 use Rattle.holding.specs.declared.Holding.{Holding}
 use Rattle.holding.specs.declared.Row.{Row}
+use Rattle.holding.specs.declared.Account.{Account}
 
 -- a range whose test did not fail
 inside : (low high x : ℕ) → not (within low high x) ≡ false → (low ≤ x) × (x ≤ high)
@@ -31,48 +34,49 @@ pub identity-listed : (r : Row) → Listed (identityFaults r)
 unfolding identityFaults
 identity-listed r = (omega arith, (omega arith, (omega arith, tt)))
 
-pub term-listed : (r : Row) → Listed (termFaults r)
+pub term-listed : (a : Account) (r : Row) → Listed (termFaults a r)
 unfolding termFaults
-term-listed r = (omega arith, tt)
+term-listed a r = (omega arith, (omega arith, tt))
 
 pub worth-listed : (r : Row) → Listed (worthFaults r)
 unfolding worthFaults
 worth-listed r = (omega arith, tt)
 
-pub row-listed : (r : Row) → Listed (rowFaults r)
+pub row-listed : (a : Account) (r : Row) → Listed (rowFaults a r)
 unfolding rowFaults identityFaults termFaults worthFaults moneyFaults
-row-listed r = (omega arith, (omega arith, (omega arith, (omega arith, (omega arith, (omega arith, tt))))))
+row-listed a r = (omega arith, (omega arith, (omega arith, (omega arith, (omega arith, (omega arith, (omega arith, tt)))))))
 
-pub none-of-row : (r : Row) → faultOf r ≡ 0 → None (rowFaults r)
-unfolding faultOf
-none-of-row r e = none-first (λ (n : ℕ). n) (rowFaults r) 0 (row-listed r) e .0
+module _ (a : Account) (r : Row) where
+  pub none-of-row : faultOf a r ≡ 0 → None (rowFaults a r)
+  unfolding faultOf
+  none-of-row e = none-first (λ (n : ℕ). n) (rowFaults a r) 0 (row-listed a r) e .0
 
-pub fault-none : (r : Row) → faultOf r ≡ 0 → Ranges r
-unfolding rowFaults identityFaults termFaults worthFaults moneyFaults
-fault-none r e =
-    let (side, (kind, (issuer, (days, (value, (currency, _)))))) = none-of-row r e in
-    record {
-      side = inside 0 1 (r .side) side .1;
-      kind = inside 0 2 (r .kind) kind .1;
-      issuer = inside 0 12 (r .issuer) issuer .1;
-      days-low = inside 1 36500 (r .days) days .0;
-      days-high = inside 1 36500 (r .days) days .1;
-      value-low = inside 1 100000000000 (r .value) value .0;
-      value-high = inside 1 100000000000 (r .value) value .1;
-      currency = inside 0 2 (r .currency) currency .1;
-    }
+  pub fault-none : faultOf a r ≡ 0 → Ranges a r
+  unfolding rowFaults identityFaults termFaults worthFaults moneyFaults
+  fault-none e =
+      let (side, (kind, (issuer, (unreal, (term, (value, (currency, _))))))) = none-of-row e in
+      record {
+        side = inside 0 1 (r .side) side .1;
+        kind = inside 0 2 (r .kind) kind .1;
+        issuer = inside 0 12 (r .issuer) issuer .1;
+        maturity = not-out a (r .maturity) (not-false (isDate (r .maturity)) unreal) term;
+        value-low = inside 1 100000000000 (r .value) value .0;
+        value-high = inside 1 100000000000 (r .value) value .1;
+        currency = inside 0 2 (r .currency) currency .1;
+      }
 
-pub none-fault : (r : Row) → Ranges r → faultOf r ≡ 0
-unfolding faultOf rowFaults identityFaults termFaults worthFaults moneyFaults firstOf
-none-fault r g =
-    rw (
-      true-within 0 1 (r .side) (omega arith) (g .side),
-      true-within 0 2 (r .kind) (omega arith) (g .kind),
-      true-within 0 12 (r .issuer) (omega arith) (g .issuer),
-      true-within 1 36500 (r .days) (g .days-low) (g .days-high),
-      true-within 1 100000000000 (r .value) (g .value-low) (g .value-high),
-      true-within 0 2 (r .currency) (omega arith) (g .currency),
-    )
+  pub none-fault : Ranges a r → faultOf a r ≡ 0
+  unfolding faultOf rowFaults identityFaults termFaults worthFaults moneyFaults firstOf
+  none-fault g =
+      rw (
+        true-within 0 1 (r .side) (omega arith) (g .side),
+        true-within 0 2 (r .kind) (omega arith) (g .kind),
+        true-within 0 12 (r .issuer) (omega arith) (g .issuer),
+        g .maturity .date,
+        in-term a (r .maturity) (g .maturity),
+        true-within 1 100000000000 (r .value) (g .value-low) (g .value-high),
+        true-within 0 2 (r .currency) (omega arith) (g .currency),
+      )
 
 -- a number outside its range, which starts at 0 or at 1
 above : (high x : ℕ) → high < x → within 0 high x ≡ false
@@ -84,7 +88,7 @@ outside high x (inl h) = none-out high x h
 outside high x (inr h) = above-out high x h
 
 -- the refusal of the first number outside its range
-module _ (r : Row) where
+module _ (a : Account) (r : Row) where
   in-side : r .side ≤ 1 → within 0 1 (r .side) ≡ true
   in-side h = true-within 0 1 (r .side) (omega arith) h
 
@@ -94,16 +98,17 @@ module _ (r : Row) where
   in-issuer : r .issuer ≤ 12 → within 0 12 (r .issuer) ≡ true
   in-issuer h = true-within 0 12 (r .issuer) (omega arith) h
 
-  pub row-refused : RowRefused r
+  pub row-refused : RowRefused a r
   unfolding faultOf rowFaults identityFaults termFaults worthFaults moneyFaults firstOf
   row-refused = record {
     side = λ h. rw (above 1 (r .side) h);
     kind = λ s h. rw (in-side s, above 2 (r .kind) h);
     issuer = λ s k h. rw (in-side s, in-kind k, above 12 (r .issuer) h);
-    days = λ s k i h. rw (in-side s, in-kind k, in-issuer i, outside 36500 (r .days) h);
-    value = λ s k i d e h. rw (in-side s, in-kind k, in-issuer i, true-within 1 36500 (r .days) d e, outside 100000000000 (r .value) h);
-    currency = λ s k i d e v w h.
-        rw (in-side s, in-kind k, in-issuer i, true-within 1 36500 (r .days) d e, true-within 1 100000000000 (r .value) v w, above 2 (r .currency) h);
+    unreal = λ s k i d. rw (in-side s, in-kind k, in-issuer i, d);
+    term = λ s k i d h. rw (in-side s, in-kind k, in-issuer i, d, out a (r .maturity) h);
+    value = λ s k i t h. rw (in-side s, in-kind k, in-issuer i, t .date, in-term a (r .maturity) t, outside 100000000000 (r .value) h);
+    currency = λ s k i t v w h.
+        rw (in-side s, in-kind k, in-issuer i, t .date, in-term a (r .maturity) t, true-within 1 100000000000 (r .value) v w, above 2 (r .currency) h);
   }
 
 side-number : (n : ℕ) → n ≤ 1 → sideNumber (sideOf n) ≡ n
@@ -135,16 +140,16 @@ currency-number (suc (suc zero)) h = refl
 currency-number (suc (suc (suc n))) h = omega arith
 
 -- a record keeps its row's numbers
-pub row-kept : (r : Row) → Ranges r → rowOf (holdingOf r) ≡ r
+pub row-kept : (a : Account) (r : Row) → Ranges a r → rowOf (holdingOf r) ≡ r
 unfolding rowOf holdingOf
-row-kept r g =
+row-kept a r g =
     rw (side-number (r .side) (g .side), kind-number (r .kind) (g .kind), issuer-number (r .issuer) (g .issuer), currency-number (r .currency) (g .currency))
 
 -- the record of a row without fault is within the ranges
-pub in-range : (r : Row) → faultOf r ≡ 0 → InRange (holdingOf r)
-in-range r e =
-    let g : Ranges r = fault-none r e in
-    rw (row-kept r g) g
+pub in-range : (a : Account) (r : Row) → faultOf a r ≡ 0 → Ranges a (rowOf (holdingOf r))
+in-range a r e =
+    let g : Ranges a r = fault-none a r e in
+    rw (row-kept a r g) g
 
 -- a record's cases from their numbers
 pub side-back : (s : Side) → sideOf (sideNumber s) ≡ s
@@ -184,6 +189,6 @@ currency-back Cad = refl
 currency-back Usd = refl
 currency-back Gbp = refl
 
-pub holding-kept : (h : Holding) → InRange h → holdingOf (rowOf h) ≡ h
+pub holding-kept : (a : Account) (h : Holding) → InRange a h → holdingOf (rowOf h) ≡ h
 unfolding rowOf holdingOf
-holding-kept h g = rw (side-back (h .side), kind-back (h .kind), issuer-back (h .issuer) (g .issuer), currency-back (h .currency))
+holding-kept a h g = rw (side-back (h .side), kind-back (h .kind), issuer-back (h .issuer) (g .ranges .issuer), currency-back (h .currency))

@@ -7,9 +7,10 @@ use lib.ListN.{length}
 use Rattle.lists.specs.Tables.{listTo}
 use Rattle.lists.proofs.Tables.{to-back}
 use borrow.Author.Tests.{eq-eqb}
-use Rattle.holding.specs.Holding.{numbersOf, rowBy, faultOf, holdingOf, numberOf, builtOf, InRange, Builds}
+use Rattle.holding.specs.Holding.{numbersOf, rowBy, rowOf, faultOf, holdingOf, numberOf, builtOf, Ranges, Builds}
 use Rattle.holding.proofs.Ranges.{in-range}
 use Rattle.holding.specs.declared.Row.{Row}
+use Rattle.holding.specs.declared.Account.{Account}
 use Rattle.holding.specs.declared.Holding.{Holding}
 use Rattle.holding.specs.declared.Built.{Built}
 use Rattle.holding.specs.declared.Built.the-variants.{Made, Refused}
@@ -22,21 +23,21 @@ pub numbers-back : (xs : List ℕ) → length xs ≡ 6 → numbersOf (rowBy xs) 
 unfolding numbersOf listTo
 numbers-back xs h = to-back 6 xs 0 h
 
-module _ {r : Row} {b : Built} (p : Builds r b) where
-  made-of-none : faultOf r ≡ 0 → b ≡ Made (holdingOf r)
+module _ {a : Account} {r : Row} {b : Built} (p : Builds a r b) where
+  made-of-none : faultOf a r ≡ 0 → b ≡ Made (holdingOf r)
   unfolding builtOf
-  made-of-none e = p .built ∙ rw (eq-eqb (faultOf r) 0 e)
+  made-of-none e = p .built ∙ rw (eq-eqb (faultOf a r) 0 e)
 
   -- its record: it has no fault
-  pub made-row : {h : Holding} → b ≡ Made h → InRange h × (faultOf r ≡ 0) × (h ≡ holdingOf r)
+  pub made-row : {h : Holding} → b ≡ Made h → Ranges a (rowOf h) × (faultOf a r ≡ 0) × (h ≡ holdingOf r)
   made-row {h} e =
-      let none : faultOf r ≡ 0 = sym (p .number) ∙ ap numberOf e in
+      let none : faultOf a r ≡ 0 = sym (p .number) ∙ ap numberOf e in
       let made = made-of-none none in
       let same : h ≡ holdingOf r = cc in
-      (rw same (in-range r none), none, same)
+      (rw same (in-range a r none), none, same)
 
   -- the number of its fault
-  pub refused-row : {n : ℕ} → b ≡ Refused n → (n ≡ faultOf r) × (n ≡ 0 → ⊥)
+  pub refused-row : {n : ℕ} → b ≡ Refused n → (n ≡ faultOf a r) × (n ≡ 0 → ⊥)
   refused-row {n} e =
-      let number : n ≡ faultOf r = ap numberOf (sym e) ∙ p .number in
+      let number : n ≡ faultOf a r = ap numberOf (sym e) ∙ p .number in
       (number, λ z. let made = made-of-none (sym number ∙ z) in let never : _≡_ {A = ℕ} 0 1 = cc in omega arith)

@@ -7,6 +7,7 @@ use Rattle.dates.specs.Calendar.{isDate, anniversary}
 use Rattle.holding.specs.declared.{Side.Side, Side.the-variants.Long, Side.the-variants.Short, Kind.Kind, Kind.the-variants.Bond, Kind.the-variants.Coupon, Kind.the-variants.Residual}
 use Rattle.holding.specs.declared.Issuer.{Issuer, the-variants.Canada, the-variants.Province, the-variants.UnitedStates, the-variants.UnitedKingdom}
 use Rattle.holding.specs.declared.{Currency.Currency, Currency.the-variants.Cad, Currency.the-variants.Usd, Currency.the-variants.Gbp, Holding.Holding, Row.Row, Head.Head, Account.Account}
+use Rattle.holding.specs.declared.Headed.{Headed, the-variants.For, the-variants.NoAccount}
 use Rattle.holding.specs.declared.Built.{Built, the-variants.Made, the-variants.Refused}
 
 -- the most cents that a market value may be
@@ -30,6 +31,10 @@ headFault h = firstOf (headFaults h) 0
 -- the account of a head: it is valued on this date
 unfoldable pub accountOf : Head → Account
 accountOf h = record { date = h .date }
+
+-- a head without fault has its account, any other none
+unfoldable pub headedOf : Head → Headed
+headedOf h = cond (eqb (headFault h) 0) (For (accountOf h)) NoAccount
 
 -- the numbers of a row in the order of their columns, and the row of such a list
 unfoldable pub numbersOf : Row → List ℕ

@@ -1,7 +1,7 @@
 // A holding and the account that it is valued in: raw numbers, their ranges, and the records that numbers within them make.
 ghost use mathlib.Core.Path.{_≡_};
 ghost use Rattle.lists.specs.Choice.{firstOf};
-ghost use Rattle.holding.specs.Holding.{headFault, accountOf, identityFaults, termFaults, worthFaults, moneyFaults, faultOf, Builds};
+ghost use Rattle.holding.specs.Holding.{headFault, headedOf, identityFaults, termFaults, worthFaults, moneyFaults, faultOf, Builds};
 ghost use Rattle.holding.specs.Holding.{sideOf, kindOf, issuerOf, currencyOf, sideNumber, kindNumber, issuerNumber, currencyNumber, rowOf};
 
 pub enum Side {
@@ -57,6 +57,12 @@ pub struct Row {
     pub currency: u64,
 }
 
+// What a head makes: an account, or none.
+pub enum Headed {
+    For(Account),
+    NoAccount,
+}
+
 // What a row makes: a record, or the number of its first fault.
 pub enum Built {
     Made(Holding),
@@ -73,13 +79,16 @@ pub fn head_fault(head: Head) -> u64
     0
 }
 
-// The account of a head; of one with a fault it is free.
-pub fn account_of(head: Head) -> Account
-    ensures { λ r. ⌜ (headFault head ≡ 0 → r ≡ accountOf head) ⌝ }
+// The account of a head, or that it has a fault.
+pub fn account_of(head: Head) -> Headed
+    ensures { λ r. ⌜ r ≡ headedOf head ⌝ }
 {
-    Account {
-        date: head.date as u32,
+    if head_fault(head) != 0 {
+        return Headed::NoAccount;
     }
+    Headed::For(Account {
+        date: head.date as u32,
+    })
 }
 
 // The number of the first fault of what a row is, 4 to 6, or 0 for none.

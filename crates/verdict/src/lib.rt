@@ -1,5 +1,6 @@
 // The check: columns in, the answer out. Nothing is presumed of the columns; what it works on are lists that are lent to it.
 use holding::Head;
+use holding::Headed;
 use proposal::Fault;
 ghost use mathlib.Core.Path.{_≡_};
 ghost use mathlib.Core.List.{[], _∷_};
@@ -74,11 +75,10 @@ pub fn check(
     if number != 0 {
         return refused(proposal::fault_at(number, 0, 0));
     }
-    let number = holding::head_fault(head);
-    if number != 0 {
-        return refused(proposal::fault_at(number, 0, 0));
-    }
-    let account = holding::account_of(head);
+    let headed = holding::account_of(head);
+    let Headed::For(account) = headed else {
+        return refused(proposal::fault_at(holding::head_fault(head), 0, 0));
+    };
     let n = side.len() / 8;
     let fault = positions::open(
         account,

@@ -1,7 +1,10 @@
 -- `holding_of` builds what `Builds` says: a row without fault makes its record, any other is refused with its fault. Assumes nothing.
 use mathlib.Core.Path.{sym, _∙_}
+use native.Mathlib.Omega.{arith}
 use borrow.Author.Tests.{eq-eqb, ne-eqb}
+use Rattle.dates.proofs.Tested.{date-high}
 use Rattle.holding.specs.Holding.{builtOf, holdingOf}
+use Rattle.holding.proofs.Ranges.{fault-none}
 use borrow.Author.Needs.{needs}
 use Rattle.holding.proofs.holding_of.Statement.{statement}
 use Rattle.holding.proofs.holding_of.Tie as tie
@@ -13,12 +16,21 @@ returns c = record {
   built = rw (← c .before .fault .ensures, ne-eqb _ 0 (c .if1 .taken));
 }
 
+-- the maturity of a row without fault is small
+cast-t9 : tie.Need-cast-t9
+cast-t9 c =
+    let passed = c .before .before .before .before .before in
+    let ranges = fault-none _ _ (sym (passed .before .fault .ensures) ∙ passed .if1 .left) in
+    let high = date-high _ (ranges .maturity .date) in
+    search (needs, high)
+
 returns-2 : tie.Need-returns-2
 unfolding builtOf holdingOf
 returns-2 c =
-    let passed = c .before .before .before .before in
+    let made = c .before in
+    let passed = made .before .before .before .before in
     let none = sym (passed .before .fault .ensures) ∙ passed .if1 .left in
-    rw (c .before .before .before .side-of .ensures, c .before .before .kind-of .ensures, c .before .issuer-of .ensures, c .currency-of .ensures)
+    rw (made .before .before .before .side-of .ensures, made .before .before .kind-of .ensures, made .before .issuer-of .ensures, made .currency-of .ensures)
     (record { number = sym none; built = rw (eq-eqb _ 0 none) })
 
 pub holding-of-spec : {M : Type 1} → statement M
@@ -31,4 +43,5 @@ holding-of-spec =
     (λ c κs. search needs)
     (λ c κs. search needs)
     (λ c κs. search needs)
+    cast-t9
     returns-2)

@@ -6,7 +6,17 @@ use Rattle.holding.proofs.row_of.Tie as tie
 
 returns : tie.Need-returns
 unfolding rowOf
-returns c = rw (c .before .before .before .side-number .ensures, c .before .before .kind-number .ensures, c .before .issuer-number .ensures, c .currency-number .ensures)
+returns c =
+    let issued = c .before .before in
+    rw (issued .before .before .side-number .ensures, issued .before .kind-number .ensures, issued .issuer-number .ensures, c .currency-number .ensures)
 
 pub row-of-spec : {M : Type 1} → statement M
-row-of-spec = tie.close (tie.spec (λ c κs. search needs) (λ c κs. search needs) (λ c κs. search needs) (λ c κs. search needs) returns)
+row-of-spec =
+    tie.close
+    (tie.spec
+    (λ c κs. search needs)
+    (λ c κs. search needs)
+    (λ c κs. search needs)
+    (λ c. search needs)
+    (λ c κs. search needs)
+    returns)
