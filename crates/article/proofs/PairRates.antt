@@ -1,8 +1,12 @@
 -- Laws of a pair's rate and of what it saves. Assumes nothing.
 use mathlib.Core.Path.{_≡_}
 use mathlib.Core.Bool.{true, false≢true}
-use Prim.Native.Nat.{ℕ, _+_, _≤_, min, max}
+use Prim.Native.Nat.{ℕ, _+_, _*_, _≤_, min, max}
 use native.Mathlib.Omega.{arith}
+use Rattle.rates.specs.Rate.{rateOf}
+use Rattle.rates.proofs.Rates.{rate-even}
+use Rattle.holding.specs.declared.Holding.{Holding}
+use Rattle.holding.specs.declared.Account.{Account}
 use Rattle.article.specs.Pair.{ruleRate, permits, pairRateOf, savingRateOf, ruleOf, rateLimit, savingLimit, RateInRange}
 use Rattle.article.specs.declared.pair.Rule.{Rule}
 use Rattle.article.specs.declared.pair.Rule.the-variants.{Difference, HalfSum, NotAllowed}
@@ -12,6 +16,14 @@ use Rattle.article.specs.declared.pair.Leg.{Leg}
 pub difference-excess : (a b : ℕ) → min a b + ruleRate Difference a b ≡ max a b
 unfolding ruleRate
 difference-excess a b = omega arith
+
+-- half the sum of two holdings' rates is exact
+pub half-exact : (a : Account) (l s : Holding) → 2 * ruleRate HalfSum (rateOf a l) (rateOf a s) ≡ rateOf a l + rateOf a s
+unfolding ruleRate
+half-exact a l s =
+    let (k, e) = rate-even a l in
+    let (m, f) = rate-even a s in
+    omega arith
 
 pub rule-rate-le : (r : Rule) (a b : ℕ) → ruleRate r a b ≤ a + b
 unfolding ruleRate

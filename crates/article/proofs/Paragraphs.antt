@@ -22,6 +22,7 @@ use Rattle.holding.specs.declared.Issuer.the-variants.{Canada, Province, United
 use Rattle.holding.specs.declared.Currency.{Currency}
 use Rattle.holding.specs.declared.Currency.the-variants.{Cad}
 use Rattle.holding.specs.declared.Holding.{Holding}
+use Rattle.holding.specs.declared.Account.{Account}
 use Rattle.article.specs.declared.pair.Rule.{Rule}
 use Rattle.article.specs.declared.pair.Rule.the-variants.{Difference, HalfSum}
 use Rattle.article.specs.declared.pair.Leg.{Leg}
@@ -67,60 +68,60 @@ both : {A : Type 0} (t u : Bool) → (t ≡ true → u ≡ true → A) → (t &&
 both t u f e = let (a, b) = and-eq-true-iff t u .0 e in f a b
 
 -- what the tests say of two records
-module _ (l s : Holding) where
-  both-cad : bothCad (legOf l) (legOf s) ≡ true → (l .currency ≡ Cad) × (s .currency ≡ Cad)
+module _ (a : Account) (l s : Holding) where
+  both-cad : bothCad (legOf a l) (legOf a s) ≡ true → (l .currency ≡ Cad) × (s .currency ≡ Cad)
   unfolding bothCad inCad legOf rowOf currencyOf
-  both-cad e = let (a, b) = and-eq-true-iff _ _ .0 e in (currency-of (l .currency) 0 a, currency-of (s .currency) 0 b)
+  both-cad e = let (x, y) = and-eq-true-iff _ _ .0 e in (currency-of (l .currency) 0 x, currency-of (s .currency) 0 y)
 
-  same-foreign : sameForeign (legOf l) (legOf s) ≡ true → SameForeign (l .currency) (s .currency)
+  same-foreign : sameForeign (legOf a l) (legOf a s) ≡ true → SameForeign (l .currency) (s .currency)
   unfolding sameForeign inUsd inGbp legOf rowOf currencyOf
   same-foreign e =
       ⊎-elim
-      (both _ _ (λ a b. rw (currency-of (l .currency) 1 a, currency-of (s .currency) 1 b) both-usd))
-      (both _ _ (λ a b. rw (currency-of (l .currency) 2 a, currency-of (s .currency) 2 b) both-gbp))
+      (both _ _ (λ x y. rw (currency-of (l .currency) 1 x, currency-of (s .currency) 1 y) both-usd))
+      (both _ _ (λ x y. rw (currency-of (l .currency) 2 x, currency-of (s .currency) 2 y) both-gbp))
       (one-of _ _ e)
 
-  same-class : sameClass (legOf l) (legOf s) ≡ true → OneClass (l .issuer) (s .issuer)
+  same-class : sameClass (legOf a l) (legOf a s) ≡ true → OneClass (l .issuer) (s .issuer)
   unfolding sameClass isCanada isProvince legOf rowOf
   same-class e =
       ⊎-elim
-      (both _ _ (λ a b. rw (canada-of (l .issuer) a, canada-of (s .issuer) b) both-canada))
-      (both _ _ (λ a b. rw (province-of (l .issuer) a, province-of (s .issuer) b) (both-provincial _ _)))
+      (both _ _ (λ x y. rw (canada-of (l .issuer) x, canada-of (s .issuer) y) both-canada))
+      (both _ _ (λ x y. rw (province-of (l .issuer) x, province-of (s .issuer) y) (both-provincial _ _)))
       (one-of _ _ e)
 
-  mixed-class : mixedClass (legOf l) (legOf s) ≡ true → TwoClasses (l .issuer) (s .issuer)
+  mixed-class : mixedClass (legOf a l) (legOf a s) ≡ true → TwoClasses (l .issuer) (s .issuer)
   unfolding mixedClass isCanada isProvince legOf rowOf
   mixed-class e =
       ⊎-elim
-      (both _ _ (λ a b. rw (canada-of (l .issuer) a, province-of (s .issuer) b) (canada-long _)))
-      (both _ _ (λ a b. rw (province-of (l .issuer) a, canada-of (s .issuer) b) (canada-short _)))
+      (both _ _ (λ x y. rw (canada-of (l .issuer) x, province-of (s .issuer) y) (canada-long _)))
+      (both _ _ (λ x y. rw (province-of (l .issuer) x, canada-of (s .issuer) y) (canada-short _)))
       (one-of _ _ e)
 
-  same-government : sameGovernment (legOf l) (legOf s) ≡ true → SameGovernment (l .issuer) (s .issuer)
+  same-government : sameGovernment (legOf a l) (legOf a s) ≡ true → SameGovernment (l .issuer) (s .issuer)
   unfolding sameGovernment isCanada isUs isGb legOf rowOf
   same-government e =
       ⊎-elim
       (λ o. ⊎-elim
-      (both _ _ (λ a b. rw (canada-of (l .issuer) a, canada-of (s .issuer) b) of-canada))
-      (both _ _ (λ a b. rw (us-of (l .issuer) a, us-of (s .issuer) b) of-us))
+      (both _ _ (λ x y. rw (canada-of (l .issuer) x, canada-of (s .issuer) y) of-canada))
+      (both _ _ (λ x y. rw (us-of (l .issuer) x, us-of (s .issuer) y) of-us))
       (one-of _ _ o))
-      (both _ _ (λ a b. rw (gb-of (l .issuer) a, gb-of (s .issuer) b) of-gb))
+      (both _ _ (λ x y. rw (gb-of (l .issuer) x, gb-of (s .issuer) y) of-gb))
       (one-of _ _ e)
 
-  one-bond : oneBond (legOf l) (legOf s) ≡ true → OneBond (l .kind) (s .kind)
+  one-bond : oneBond (legOf a l) (legOf a s) ≡ true → OneBond (l .kind) (s .kind)
   unfolding oneBond isBond isStrip legOf rowOf
   one-bond e =
       ⊎-elim
-      (both _ _ (λ a b. record { some = inl (bond-of (l .kind) a); not-both = λ _ n. strip-of (s .kind) b n }))
-      (both _ _ (λ a b. record { some = inr (bond-of (s .kind) b); not-both = λ m _. strip-of (l .kind) a m }))
+      (both _ _ (λ x y. record { some = inl (bond-of (l .kind) x); not-both = λ _ n. strip-of (s .kind) y n }))
+      (both _ _ (λ x y. record { some = inr (bond-of (s .kind) y); not-both = λ m _. strip-of (l .kind) x m }))
       (one-of _ _ e)
 
-  not-bonds : kindsPair (legOf l) (legOf s) ≡ true → l .kind ≡ Bond → s .kind ≡ Bond → ⊥
+  not-bonds : kindsPair (legOf a l) (legOf a s) ≡ true → l .kind ≡ Bond → s .kind ≡ Bond → ⊥
   unfolding kindsPair oneBond isBond isStrip legOf rowOf
   not-bonds e m n = ⊎-elim (λ f. one-bond f .not-both m n) (λ f. strip-of (l .kind) (and-eq-true-iff _ _ .0 f .0) m) (one-of _ _ e)
 
   -- one of the two paragraphs has a pair that is permitted
-  pub by-paragraph : {r : Rule} → Permitted (legOf l) (legOf s) r → Paragraph2 l s ⊎ Paragraph4 l s
+  pub by-paragraph : {r : Rule} → Permitted (legOf a l) (legOf a s) r → Paragraph2 l s ⊎ Paragraph4 l s
   by-paragraph (one-class c k e) = inl (record { first-cad = both-cad c .0; second-cad = both-cad c .1; classes = inl (same-class e); not-bonds = not-bonds k })
   by-paragraph (two-classes c k e) = inl (record { first-cad = both-cad c .0; second-cad = both-cad c .1; classes = inr (mixed-class e); not-bonds = not-bonds k })
   by-paragraph (one-government c k e) = inr (record { currency = same-foreign c; government = same-government e; one-bond = one-bond k })
@@ -183,30 +184,30 @@ two-class-rule l s (canada-short p) a b f g =
     rw (c, n, d, m)
 
 -- the rule of two records by their paragraph
-module _ (l s : Holding) where
-  cads : Paragraph2 l s → bothCad (legOf l) (legOf s) ≡ true
+module _ (a : Account) (l s : Holding) where
+  cads : Paragraph2 l s → bothCad (legOf a l) (legOf a s) ≡ true
   unfolding bothCad inCad legOf rowOf
   cads p = rw (p .first-cad, p .second-cad)
 
-  pairs : (l .kind ≡ Bond → s .kind ≡ Bond → ⊥) → (kindsPair (legOf l) (legOf s) ≡ true) × ((l .kind ≡ Bond) ⊎ (s .kind ≡ Bond) → oneBond (legOf l) (legOf s) ≡ true)
+  pairs : (l .kind ≡ Bond → s .kind ≡ Bond → ⊥) → (kindsPair (legOf a l) (legOf a s) ≡ true) × ((l .kind ≡ Bond) ⊎ (s .kind ≡ Bond) → oneBond (legOf a l) (legOf a s) ≡ true)
   unfolding legOf rowOf
-  pairs f = kinds (legOf l) (legOf s) (l .kind) (s .kind) refl refl f
+  pairs f = kinds (legOf a l) (legOf a s) (l .kind) (s .kind) refl refl f
 
-  in-cad : Paragraph2 l s → {r : Rule} → classRule (legOf l) (legOf s) ≡ r → ruleOf (legOf l) (legOf s) ≡ r
+  in-cad : Paragraph2 l s → {r : Rule} → classRule (legOf a l) (legOf a s) ≡ r → ruleOf (legOf a l) (legOf a s) ≡ r
   unfolding ruleOf domesticRule
   in-cad p e = rw (cads p, pairs (p .not-bonds) .0) e
 
-  pub abroad : Paragraph4 l s → ruleOf (legOf l) (legOf s) ≡ Difference
+  pub abroad : Paragraph4 l s → ruleOf (legOf a l) (legOf a s) ≡ Difference
   unfolding ruleOf foreignRule legOf rowOf
   abroad p =
-      let (foreign, same) = foreigners (legOf l) (legOf s) (p .currency) refl refl in
-      rw (foreign, same, pairs (p .one-bond .not-both) .1 (p .one-bond .some), governments (legOf l) (legOf s) (p .government) refl refl)
+      let (foreign, same) = foreigners (legOf a l) (legOf a s) (p .currency) refl refl in
+      rw (foreign, same, pairs (p .one-bond .not-both) .1 (p .one-bond .some), governments (legOf a l) (legOf a s) (p .government) refl refl)
 
-  module _ (f : InRange l) (g : InRange s) where
-    pub class-one : Paragraph2 l s → OneClass (l .issuer) (s .issuer) → ruleOf (legOf l) (legOf s) ≡ Difference
+  module _ (f : InRange a l) (g : InRange a s) where
+    pub class-one : Paragraph2 l s → OneClass (l .issuer) (s .issuer) → ruleOf (legOf a l) (legOf a s) ≡ Difference
     unfolding legOf rowOf
-    class-one p e = in-cad p (one-class-rule (legOf l) (legOf s) e refl refl (f .issuer) (g .issuer))
+    class-one p e = in-cad p (one-class-rule (legOf a l) (legOf a s) e refl refl (f .ranges .issuer) (g .ranges .issuer))
 
-    pub class-two : Paragraph2 l s → TwoClasses (l .issuer) (s .issuer) → ruleOf (legOf l) (legOf s) ≡ HalfSum
+    pub class-two : Paragraph2 l s → TwoClasses (l .issuer) (s .issuer) → ruleOf (legOf a l) (legOf a s) ≡ HalfSum
     unfolding legOf rowOf
-    class-two p e = in-cad p (two-class-rule (legOf l) (legOf s) e refl refl (f .issuer) (g .issuer))
+    class-two p e = in-cad p (two-class-rule (legOf a l) (legOf a s) e refl refl (f .ranges .issuer) (g .ranges .issuer))
