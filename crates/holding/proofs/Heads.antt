@@ -4,12 +4,13 @@ use mathlib.Core.Bool.{true, false}
 use Prim.Native.Nat.{ℕ, _<_}
 use native.Mathlib.Omega.{arith}
 use Rattle.lists.specs.Choice.{firstOf}
-use Rattle.lists.proofs.Tests.{either-way}
+use Rattle.lists.proofs.Tests.{either-way, same-or-not}
 use borrow.Author.Tests.{eq-eqb, ne-eqb}
 use Rattle.dates.specs.Calendar.{isDate}
 use Rattle.dates.proofs.Tested.{date-high}
 use Rattle.holding.specs.Holding.{headFaults, headFault, accountOf, headedOf}
 use Rattle.holding.specs.declared.Head.{Head}
+use Rattle.holding.specs.declared.Account.{Account}
 use Rattle.holding.specs.declared.Headed.the-variants.{For, NoAccount}
 
 module _ (h : Head) where
@@ -35,3 +36,13 @@ module _ (h : Head) where
   pub head-none : (headFault h ≡ 0 → ⊥) → headedOf h ≡ NoAccount
   unfolding headedOf
   head-none e = rw (ne-eqb (headFault h) 0 e)
+
+pub no-account : {a : Account} → NoAccount ≡ For a → ⊥
+no-account e = let never : _≡_ {A = ℕ} 0 1 = cc in omega arith
+
+-- the account that a head makes is its own
+pub account-head : (h : Head) {a : Account} → headedOf h ≡ For a → (headFault h ≡ 0) × (a ≡ accountOf h)
+account-head h {a} e =
+    same-or-not (headFault h) 0
+    (λ z. let made = head-account h z in (z, cc))
+    (λ n. absurd (no-account (sym (head-none h n) ∙ e)))

@@ -11,6 +11,7 @@ use Rattle.lists.specs.Tables.{front}
 use Rattle.lists.proofs.Tables.{length-to}
 use Rattle.article.specs.Answer.{Answer, makeAnswer}
 use Rattle.words.specs.Words.{encode}
+use Rattle.holding.specs.declared.Head.{Head}
 use Rattle.columns.specs.Columns.{Columns, countIn, rowsIn, submission, holdingSizes, lineSizes}
 use Rattle.columns.proofs.Columns.{column-entries}
 use Rattle.sizes.specs.Sizes.{Room}
@@ -45,62 +46,62 @@ held : (xs now old : List ℕ) (n : ℕ) → now ≡ front xs old → length xs 
 unfolding front
 held xs now old n e l = omega (arith, ap (λ (ys : List ℕ). length ys) e, length-append xs (drop (length xs) old))
 
-module _ (c : Columns) where
+module _ (head : Head) (c : Columns) where
   abbrev n : ℕ
   n = countIn (c .holdings)
 
-  count-is : priced (submission c) .count ≡ n
+  count-is : priced (submission head c) .count ≡ n
   unfolding priced bookOf submission rowsIn
   count-is = length-to n _
 
-  remainders-length : length (remaindersOf (priced (submission c)) (submission c .lines)) ≡ n
+  remainders-length : length (remaindersOf (priced (submission head c)) (submission head c .lines)) ≡ n
   unfolding remaindersOf
-  remainders-length = length-to (priced (submission c) .count) _ ∙ count-is
+  remainders-length = length-to (priced (submission head c) .count) _ ∙ count-is
 
   module _ (before : Lent) where
     -- the answer on the outcome, and the two lists, are all that is promised
-    checks-all : (remainder′ ranking′ out′ : List ℕ) (r : ℕ) → Answers (outcomeOf c before) (before .answer) out′ r
-        → remainder′ ≡ front (encode (written (outcomeOf c before) (remaindersOf (priced (submission c)) (submission c .lines)))) (before .remainder)
-        → ranking′ ≡ front (encode (written (outcomeOf c before) (ranked (priced (submission c)) (submission c .lines)))) (before .ranking)
-        → Checks c before (makeLent remainder′ ranking′ out′) r
+    checks-all : (remainder′ ranking′ out′ : List ℕ) (r : ℕ) → Answers (outcomeOf head c before) (before .answer) out′ r
+        → remainder′ ≡ front (encode (written (outcomeOf head c before) (remaindersOf (priced (submission head c)) (submission head c .lines)))) (before .remainder)
+        → ranking′ ≡ front (encode (written (outcomeOf head c before) (ranked (priced (submission head c)) (submission head c .lines)))) (before .ranking)
+        → Checks head c before (makeLent remainder′ ranking′ out′) r
     unfolding outcomeOf outcomeIn two
     checks-all remainder′ ranking′ out′ r returned p q =
-        let d = returned-demands (columnsDiffer c) (two c before) (submission c) (before .answer) out′ r
+        let d = returned-demands (columnsDiffer c) (two c before) (submission head c) (before .answer) out′ r
         (λ e. room-exactly (writtenLists c before) (length (before .answer)) .0 e .answer) returned in
         let l = lengths-exactly (holdingSizes c) (lineSizes c) (writtenLists c before) (length (before .answer)) in
         record {
-          submitted = column-entries c;
+          submitted = column-entries head c;
           returned = returned;
           remainder = p;
           ranking = q;
           untouched = λ h.
-              let none : outcomeOf c before .number ≡ 0 → ⊥ = λ e. h (returned .number ∙ e) in
+              let none : outcomeOf head c before .number ≡ 0 → ⊥ = λ e. h (returned .number ∙ e) in
               (p ∙ sym (nothing-written _ _ _ none), q ∙ sym (nothing-written _ _ _ none));
-          order = all-ranked (submission c);
+          order = all-ranked (submission head c);
           exactly = ((λ e. let (neither, rest) = d .exactly .0 e in (l .0 neither, rest)), (λ a. d .exactly .1 (l .1 (a .0), a .1)));
           keeps = d;
         }
 
     -- what the check says of what is lent, by its case
-    module _ {t : Bool} {s s′ : Scratch} {v : Verdict} (same : t ≡ two c before) (given : Judges t c s s′ v) where
-      judged-as : {w : Verdict} → v ≡ w → Judges (two c before) c s s′ w
+    module _ {t : Bool} {s s′ : Scratch} {v : Verdict} (same : t ≡ two c before) (given : Judges t head c s s′ v) where
+      judged-as : {w : Verdict} → v ≡ w → Judges (two c before) head c s s′ w
       judged-as e = rw (← same, ← e) given
 
       -- refused: neither list is written
       pub refused-checks : {number place second r : ℕ} {out′ : List ℕ} → v ≡ Refused number place second → Answers (makeAnswer number place second) (before .answer) out′ r
-          → Checks c before (makeLent (before .remainder) (before .ranking) out′) r
+          → Checks head c before (makeLent (before .remainder) (before .ranking) out′) r
       unfolding outcomeOf
       refused-checks e returned =
           let judges = judged-as e in
-          let none = refused-number (outcomeOf c before) (judges .answer) (judges .verdict) in
+          let none = refused-number (outcomeOf head c before) (judges .answer) (judges .verdict) in
           checks-all _ _ _ _ (rw (← judges .answer) returned) (nothing-written _ _ _ none) (nothing-written _ _ _ none)
 
       -- accepted: the lists are long enough, and have what the check left in its scratch
       module _ {units cents : ℕ} (e : v ≡ Accepted units cents) where
-        judges : Judges (two c before) c s s′ (Accepted units cents)
+        judges : Judges (two c before) head c s s′ (Accepted units cents)
         judges = judged-as e
 
-        accepted : outcomeOf c before .number ≡ 0
+        accepted : outcomeOf head c before .number ≡ 0
         unfolding outcomeOf
         accepted = sym (ap (λ (a : Answer). a .number) (judges .answer))
 
@@ -108,8 +109,8 @@ module _ (c : Columns) where
         unfolding two
         room = room-exactly _ _ .0 (judges .keeps .exactly .0 refl .0 .1)
 
-        order-length : length (ranked (priced (submission c)) (submission c .lines)) ≡ n
-        order-length = ranked-length (submission c) ∙ count-is
+        order-length : length (ranked (priced (submission head c)) (submission head c .lines)) ≡ n
+        order-length = ranked-length (submission head c) ∙ count-is
 
         pub remainder-room : (n ≤ length (s′ .left)) × (8 * n ≤ length (before .remainder))
         unfolding writtenLists
@@ -120,14 +121,14 @@ module _ (c : Columns) where
         ranking-room = (held _ _ _ _ (judges .worked refl .ranking) order-length, omega (arith, room .each .1 .0))
 
         -- what is written of the scratch is what was put at its front
-        in-list : (xs now old bytes : List ℕ) → now ≡ front xs old → length xs ≡ n → front (encode (take n now)) bytes ≡ front (encode (written (outcomeOf c before) xs)) bytes
+        in-list : (xs now old bytes : List ℕ) → now ≡ front xs old → length xs ≡ n → front (encode (take n now)) bytes ≡ front (encode (written (outcomeOf head c before) xs)) bytes
         unfolding front written
         in-list xs now old bytes f l =
-            rw (eq-eqb (outcomeOf c before .number) 0 accepted) (ap (λ (ys : List ℕ). front (encode ys) bytes) (ap (take n) f ∙ take-at xs _ _ l))
+            rw (eq-eqb (outcomeOf head c before .number) 0 accepted) (ap (λ (ys : List ℕ). front (encode ys) bytes) (ap (take n) f ∙ take-at xs _ _ l))
 
         pub accepted-checks : {remainder′ ranking′ out′ : List ℕ} {r : ℕ} → remainder′ ≡ front (encode (take n (s′ .left))) (before .remainder)
             → ranking′ ≡ front (encode (take n (s′ .ranks))) (before .ranking) → Answers (makeAnswer 0 units cents) (before .answer) out′ r
-            → Checks c before (makeLent remainder′ ranking′ out′) r
+            → Checks head c before (makeLent remainder′ ranking′ out′) r
         unfolding outcomeOf
         accepted-checks p q returned =
             checks-all _ _ _ _ (rw (← judges .answer) returned)

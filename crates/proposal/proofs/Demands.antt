@@ -9,6 +9,7 @@ use Rattle.lists.proofs.Tests.{either-way}
 use Rattle.lists.proofs.Entries.{at-each}
 use Rattle.lists.proofs.Firsts.{none-first, first-of-none}
 use Rattle.lists.proofs.Tables.{length-to, getD-to}
+use Rattle.holding.specs.Holding.{accountOf}
 use Rattle.holding.proofs.Ranges.{row-kept}
 use Rattle.article.specs.Answer.{Answer}
 use Rattle.article.proofs.Article.{article}
@@ -16,7 +17,7 @@ use Rattle.article.specs.Pair.{legOf, allowed}
 use Rattle.article.specs.declared.pair.Leg.{Leg}
 use Rattle.pairing.specs.Pairing.{AllowedPair, IsPairing, Covers, Least}
 use Rattle.pairing.proofs.Least.{least}
-use Rattle.proposal.specs.Submission.{Submission, PricedBook, bookOf, termsOf, priced, noLine, holdingAt, remainder, margin, unitsOf, remaindersOf}
+use Rattle.proposal.specs.Submission.{Submission, accountIn, PricedBook, bookOf, termsOf, priced, noLine, holdingAt, remainder, margin, unitsOf, remaindersOf}
 use Rattle.proposal.specs.Outcome.{uncovered, totalsDiffer, faults, accepted, outcome}
 use Rattle.proposal.specs.Demands.{Limits, Acceptable, PairTerms, RemainderOf, Demands}
 use Rattle.proposal.proofs.PricedBooks.{leg-at, value-at, book-in, holding-in-range, fair}
@@ -52,15 +53,16 @@ module _ (s : Submission) where
 
   -- the terms are the article's
   terms : Limits s → (i j : ℕ) → i < length (s .rows) → j < length (s .rows) → PairTerms s i j
-  unfolding termsOf legOf
+  unfolding termsOf legOf accountOf
   terms l i j p q = record {
-    numbers = unfold holdingAt in row-kept _ (l .each-row i p);
+    date = refl;
+    numbers = unfold holdingAt in row-kept _ _ (l .each-row i p);
     value = value-at s i;
     price = unfold priced bookOf in refl;
     rate = ap (λ (x : Leg). x .rate) (leg-at s i p);
     allowed = may-exactly s l i j p q;
     pair-rate = rw (leg-at s i p, leg-at s j q);
-    pair = article .pairs (holdingAt s i) (holdingAt s j) (holding-in-range s l i p) (holding-in-range s l j q);
+    pair = article .pairs (accountIn s) (holdingAt s i) (holdingAt s j) (holding-in-range s l i p) (holding-in-range s l j q);
   }
 
   remains : (k : ℕ) → k < length (s .rows) → RemainderOf s k
@@ -91,7 +93,8 @@ module _ (one two : Bool) (s : Submission) where
     no-2 = q;
     no-3 = le-ltb _ _ (a .in-limits .holdings);
     no-9 = le-ltb _ _ (a .in-limits .lines);
-    holdings = λ k h. ranges-none _ _ (a .in-limits .each-row k h) (a .in-limits .prices k h);
+    no-24 = a .in-limits .valued;
+    holdings = λ k h. ranges-none _ _ _ (a .in-limits .each-row k h) (a .in-limits .prices k h);
     lines = λ k h. fits-none _ _ _ (keeps-fitting s (a .in-limits) (a .article) k h);
     pairs = covers-clear (priced s) (a .covered);
     totals = ap not (eq-eqb _ _ (a .totals));

@@ -20,7 +20,7 @@ use Rattle.article.proofs.Legs.{allowed-meets}
 use Rattle.pairing.specs.Pairing.{used}
 use Rattle.pairing.specs.declared.Line.{Line}
 use Rattle.pairing.proofs.Used.{used-append, used-take-le, used-one-long, used-one-short, used-one-other}
-use Rattle.proposal.specs.Submission.{Submission, PricedBook, priced, noLine, holdingAt, remainder}
+use Rattle.proposal.specs.Submission.{Submission, accountIn, PricedBook, priced, noLine, holdingAt, remainder}
 use Rattle.proposal.specs.Outcome.{pairFaults, lineFaults}
 use Rattle.proposal.specs.Demands.{Limits, KeepsLine, KeepsArticle}
 use Rattle.proposal.proofs.PricedBooks.{leg-at, value-at, holding-in-range, in-book, book-in}
@@ -101,9 +101,9 @@ module _ (b : PricedBook) (lines : List Line) where
 
 -- of what is submitted, within the limits
 module _ (s : Submission) (l : Limits s) where
-  pub may-exactly : (i j : ℕ) → i < length (s .rows) → j < length (s .rows) → (allowed (priced s .leg i) (priced s .leg j) ≡ true) ↔ MayPair (holdingAt s i) (holdingAt s j)
+  pub may-exactly : (i j : ℕ) → i < length (s .rows) → j < length (s .rows) → (allowed (priced s .leg i) (priced s .leg j) ≡ true) ↔ MayPair (accountIn s) (holdingAt s i) (holdingAt s j)
   may-exactly i j p q =
-      rw (leg-at s i p, leg-at s j q) (article .pairs (holdingAt s i) (holdingAt s j) (holding-in-range s l i p) (holding-in-range s l j q) .permitted)
+      rw (leg-at s i p, leg-at s j q) (article .pairs (accountIn s) (holdingAt s i) (holdingAt s j) (holding-in-range s l i p) (holding-in-range s l j q) .permitted)
 
   pub fitting-keeps : Fitting (priced s) (s .lines) → KeepsArticle s
   fitting-keeps f = record {

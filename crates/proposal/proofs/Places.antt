@@ -9,6 +9,7 @@ use Rattle.lists.proofs.Firsts.{None, Numbered, Listed, none-first, numbered-ap
 use Rattle.holding.proofs.Ranges.{row-listed}
 use Rattle.holding.specs.Holding.{rowFaults}
 use Rattle.holding.specs.declared.Row.{Row}
+use Rattle.holding.specs.declared.Account.{Account}
 use Rattle.article.specs.Answer.{Answer, makeAnswer}
 use Rattle.article.specs.declared.pair.Leg.{Leg}
 use Rattle.pairing.specs.declared.Line.{Line}
@@ -42,9 +43,9 @@ module _ (p : ℕ) where
   first-at ((true, m) ∷ fs) n e h w = rw (← e)
   first-at ((false, m) ∷ fs) n e h w = first-at fs n e h w
 
-pub holding-listed : (r : Row) (price : ℕ) → Listed (holdingFaults r price)
+pub holding-listed : (a : Account) (r : Row) (price : ℕ) → Listed (holdingFaults a r price)
 unfolding holdingFaults
-holding-listed r price = numbered-append _ (rowFaults r) _ (row-listed r) (omega arith, tt)
+holding-listed a r price = numbered-append _ (rowFaults a r) _ (row-listed a r) (omega arith, tt)
 
 pub pair-listed : (l s : Leg) (amount a b : ℕ) → Listed (pairFaults l s amount a b)
 unfolding pairFaults

@@ -3,15 +3,18 @@ use mathlib.Core.Path.{_≡_, refl, sym, ap, _∙_}
 use mathlib.Core.Bool.{Bool, false}
 use mathlib.Core.List.{List, _++_}
 use Prim.Native.Nat.{_≤_}
+use native.Mathlib.Omega.{arith}
 use lib.ListN.{length}
 use borrow.Author.Tests.{le-ltb, eq-eqb, ne-eqb}
 use Rattle.lists.specs.Choice.{firstOf}
-use Rattle.lists.proofs.Firsts.{Numbered, first-found, first-passed}
+use Rattle.lists.proofs.Firsts.{Numbered, first-append, first-of-none, first-found, first-passed}
+use Rattle.holding.specs.Holding.{headFaults, headFault}
 use Rattle.article.specs.Answer.{Answer, makeAnswer}
 use Rattle.pairing.specs.Pairing.{saving, pricedTotal}
 use Rattle.pairing.specs.declared.Line.{Line}
 use Rattle.proposal.specs.Submission.{Submission, PricedBook, termsOf, priced}
-use Rattle.proposal.specs.Outcome.{atPlace, totalsDiffer, totalsFaults, sizeFaults, fromBook, faults, firstFault, accepted, outcome}
+use Rattle.proposal.specs.Outcome.{atPlace, totalsDiffer, totalsFaults, sizeFaults, fromBook, fromHead, faults, firstFault, accepted, outcome}
+use Rattle.proposal.proofs.Places.{first-at, zero-at}
 use Rattle.proposal.proofs.Clear.{number}
 
 -- what a stage found of its refusals, with those that follow it
@@ -23,10 +26,22 @@ module _ (o : Answer) (stage rest : List (Bool × Answer)) (z : Answer) (so : o 
   passes n e = so ∙ first-passed number stage rest (makeAnswer 0 0 0) z n (sym (ap number found) ∙ e)
 
 module _ (one two : Bool) (s : Submission) where
-  -- lengths that fit: holdings, lines, pairs and totals decide
-  pub from-holdings : one ≡ false → two ≡ false → length (s .rows) ≤ 256 → length (s .lines) ≤ 512 → outcome one two s ≡ firstOf (fromBook s) (accepted (priced s) (s .lines))
+  -- lengths that fit: the valuation date, holdings, lines, pairs and totals decide
+  pub from-lengths : one ≡ false → two ≡ false → length (s .rows) ≤ 256 → length (s .lines) ≤ 512 → outcome one two s ≡ firstOf (fromHead s) (accepted (priced s) (s .lines))
   unfolding outcome faults sizeFaults atPlace firstOf
-  from-holdings p q h m = rw (p, le-ltb _ _ h, le-ltb _ _ m, q)
+  from-lengths p q h m = rw (p, le-ltb _ _ h, le-ltb _ _ m, q)
+
+-- 24 on the valuation date
+module _ (s : Submission) (o z : Answer) (so : o ≡ firstOf (fromHead s) z) where
+  pub unvalued : (headFault (s .head) ≡ 0 → ⊥) → o ≡ makeAnswer (headFault (s .head)) 0 0
+  unfolding headFault
+  unvalued h = so ∙ first-append (atPlace 0 (headFaults (s .head))) (fromBook s) z ∙ first-at 0 (headFaults (s .head)) _ refl h _
+
+  pub valued : headFault (s .head) ≡ 0 → o ≡ firstOf (fromBook s) z
+  unfolding headFault
+  valued e =
+      so ∙ first-append (atPlace 0 (headFaults (s .head))) (fromBook s) z
+      ∙ first-of-none (atPlace 0 (headFaults (s .head))) _ (zero-at 0 (headFaults (s .head)) (unfold headFaults in (omega arith, tt)) e)
 
 -- 17 at the end
 module _ (b : PricedBook) (lines : List Line) (o z : Answer) (so : o ≡ firstOf (totalsFaults b lines) z) where

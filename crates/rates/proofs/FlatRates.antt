@@ -6,9 +6,9 @@ use native.Mathlib.Nat.{mul-le-mul-right}
 use native.Mathlib.Omega.{arith}
 use Rattle.lists.proofs.Entries.{bounded}
 use lib.ListN.{getD, List·getD-map}
-use Rattle.article.specs.Rate.{percents, flatRate}
+use Rattle.rates.specs.Rate.{percents, flatRate}
 
--- the table as src/rate.rt has it
+-- the table as src/lib.rt has it
 abbrev pub table : List (List ℕ)
 table =
     (1460 ∷ 1460 ∷ 2920 ∷ 5840 ∷ 5840 ∷ [])
@@ -42,3 +42,10 @@ percent-high (suc (suc class)) at = omega arith
 pub flat-high : (class period : ℕ) → flatRate class period ≤ 7300
 unfolding flatRate
 flat-high class period = mul-le-mul-right 1460 (percent-high class (period - 1))
+
+-- and in period 1 none is above 2
+pub first-high : (class : ℕ) → flatRate class 1 ≤ 2920
+unfolding flatRate percents
+first-high zero = omega arith
+first-high (suc zero) = omega arith
+first-high (suc (suc class)) = omega arith

@@ -1,35 +1,74 @@
--- The period of a term between two ends. Assumes nothing.
+-- The period of a term between two ends, and that there are five. Assumes nothing.
 use mathlib.Core.Path.{_≡_}
-use mathlib.Core.Bool.{Bool, cond}
+use mathlib.Core.Bool.{Bool, true, false, cond}
 use Prim.Native.Nat.{ℕ, _+_, _≤_, _<_}
 use native.Mathlib.Omega.{arith}
-use borrow.Author.Tests.{le-ltb, lt-ltb}
+use borrow.Author.Tests.{le-ltb, lt-ltb, ltb-false}
 use Rattle.lists.specs.Choice.{count}
-use Rattle.article.specs.Rate.{longerThan, periodOf}
+use Rattle.lists.proofs.Tests.{by-test, either-way}
+use Rattle.dates.specs.Calendar.{anniversary}
+use Rattle.dates.proofs.Anniversaries.{anniversary-grows}
+use Rattle.holding.specs.declared.Account.{Account}
+use Rattle.rates.specs.Rate.{longerThan, periodOf}
+use Rattle.rates.specs.RateTable.{Periods}
 
-module _ (d : ℕ) where
+module _ (a : Account) (m : ℕ) where
+  -- the end at n years
+  abbrev end : ℕ → ℕ
+  end = anniversary (a .date)
+
+  pub over : (n : ℕ) → end n < m → longerThan a m n ≡ true
+  unfolding longerThan
+  over n = lt-ltb (end n) m
+
+  pub up-to : (n : ℕ) → m ≤ end n → longerThan a m n ≡ false
+  unfolding longerThan
+  up-to n = le-ltb (end n) m
+
+  -- a term over more years is over fewer, and one up to fewer is up to more
+  over-fewer : (n k : ℕ) → n < k → end k < m → longerThan a m n ≡ true
+  over-fewer n k l h = over n (omega (arith, anniversary-grows (a .date) n k l))
+
+  up-to-more : (n k : ℕ) → n < k → m ≤ end n → longerThan a m k ≡ false
+  up-to-more n k l h = up-to k (omega (arith, anniversary-grows (a .date) n k l))
+
   -- one more than how many of the ends at 1, 3, 7 and 11 years the term is over
-  ends : {a b c e : Bool} → longerThan d 1 ≡ a → longerThan d 3 ≡ b → longerThan d 7 ≡ c → longerThan d 11 ≡ e
-      → periodOf d ≡ 1 + (cond a 1 0 + (cond b 1 0 + (cond c 1 0 + (cond e 1 0 + 0))))
+  ends : {p q r s : Bool} → longerThan a m 1 ≡ p → longerThan a m 3 ≡ q → longerThan a m 7 ≡ r → longerThan a m 11 ≡ s
+      → periodOf a m ≡ 1 + (cond p 1 0 + (cond q 1 0 + (cond r 1 0 + (cond s 1 0 + 0))))
   unfolding periodOf count
   ends p q r s = λ i. 1 + (cond (p i) 1 0 + (cond (q i) 1 0 + (cond (r i) 1 0 + (cond (s i) 1 0 + 0))))
 
-  pub period-1 : d ≤ 365 → periodOf d ≡ 1
-  unfolding longerThan
-  period-1 h = ends (le-ltb 365 d h) (le-ltb 1095 d (omega arith)) (le-ltb 2555 d (omega arith)) (le-ltb 4015 d (omega arith))
+  pub period-1 : m ≤ end 1 → periodOf a m ≡ 1
+  period-1 h = ends (up-to 1 h) (up-to-more 1 3 (omega arith) h) (up-to-more 1 7 (omega arith) h) (up-to-more 1 11 (omega arith) h)
 
-  pub period-2 : 365 < d → d ≤ 1095 → periodOf d ≡ 2
-  unfolding longerThan
-  period-2 l h = ends (lt-ltb 365 d l) (le-ltb 1095 d h) (le-ltb 2555 d (omega arith)) (le-ltb 4015 d (omega arith))
+  pub period-2 : end 1 < m → m ≤ end 3 → periodOf a m ≡ 2
+  period-2 l h = ends (over 1 l) (up-to 3 h) (up-to-more 3 7 (omega arith) h) (up-to-more 3 11 (omega arith) h)
 
-  pub period-3 : 1095 < d → d ≤ 2555 → periodOf d ≡ 3
-  unfolding longerThan
-  period-3 l h = ends (lt-ltb 365 d (omega arith)) (lt-ltb 1095 d l) (le-ltb 2555 d h) (le-ltb 4015 d (omega arith))
+  pub period-3 : end 3 < m → m ≤ end 7 → periodOf a m ≡ 3
+  period-3 l h = ends (over-fewer 1 3 (omega arith) l) (over 3 l) (up-to 7 h) (up-to-more 7 11 (omega arith) h)
 
-  pub period-4 : 2555 < d → d ≤ 4015 → periodOf d ≡ 4
-  unfolding longerThan
-  period-4 l h = ends (lt-ltb 365 d (omega arith)) (lt-ltb 1095 d (omega arith)) (lt-ltb 2555 d l) (le-ltb 4015 d h)
+  pub period-4 : end 7 < m → m ≤ end 11 → periodOf a m ≡ 4
+  period-4 l h = ends (over-fewer 1 7 (omega arith) l) (over-fewer 3 7 (omega arith) l) (over 7 l) (up-to 11 h)
 
-  pub period-5 : 4015 < d → periodOf d ≡ 5
+  pub period-5 : end 11 < m → periodOf a m ≡ 5
+  period-5 l = ends (over-fewer 1 11 (omega arith) l) (over-fewer 3 11 (omega arith) l) (over-fewer 7 11 (omega arith) l) (over 11 l)
+
+  -- the page's periods
+  pub periods : Periods a m
+  periods = record { first = period-1; second = period-2; third = period-3; fourth = period-4; fifth = period-5 }
+
+  -- there are five
+  pub period-low : periodOf a m ≤ 5
+  unfolding periodOf count
+  period-low =
+      let one : (n : ℕ) → cond (longerThan a m n) 1 0 ≤ 1 = λ n. by-test (_≤ 1) (longerThan a m n) (λ _. omega arith) (λ _. omega arith) in
+      omega (arith, one 1, one 3, one 7, one 11)
+
+  -- the first is up to a year, and no other is
+  pub first-only : periodOf a m ≡ 1 → longerThan a m 1 ≡ false
+  unfolding periodOf count
+  first-only e = either-way (longerThan a m 1) (λ t. absurd (omega (arith, rw t at e))) (λ f. f)
+
+  pub not-first : (periodOf a m ≡ 1 → ⊥) → longerThan a m 1 ≡ true
   unfolding longerThan
-  period-5 l = ends (lt-ltb 365 d (omega arith)) (lt-ltb 1095 d (omega arith)) (lt-ltb 2555 d (omega arith)) (lt-ltb 4015 d l)
+  not-first h = either-way (longerThan a m 1) (λ t. t) (λ f. absurd (h (period-1 (ltb-false _ _ f))))

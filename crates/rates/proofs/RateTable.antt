@@ -2,67 +2,86 @@
 use mathlib.Core.Path.{_≡_, refl, ap, _∙_}
 use Prim.Native.Nat.{ℕ, _*_, _/_, _≤_, _<_}
 use native.Mathlib.Omega.{arith}
-use Rattle.article.proofs.Periods.{period-1, period-2, period-3, period-4, period-5}
-use Rattle.article.proofs.Terms.{within-year, over-year, below-twenty, from-twenty}
-use Rattle.article.specs.Rate.{periodOf, percents, flatRate, bondRate, stripRate, kindRate, classOf, rateAt, rateOf}
-use Rattle.article.specs.Article.{Rates, RateTable}
+use Rattle.dates.specs.Calendar.{anniversary, daysBetween}
+use Rattle.dates.proofs.Anniversaries.{anniversary-grows}
+use Rattle.holding.specs.declared.Account.{Account}
 use Rattle.holding.specs.declared.Kind.{Kind}
 use Rattle.holding.specs.declared.Kind.the-variants.{Bond, Coupon, Residual}
 use Rattle.holding.specs.declared.Issuer.{Issuer}
 use Rattle.holding.specs.declared.Holding.{Holding}
-
--- a bond's rate in a period over a year
-flat : (d p : ℕ) → 365 < d → periodOf d ≡ p → (class : ℕ) → bondRate class d ≡ flatRate class p
-flat d p h e class = over-year class d h ∙ ap (flatRate class) e
-
-fraction : (d : ℕ) → d ≤ 365 → (class : ℕ) → bondRate class d ≡ flatRate class 1 * d / 365
-fraction d h class = within-year class d h ∙ ap (λ (p : ℕ). flatRate class p * d / 365) (period-1 d h)
+use Rattle.rates.specs.Rate.{periodOf, percents, flatRate, bondRate, stripRate, kindRate, classOf, rateAt, rateOf}
+use Rattle.rates.specs.RateTable.{Rates, RateTable}
+use Rattle.rates.proofs.Periods.{over, up-to, period-1, period-2, period-3, period-4, period-5}
+use Rattle.rates.proofs.Terms.{within-one, over-one, below-twenty, from-twenty}
 
 -- what is no bond has a strip's rate
-strip : (k : Kind) (bond d : ℕ) → (k ≡ Bond → ⊥) → kindRate k bond d ≡ stripRate bond d
+strip : (k : Kind) (bond : ℕ) (a : Account) (m : ℕ) → (k ≡ Bond → ⊥) → kindRate k bond a m ≡ stripRate bond a m
 unfolding kindRate
-strip Bond bond d f = absurd (f refl)
-strip Coupon bond d f = refl
-strip Residual bond d f = refl
+strip Bond bond a m f = absurd (f refl)
+strip Coupon bond a m f = refl
+strip Residual bond a m f = refl
 
-module _ (h : Holding) where
-  of-bond : {i : Issuer} {a : ℕ} → bondRate (classOf i) (h .days) ≡ a → h .issuer ≡ i → h .kind ≡ Bond → rateOf h ≡ a
+module _ (a : Account) (h : Holding) where
+  abbrev m : ℕ
+  m = h .maturity
+
+  abbrev end : ℕ → ℕ
+  end = anniversary (a .date)
+
+  -- a bond's rate up to a year, and in a period over a year
+  fraction : m ≤ end 1 → (class : ℕ) → bondRate class a m ≡ flatRate class 1 * daysBetween (a .date) m / 365
+  fraction l class =
+      within-one class a m (up-to a m 1 l)
+      ∙ ap (λ (p : ℕ). flatRate class p * daysBetween (a .date) m / 365) (period-1 a m l)
+
+  flat : (p : ℕ) → end 1 < m → periodOf a m ≡ p → (class : ℕ) → bondRate class a m ≡ flatRate class p
+  flat p l e class = over-one class a m (over a m 1 l) ∙ ap (flatRate class) e
+
+  of-bond : {i : Issuer} {x : ℕ} → bondRate (classOf i) a m ≡ x → h .issuer ≡ i → h .kind ≡ Bond → rateOf a h ≡ x
   unfolding rateOf rateAt kindRate
   of-bond p e k = rw (e, k) p
 
-  of-strip : {i : Issuer} {a b : ℕ} → bondRate (classOf i) (h .days) ≡ a → stripRate a (h .days) ≡ b → h .issuer ≡ i → (h .kind ≡ Bond → ⊥) → rateOf h ≡ b
+  of-strip : {i : Issuer} {x y : ℕ} → bondRate (classOf i) a m ≡ x → stripRate x a m ≡ y → h .issuer ≡ i → (h .kind ≡ Bond → ⊥) → rateOf a h ≡ y
   unfolding rateOf rateAt
-  of-strip p q e k = strip (h .kind) _ (h .days) k ∙ rw (e, p) q
+  of-strip p q e k = strip (h .kind) _ a m k ∙ rw (e, p) q
 
   -- a row from the rates of the bonds
-  rates : {a b c d : ℕ} → bondRate 0 (h .days) ≡ a → stripRate a (h .days) ≡ b → bondRate 1 (h .days) ≡ c → stripRate c (h .days) ≡ d → Rates h a b c d
+  rates : {x y z w : ℕ} → bondRate 0 a m ≡ x → stripRate x a m ≡ y → bondRate 1 a m ≡ z → stripRate z a m ≡ w → Rates a h x y z w
   rates p q r s = record {
-    canada-bond = of-bond p;
-    canada-strip = of-strip p q;
-    province-bond = λ _. of-bond r;
-    province-strip = λ _. of-strip r s;
-    us-bond = of-bond p;
-    us-strip = of-strip p q;
-    gb-bond = of-bond p;
-    gb-strip = of-strip p q;
+    of-canada-bond = of-bond p;
+    of-canada-strip = of-strip p q;
+    of-province-bond = λ _. of-bond r;
+    of-province-strip = λ _. of-strip r s;
+    of-us-bond = of-bond p;
+    of-us-strip = of-strip p q;
+    of-gb-bond = of-bond p;
+    of-gb-strip = of-strip p q;
   }
 
   -- a row over a year and below 20 years
-  short : (p : ℕ) → 365 < h .days → h .days < 7300 → periodOf (h .days) ≡ p → Rates h (flatRate 0 p) (flatRate 0 p * 3 / 2) (flatRate 1 p) (flatRate 1 p * 3 / 2)
-  short p l m e = rates (flat _ p l e 0) (below-twenty _ _ m) (flat _ p l e 1) (below-twenty _ _ m)
+  short : (p : ℕ) → end 1 < m → m < end 20 → periodOf a m ≡ p → Rates a h (flatRate 0 p) (flatRate 0 p * 3 / 2) (flatRate 1 p) (flatRate 1 p * 3 / 2)
+  short p l b e = rates (flat p l e 0) (below-twenty _ a m b) (flat p l e 1) (below-twenty _ a m b)
 
-  pub rate-table : RateTable h
+  -- a term over more than a year is over one, and one up to fewer than 20 is below 20
+  after-1 : (n : ℕ) → 1 < n → end n < m → end 1 < m
+  after-1 n k l = omega (arith, anniversary-grows (a .date) 1 n k)
+
+  before-20 : (n : ℕ) → n < 20 → m ≤ end n → m < end 20
+  before-20 n k b = omega (arith, anniversary-grows (a .date) n 20 k)
+
+  pub rate-table : RateTable a h
   unfolding flatRate percents
   rate-table =
-      let d = h .days in
       record {
-        row-1 = λ m.
-            rates (fraction d m 0 ∙ omega arith) (below-twenty _ d (omega arith) ∙ omega arith) (fraction d m 1 ∙ omega arith) (below-twenty _ d (omega arith) ∙ omega arith);
-        row-2 = λ l m. short 2 l (omega arith) (period-2 d l m);
-        row-3 = λ l m. short 3 (omega arith) (omega arith) (period-3 d l m);
-        row-4 = λ l m. short 4 (omega arith) (omega arith) (period-4 d l m);
-        row-5-below = λ l m. short 5 (omega arith) m (period-5 d l);
-        row-5-from = λ m.
-            let p = period-5 d (omega arith) in
-            rates (flat d 5 (omega arith) p 0) (from-twenty _ d m) (flat d 5 (omega arith) p 1) (from-twenty _ d m);
+        row-1 = λ b.
+            let low = before-20 1 (omega arith) b in
+            rates (fraction b 0 ∙ omega arith) (below-twenty _ a m low ∙ omega arith) (fraction b 1 ∙ omega arith) (below-twenty _ a m low ∙ omega arith);
+        row-2 = λ l b. short 2 l (before-20 3 (omega arith) b) (period-2 a m l b);
+        row-3 = λ l b. short 3 (after-1 3 (omega arith) l) (before-20 7 (omega arith) b) (period-3 a m l b);
+        row-4 = λ l b. short 4 (after-1 7 (omega arith) l) (before-20 11 (omega arith) b) (period-4 a m l b);
+        row-5-below = λ l b. short 5 (after-1 11 (omega arith) l) b (period-5 a m l);
+        row-5-from = λ b.
+            let l : end 11 < m = omega (arith, anniversary-grows (a .date) 11 20 (omega arith)) in
+            let over-11 = flat 5 (after-1 11 (omega arith) l) (period-5 a m l) in
+            rates (over-11 0) (from-twenty _ a m b) (over-11 1) (from-twenty _ a m b);
       }

@@ -1,71 +1,72 @@
 -- Laws of a rate: none of a record within the ranges is above the highest, and each is even, so that half the sum of two is exact. Assumes nothing.
 use mathlib.Core.Path.{_≡_}
+use mathlib.Core.Bool.{true}
 use mathlib.Core.List.{[]}
-use Prim.Native.Nat.{ℕ, _+_, _-_, _*_, _≤_}
+use Prim.Native.Nat.{ℕ, _-_, _*_, _≤_}
+use native.Mathlib.Nat.{mul-le-mul}
 use native.Mathlib.Omega.{arith}
-use lib.Dec.{ltb}
 use lib.ListN.{getD}
 use borrow.Author.Tests.{ltb-false}
 use Rattle.lists.proofs.Tests.{by-test}
-use Rattle.article.proofs.FlatRates.{flat-high}
-use Rattle.article.proofs.Terms.{small}
-use Rattle.article.specs.Rate.{longerThan, atLeast, periodOf, percents, flatRate, bondRate, stripRate, kindRate, classOf, rateAt, rateOf}
-use Rattle.article.specs.Pair.{ruleRate, rateLimit}
-use Rattle.holding.specs.Holding.{InRange}
+use Rattle.dates.specs.Calendar.{isDate, daysBetween}
+use Rattle.dates.proofs.Anniversaries.{within-year}
+use Rattle.holding.specs.Holding.{rowOf, InRange}
+use Rattle.holding.specs.declared.Account.{Account}
 use Rattle.holding.specs.declared.Kind.{Kind}
 use Rattle.holding.specs.declared.Kind.the-variants.{Bond, Coupon, Residual}
 use Rattle.holding.specs.declared.Holding.{Holding}
-use Rattle.article.specs.declared.pair.Rule.the-variants.{HalfSum}
+use Rattle.rates.specs.Rate.{longerThan, atLeast, periodOf, percents, flatRate, bondRate, stripRate, kindRate, classOf, rateAt, rateOf}
+use Rattle.rates.proofs.FlatRates.{flat-high, first-high}
+use Rattle.rates.proofs.Periods.{period-1}
 
 -- n times a whole number
 abbrev Times : ℕ → ℕ → Type 0
 Times n x = (k : ℕ) × (x ≡ n * k)
 
-bond-times : (class d : ℕ) → Times 4 (bondRate class d)
-unfolding bondRate flatRate
-bond-times class d =
-    let percent = getD (getD percents class []) (periodOf d - 1) 0 in
-    by-test (Times 4) (longerThan d 1) (λ _. (percent * 365, omega arith)) (λ _. (percent * d, omega arith))
+module _ (a : Account) (m : ℕ) where
+  bond-times : (class : ℕ) → Times 4 (bondRate class a m)
+  unfolding bondRate flatRate
+  bond-times class =
+      let percent = getD (getD percents class []) (periodOf a m - 1) 0 in
+      by-test (Times 4) (longerThan a m 1) (λ _. (percent * 365, omega arith)) (λ _. (percent * daysBetween (a .date) m, omega arith))
 
-strip-even : (bond d : ℕ) → Times 4 bond → Times 2 (stripRate bond d)
-unfolding stripRate
-strip-even bond d (k, e) = by-test (Times 2) (atLeast d 20) (λ _. (6 * k, omega arith)) (λ _. (3 * k, omega arith))
+  strip-even : (bond : ℕ) → Times 4 bond → Times 2 (stripRate bond a m)
+  unfolding stripRate
+  strip-even bond (k, e) = by-test (Times 2) (atLeast a m 20) (λ _. (6 * k, omega arith)) (λ _. (3 * k, omega arith))
 
-kind-even : (kind : Kind) (bond d : ℕ) → Times 4 bond → Times 2 (kindRate kind bond d)
-unfolding kindRate
-kind-even Bond bond d (k, e) = (2 * k, omega arith)
-kind-even Coupon bond d t = strip-even bond d t
-kind-even Residual bond d t = strip-even bond d t
+  kind-even : (kind : Kind) (bond : ℕ) → Times 4 bond → Times 2 (kindRate kind bond a m)
+  unfolding kindRate
+  kind-even Bond bond (k, e) = (2 * k, omega arith)
+  kind-even Coupon bond t = strip-even bond t
+  kind-even Residual bond t = strip-even bond t
 
-rate-even : (h : Holding) → Times 2 (rateOf h)
-unfolding rateOf rateAt
-rate-even h = kind-even (h .kind) (bondRate (classOf (h .issuer)) (h .days)) (h .days) (bond-times (classOf (h .issuer)) (h .days))
+  -- between two dates a year has at most 366 days, and up to a year no bond is above 2 percent
+  bond-high : (class : ℕ) → isDate (a .date) ≡ true → isDate m ≡ true → bondRate class a m ≤ 7300
+  unfolding bondRate longerThan
+  bond-high class d e =
+      by-test (_≤ 7300) (longerThan a m 1) (λ _. flat-high class (periodOf a m))
+      (λ t.
+      let up-to-1 = ltb-false _ m t in
+      let flat : flatRate class (periodOf a m) ≤ 2920 = rw (period-1 a m up-to-1) (first-high class) in
+      omega (arith, mul-le-mul flat (within-year (a .date) m d e up-to-1)))
 
--- half the sum of two holdings' rates is exact
-pub half-exact : (l s : Holding) → 2 * ruleRate HalfSum (rateOf l) (rateOf s) ≡ rateOf l + rateOf s
-unfolding ruleRate
-half-exact l s =
-    let (k, e) = rate-even l in
-    let (m, f) = rate-even s in
-    omega arith
+  strip-high : (bond : ℕ) → bond ≤ 7300 → stripRate bond a m ≤ 21900
+  unfolding stripRate
+  strip-high bond h = by-test (_≤ 21900) (atLeast a m 20) (λ _. omega arith) (λ _. omega arith)
 
--- in period 1 the days are at most the year's
-pub bond-high : (class d : ℕ) → bondRate class d ≤ 7300
-unfolding bondRate longerThan
-bond-high class d =
-    by-test (_≤ 7300) (ltb (1 * 365) d) (λ _. flat-high class (periodOf d)) (λ e. omega (arith, small class d (ltb-false 365 d e)))
+  kind-high : (kind : Kind) (bond : ℕ) → bond ≤ 7300 → kindRate kind bond a m ≤ 21900
+  unfolding kindRate
+  kind-high Bond bond h = omega arith
+  kind-high Coupon bond h = strip-high bond h
+  kind-high Residual bond h = strip-high bond h
 
-strip-high : (bond d : ℕ) → bond ≤ 7300 → stripRate bond d ≤ rateLimit
-unfolding stripRate
-strip-high bond d h = by-test (_≤ rateLimit) (atLeast d 20) (λ _. omega arith) (λ _. omega arith)
+module _ (a : Account) (h : Holding) where
+  -- each rate is even
+  pub rate-even : (k : ℕ) × (rateOf a h ≡ 2 * k)
+  unfolding rateOf rateAt
+  rate-even = kind-even a (h .maturity) (h .kind) _ (bond-times a (h .maturity) (classOf (h .issuer)))
 
-kind-high : (kind : Kind) (bond d : ℕ) → bond ≤ 7300 → kindRate kind bond d ≤ rateLimit
-unfolding kindRate
-kind-high Bond bond d h = omega arith
-kind-high Coupon bond d h = strip-high bond d h
-kind-high Residual bond d h = strip-high bond d h
-
--- no rate of a record within the ranges is above the highest
-pub rate-high : (h : Holding) → InRange h → rateOf h ≤ rateLimit
-unfolding rateOf rateAt
-rate-high h _ = kind-high (h .kind) (bondRate (classOf (h .issuer)) (h .days)) (h .days) (bond-high (classOf (h .issuer)) (h .days))
+  -- no rate of a record within the ranges is above the highest
+  pub rate-high : InRange a h → rateOf a h ≤ 21900
+  unfolding rateOf rateAt rowOf
+  rate-high r = kind-high a (h .maturity) (h .kind) _ (bond-high a (h .maturity) (classOf (h .issuer)) (r .valued) (r .ranges .maturity .date))

@@ -1,29 +1,26 @@
 -- What a bond's rate is on either side of a year, and a strip's on either side of 20 years. Assumes nothing.
 use mathlib.Core.Path.{_≡_}
+use mathlib.Core.Bool.{true, false}
 use Prim.Native.Nat.{ℕ, _*_, _/_, _≤_, _<_}
-use native.Mathlib.Nat.{mul-le-mul}
-use borrow.Author.Tests.{le-ltb, lt-ltb, le-leb, lt-leb}
-use Rattle.article.proofs.FlatRates.{flat-high}
-use Rattle.article.specs.Rate.{longerThan, atLeast, periodOf, flatRate, bondRate, stripRate}
+use borrow.Author.Tests.{le-leb, lt-leb}
+use Rattle.dates.specs.Calendar.{anniversary, daysBetween}
+use Rattle.holding.specs.declared.Account.{Account}
+use Rattle.rates.specs.Rate.{longerThan, atLeast, periodOf, flatRate, bondRate, stripRate}
 
-module _ (class d : ℕ) where
-  pub within-year : d ≤ 365 → bondRate class d ≡ flatRate class (periodOf d) * d / 365
-  unfolding bondRate longerThan
-  within-year h = rw (le-ltb 365 d h)
+module _ (class : ℕ) (a : Account) (m : ℕ) where
+  pub within-one : longerThan a m 1 ≡ false → bondRate class a m ≡ flatRate class (periodOf a m) * daysBetween (a .date) m / 365
+  unfolding bondRate
+  within-one e = rw e
 
-  pub over-year : 365 < d → bondRate class d ≡ flatRate class (periodOf d)
-  unfolding bondRate longerThan
-  over-year h = rw (lt-ltb 365 d h)
+  pub over-one : longerThan a m 1 ≡ true → bondRate class a m ≡ flatRate class (periodOf a m)
+  unfolding bondRate
+  over-one e = rw e
 
-  -- within a year the product is small
-  pub small : d ≤ 365 → flatRate class (periodOf d) * d ≤ 7300 * 365
-  small h = mul-le-mul (flat-high class (periodOf d)) h
-
-module _ (bond d : ℕ) where
-  pub below-twenty : d < 7300 → stripRate bond d ≡ bond * 3 / 2
+module _ (bond : ℕ) (a : Account) (m : ℕ) where
+  pub below-twenty : m < anniversary (a .date) 20 → stripRate bond a m ≡ bond * 3 / 2
   unfolding stripRate atLeast
-  below-twenty h = rw (lt-leb 7300 d h)
+  below-twenty h = rw (lt-leb _ m h)
 
-  pub from-twenty : 7300 ≤ d → stripRate bond d ≡ bond * 3
+  pub from-twenty : anniversary (a .date) 20 ≤ m → stripRate bond a m ≡ bond * 3
   unfolding stripRate atLeast
-  from-twenty h = rw (le-leb 7300 d h)
+  from-twenty h = rw (le-leb _ m h)

@@ -12,6 +12,7 @@ use Rattle.lists.proofs.Entries.{each-so}
 use Rattle.lists.proofs.Order.{ordered-below}
 use Rattle.lists.proofs.Tables.{length-to, getD-to, to-eq, to-back, take-to, front-at}
 use Rattle.article.specs.Answer.{Answer}
+use Rattle.holding.specs.declared.Head.{Head}
 use Rattle.columns.specs.Columns.{Columns, submission}
 use Rattle.ranking.specs.Ranking.{ranksBefore, rankingOf}
 use Rattle.proposal.specs.Submission.{Submission, bookOf, priced, remainder, margin, remaindersOf, marginsOf, ranked}
@@ -51,9 +52,9 @@ ranked-texts s f g h =
     let before = ranksBefore (margin (priced s) (s .lines)) in
     same-texts f g (ordered before n) (each-so (_< n) (λ k. f k ≡ g k) h (ordered before n) (ordered-below before n))
 
-module _ (c : Columns) (before after : Scratch) (worked : Worked c before after) where
+module _ (head : Head) (c : Columns) (before after : Scratch) (worked : Worked head c before after) where
   abbrev s : Submission
-  s = submission c
+  s = submission head c
 
   line : (k : ℕ) → k < priced s .count → judgedLine (after .left) (after .margins) k ≡ bookLine (priced s) (s .lines) k
   unfolding judgedLine bookLine remaindersOf marginsOf
@@ -67,9 +68,9 @@ module _ (c : Columns) (before after : Scratch) (worked : Worked c before after)
   worked-lines count e h =
       rw (worked .ranking, first-read count (ranked (priced s) (s .lines)) (before .ranks) (ranked-length s ∙ sym e) h) (ranked-texts s _ _ line)
 
-pub report-judged : (c : Columns) (before after : Scratch) (v : Verdict) (count : ℕ) → Judges false c before after v → count ≡ length (submission c .rows)
-    → reportOf v count (after .left) (after .margins) (after .ranks) ≡ printedOf (submission c) (outcomeIn false c)
+pub report-judged : (head : Head) (c : Columns) (before after : Scratch) (v : Verdict) (count : ℕ) → Judges false head c before after v → count ≡ length (submission head c .rows)
+    → reportOf v count (after .left) (after .margins) (after .ranks) ≡ printedOf (submission head c) (outcomeIn false head c)
 unfolding reportOf printedOf
-report-judged c before after v count judges e =
+report-judged head c before after v count judges e =
     let few : answerOf v .number ≡ 0 → count ≤ 256 = λ z. rw e (judges .keeps .exactly .0 z .1 .in-limits .holdings) in
-    rw (← judges .answer) (same-lines (answerOf v) _ _ _ _ (λ z. worked-lines c before after (judges .worked z) count e (few z)))
+    rw (← judges .answer) (same-lines (answerOf v) _ _ _ _ (λ z. worked-lines head c before after (judges .worked z) count e (few z)))

@@ -1,6 +1,6 @@
 -- The check phase by phase: what each phase found decides, or hands on to the next. Assumes nothing.
 use mathlib.Core.Path.{_≡_, sym, ap, subst, _∙_}
-use mathlib.Core.Bool.{Bool}
+use mathlib.Core.Bool.{Bool, true}
 use mathlib.Core.List.{List, [], _∷_, _++_, map}
 use Prim.Native.Nat.{ℕ, _+_, _*_, _/_, _≤_, _<_}
 use native.Mathlib.Omega.{arith}
@@ -11,9 +11,16 @@ use Rattle.lists.specs.Tables.{Each, listTo, front, sumTo}
 use Rattle.lists.proofs.Entries.{each-so, each-parts, each-back}
 use Rattle.lists.proofs.Sums.{sumTo-eq}
 use Rattle.lists.proofs.Tables.{length-to, getD-to, to-eq, front-at, front-long, front-again}
-use Rattle.article.specs.Answer.{Answer}
+use Rattle.article.specs.Answer.{Answer, makeAnswer}
 use Rattle.article.specs.declared.pair.Leg.{Leg}
+use Rattle.dates.specs.Calendar.{isDate}
+use Rattle.holding.specs.Holding.{headFault, accountOf, headedOf}
 use Rattle.holding.specs.declared.Row.{Row}
+use Rattle.holding.specs.declared.Head.{Head}
+use Rattle.holding.specs.declared.Account.{Account}
+use Rattle.holding.specs.declared.Headed.{Headed}
+use Rattle.holding.specs.declared.Headed.the-variants.{For, NoAccount}
+use Rattle.holding.proofs.Heads.{head-valued, head-account, account-head, no-account}
 use Rattle.pairing.specs.Pairing.{pairUnits, saving, pricedTotal}
 use Rattle.ranking.specs.Ranking.{rankingOf}
 use Rattle.ranking.proofs.Ranking.{ranking-same}
@@ -23,12 +30,12 @@ use Rattle.columns.proofs.Columns.{column-entries}
 use Rattle.sizes.specs.Sizes.{entriesOf, differ, lengthFault}
 use Rattle.sizes.proofs.Sizes as sizes
 use Rattle.packed.specs.Packed.{Legs, LegsOf, Same, entry}
-use Rattle.proposal.specs.Submission.{Submission, PricedBook, bookOf, termsOf, priced, remainder, margin, remaindersOf, marginsOf, unitsOf, ranked, RoundedUp}
-use Rattle.proposal.specs.Outcome.{makeFault, faultAnswer, bookFaults, linesFaults, uncoveredPairs, totalsFaults, fromPairs, fromLines, fromBook, firstFault, accepted}
+use Rattle.proposal.specs.Submission.{Submission, accountIn, PricedBook, bookOf, termsOf, priced, remainder, margin, remaindersOf, marginsOf, unitsOf, ranked, RoundedUp}
+use Rattle.proposal.specs.Outcome.{makeFault, faultAnswer, bookFaults, linesFaults, uncoveredPairs, totalsFaults, fromPairs, fromLines, fromBook, fromHead, firstFault, accepted}
 use Rattle.proposal.specs.declared.Fault.{Fault}
 use Rattle.proposal.proofs.PricedBooks.{value-at}
 use Rattle.proposal.proofs.Clear.{book-numbered, lines-numbered, uncovered-numbered}
-use Rattle.proposal.proofs.Stages.{refuses, passes, from-holdings, totals-differ, totals-equal}
+use Rattle.proposal.proofs.Stages.{refuses, passes, from-lengths, unvalued, valued, totals-differ, totals-equal}
 use Rattle.positions.specs.Opens.{Opened, Opens}
 use Rattle.tally.specs.Lines.{LinesLent, takenLines, Walks, Takes}
 use Rattle.tally.specs.declared.Walked.{Walked}
@@ -44,12 +51,12 @@ long-enough : (n : ℕ) (columns : List (List ℕ)) → Each (λ c. length c ≡
 long-enough n columns h = each-so (λ c. length c ≡ 8 * n) (λ c. 8 * n ≤ length c) (λ c e. omega arith) columns h
 
 -- columns of holdings and of lines, the first of each by name
-module _ (two : Bool) (side : List ℕ) (rest : List (List ℕ)) (price long : List ℕ) (more : List (List ℕ)) where
+module _ (two : Bool) (head : Head) (side : List ℕ) (rest : List (List ℕ)) (price long : List ℕ) (more : List (List ℕ)) where
   abbrev c : Columns
   c = makeColumns (side ∷ rest) price (long ∷ more)
 
   abbrev s : Submission
-  s = submission c
+  s = submission head c
 
   abbrev b : PricedBook
   b = priced s
@@ -73,20 +80,20 @@ module _ (two : Bool) (side : List ℕ) (rest : List (List ℕ)) (price long : L
   count-is = rows-are
 
   -- a fault that is the outcome
-  refused-by : (f : Fault) {before after : Scratch} {r : Verdict} → (f .number ≡ 0 → ⊥) → outcomeIn two c ≡ faultAnswer f → r ≡ refusalOf f → Judges two c before after r
-  refused-by f h e g = rw g (refusal-judged two c _ _ f h e)
+  refused-by : (f : Fault) {before after : Scratch} {r : Verdict} → (f .number ≡ 0 → ⊥) → outcomeIn two head c ≡ faultAnswer f → r ≡ refusalOf f → Judges two head c before after r
+  refused-by f h e g = rw g (refusal-judged two head c _ _ f h e)
 
-  -- lengths that fit: the holdings decide
+  -- lengths that fit: the valuation date decides
   pub record Sized : Type 0 where
     pub few : n ≤ 256
     pub few-lines : length long / 8 ≤ 512
     pub each : Each (λ column. 8 * n ≤ length column) (side ∷ rest)
     pub prices : length price ≡ 8 * n
     pub each-line : Each (λ column. 8 * (length long / 8) ≤ length column) (long ∷ more)
-    pub next : outcomeIn two c ≡ firstOf (fromBook s) figures
+    pub next : outcomeIn two head c ≡ firstOf (fromHead s) figures
 
   module _ {number : ℕ} (found : number ≡ lengthFault (holdingSizes c) (lineSizes c) two) where
-    pub lengths-refused : {before after : Scratch} {r : Verdict} → (number ≡ 0 → ⊥) → r ≡ refusalOf (makeFault number 0 0) → Judges two c before after r
+    pub lengths-refused : {before after : Scratch} {r : Verdict} → (number ≡ 0 → ⊥) → r ≡ refusalOf (makeFault number 0 0) → Judges two head c before after r
     unfolding faultAnswer outcomeIn
     lengths-refused h =
         refused-by (makeFault number 0 0) h
@@ -104,32 +111,57 @@ module _ (two : Bool) (side : List ℕ) (rest : List (List ℕ)) (price long : L
           each = long-enough n (side ∷ rest) columns;
           prices = last .0;
           each-line = long-enough (length long / 8) (long ∷ more) (each-back (λ size. size ≡ 8 * (length long / 8)) length (long ∷ more) (fit .equal-lines));
-          next = from-holdings (differ (holdingSizes c) (lineSizes c)) two s (fit .alike) (fit .room) (omega (arith, rows-are, fit .few-holdings)) (omega (arith, lines-are, fit .few-lines));
+          next = from-lengths (differ (holdingSizes c) (lineSizes c)) two s (fit .alike) (fit .room) (omega (arith, rows-are, fit .few-holdings)) (omega (arith, lines-are, fit .few-lines));
         }
+
+  -- the account of a valuation date: the holdings decide
+  pub record Dated (a : Account) : Type 0 where
+    pub sized : Sized
+    pub account : a ≡ accountIn s
+    pub valued : isDate (a .date) ≡ true
+    pub next : outcomeIn two head c ≡ firstOf (fromBook s) figures
+
+  module _ (z : Sized) {headed : Headed} (found : headed ≡ headedOf head) where
+    pub head-refused : {number : ℕ} {before after : Scratch} {r : Verdict} → headed ≡ NoAccount → number ≡ headFault head → r ≡ refusalOf (makeFault number 0 0)
+        → Judges two head c before after r
+    unfolding faultAnswer submission
+    head-refused {number} none e =
+        let fault : number ≡ 0 → ⊥ = λ n. no-account (sym none ∙ found ∙ head-account head (sym e ∙ n)) in
+        refused-by (makeFault number 0 0) fault (unvalued s _ figures (z .next) (λ n. fault (e ∙ n)) ∙ ap (λ (n : ℕ). makeAnswer n 0 0) (sym e))
+
+    pub head-dated : {a : Account} → headed ≡ For a → Dated a
+    unfolding submission accountOf
+    head-dated {a} e =
+        let (none, account) = account-head head (sym found ∙ e) in
+        record { sized = z; account = account; valued = rw account (head-valued head none); next = valued s _ figures (z .next) none }
 
   -- a book without fault: the lines decide
   pub record Held (left₀ legs left : List ℕ) : Type 0 where
     pub sized : Sized
     pub room : n ≤ length left₀
-    pub opened : Opened (s .rows) (s .prices) left₀ legs left
-    pub next : outcomeIn two c ≡ firstOf (fromLines s) figures
+    pub opened : Opened (accountIn s) (s .rows) (s .prices) left₀ legs left
+    pub next : outcomeIn two head c ≡ firstOf (fromLines s) figures
 
-  module _ (z : Sized) {left₀ legs left : List ℕ} (room : n ≤ length left₀) {f : Fault} (opens : Opens (side ∷ rest) price left₀ legs left f) where
-    book-found : faultAnswer f ≡ firstFault (bookFaults (s .rows) (s .prices))
+  module _ {a : Account} (z : Dated a) {left₀ legs left : List ℕ} (room : n ≤ length left₀) {f : Fault} (opens : Opens a (side ∷ rest) price left₀ legs left f) where
+    -- the account that was opened is the submission's
+    opens-it : Opens (accountIn s) (side ∷ rest) price left₀ legs left f
+    opens-it = subst (λ (x : Account). Opens x (side ∷ rest) price left₀ legs left f) (z .account) opens
+
+    book-found : faultAnswer f ≡ firstFault (bookFaults (accountIn s) (s .rows) (s .prices))
     unfolding submission
-    book-found = opens .fault
+    book-found = opens-it .fault
 
-    pub book-refused : {before after : Scratch} {r : Verdict} → (f .number ≡ 0 → ⊥) → r ≡ refusalOf f → Judges two c before after r
+    pub book-refused : {before after : Scratch} {r : Verdict} → (f .number ≡ 0 → ⊥) → r ≡ refusalOf f → Judges two head c before after r
     unfolding faultAnswer
-    book-refused h = refused-by f h (refuses _ (bookFaults (s .rows) (s .prices)) (fromLines s) figures (z .next) _ book-found h)
+    book-refused h = refused-by f h (refuses _ (bookFaults (accountIn s) (s .rows) (s .prices)) (fromLines s) figures (z .next) _ book-found h)
 
     pub book-held : f .number ≡ 0 → Held left₀ legs left
     unfolding faultAnswer submission
     book-held e = record {
-      sized = z;
+      sized = z .sized;
       room = room;
-      opened = opens .opened e;
-      next = passes _ (bookFaults (s .rows) (s .prices)) (fromLines s) figures (z .next) _ book-found (book-numbered two two s) e;
+      opened = opens-it .opened e;
+      next = passes _ (bookFaults (accountIn s) (s .rows) (s .prices)) (fromLines s) figures (z .next) _ book-found (book-numbered two two s) e;
     }
 
   -- what is lent of such a book
@@ -187,7 +219,7 @@ module _ (two : Bool) (side : List ℕ) (rest : List (List ℕ)) (price long : L
 
     value-in : Same n (wordAt fifth) (b .value)
     unfolding entries
-    value-in k q = sym (value-at s k ∙ column-entries c .holding k q .value)
+    value-in k q = sym (value-at s k ∙ column-entries head c .holding k q .value)
 
     entries-are : entries price ≡ n
     unfolding entries
@@ -208,7 +240,7 @@ module _ (two : Bool) (side : List ℕ) (rest : List (List ℕ)) (price long : L
       unfolding submission
       walks = takes .walks b legs-of value-is
 
-      pub line-refused : {before after : Scratch} {r : Verdict} → (w .fault .number ≡ 0 → ⊥) → r ≡ refusalOf (w .fault) → Judges two c before after r
+      pub line-refused : {before after : Scratch} {r : Verdict} → (w .fault .number ≡ 0 → ⊥) → r ≡ refusalOf (w .fault) → Judges two head c before after r
       unfolding faultAnswer
       line-refused g = refused-by (w .fault) g (refuses _ (linesFaults b (s .lines)) (fromPairs s) figures (h .next) _ (walks .fault) g)
 
@@ -217,7 +249,7 @@ module _ (two : Bool) (side : List ℕ) (rest : List (List ℕ)) (price long : L
         unfolding takenLines
         all-taken = rw (eq-eqb _ _ e)
 
-        pub lines-next : outcomeIn two c ≡ firstOf (fromPairs s) figures
+        pub lines-next : outcomeIn two head c ≡ firstOf (fromPairs s) figures
         unfolding faultAnswer
         lines-next = passes _ (linesFaults b (s .lines)) (fromPairs s) figures (h .next) _ (walks .fault) (lines-numbered two two s) e
 
@@ -242,13 +274,13 @@ module _ (two : Bool) (side : List ℕ) (rest : List (List ℕ)) (price long : L
           pair-found : faultAnswer g ≡ firstFault (uncoveredPairs b)
           pair-found = finds .found b legs-of price-is
 
-          pub pair-refused : {before after : Scratch} {r : Verdict} → (g .number ≡ 0 → ⊥) → r ≡ refusalOf g → Judges two c before after r
+          pub pair-refused : {before after : Scratch} {r : Verdict} → (g .number ≡ 0 → ⊥) → r ≡ refusalOf g → Judges two head c before after r
           unfolding faultAnswer
           pair-refused q = refused-by g q (refuses _ (uncoveredPairs b) (totalsFaults b (s .lines)) figures lines-next _ pair-found q)
 
           -- the totals
           module _ (none : g .number ≡ 0) {total : ℕ} (totals : Totals price fifth total) where
-            next : outcomeIn two c ≡ firstOf (totalsFaults b (s .lines)) figures
+            next : outcomeIn two head c ≡ firstOf (totalsFaults b (s .lines)) figures
             unfolding faultAnswer
             next = passes _ (uncoveredPairs b) (totalsFaults b (s .lines)) figures lines-next _ pair-found (uncovered-numbered two two s) none
 
@@ -258,7 +290,7 @@ module _ (two : Bool) (side : List ℕ) (rest : List (List ℕ)) (price long : L
             saving-found : w .saving ≡ saving (termsOf b) (s .lines)
             saving-found = walks .saving ∙ rw all-taken
 
-            pub totals-refused : {before after : Scratch} {r : Verdict} → (total ≡ w .saving → ⊥) → r ≡ refusalOf (makeFault 17 0 0) → Judges two c before after r
+            pub totals-refused : {before after : Scratch} {r : Verdict} → (total ≡ w .saving → ⊥) → r ≡ refusalOf (makeFault 17 0 0) → Judges two head c before after r
             unfolding faultAnswer
             totals-refused q =
                 refused-by (makeFault 17 0 0) (λ z. omega arith) (totals-differ b (s .lines) _ figures next (λ z. q (total-found ∙ z ∙ sym saving-found)))
@@ -305,9 +337,9 @@ module _ (two : Bool) (side : List ℕ) (rest : List (List ℕ)) (price long : L
                   omega (arith, ap (λ (xs : List ℕ). length xs) (found .each), front-long (listTo n (leftMargin legs left′)) margins₀ (omega (arith, long)), q)
 
               pub all-judged : {ranks₀ ranks : List ℕ} {units cents : ℕ} → ranks ≡ front (rankingOf (entry margins) n) ranks₀ → total ≡ w .saving → units ≡ w .units + sum → RoundedUp units cents
-                  → Judges two c (makeScratch left₀ margins₀ ranks₀) (makeScratch left′ margins ranks) (Accepted units cents)
+                  → Judges two head c (makeScratch left₀ margins₀ ranks₀) (makeScratch left′ margins ranks) (Accepted units cents)
               all-judged {ranks₀} {units = units} {cents} p q u r =
-                  figures-judged two c _ _ units cents (totals-equal b (s .lines) _ figures next (sym total-found ∙ q ∙ saving-found)) (u ∙ units-are) r
+                  figures-judged two head c _ _ units cents (totals-equal b (s .lines) _ figures next (sym total-found ∙ q ∙ saving-found)) (u ∙ units-are) r
                   record {
                     remainders = remainders-are;
                     margins = found .each ∙ ap (λ (xs : List ℕ). front xs margins₀) listed;

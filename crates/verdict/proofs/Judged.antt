@@ -7,6 +7,7 @@ use lib.ListN.{length}
 use borrow.Author.Tests.{ne-eqb}
 use Rattle.ranking.proofs.Ranking.{ranking, ranking-length}
 use Rattle.article.specs.Answer.{Answer, makeAnswer}
+use Rattle.holding.specs.declared.Head.{Head}
 use Rattle.columns.specs.Columns.{Columns, submission, holdingSizes, lineSizes}
 use Rattle.sizes.specs.Sizes.{differ}
 use Rattle.proposal.specs.Submission.{Submission, priced, margin, unitsOf, ranked, InRankingOrder, centsOf, RoundedUp}
@@ -32,26 +33,26 @@ module _ (s : Submission) where
   unfolding ranked
   all-ranked = ranking (margin (priced s) (s .lines)) (priced s .count) .order
 
-module _ (two : Bool) (c : Columns) (before after : Scratch) where
-  pub refusal-judged : (f : Fault) → (f .number ≡ 0 → ⊥) → outcomeIn two c ≡ faultAnswer f → Judges two c before after (refusalOf f)
+module _ (two : Bool) (h : Head) (c : Columns) (before after : Scratch) where
+  pub refusal-judged : (f : Fault) → (f .number ≡ 0 → ⊥) → outcomeIn two h c ≡ faultAnswer f → Judges two h c before after (refusalOf f)
   unfolding faultAnswer verdictOf outcomeIn
-  refusal-judged f h e = record {
+  refusal-judged f n e = record {
     answer = sym e;
-    verdict = rw (e, ne-eqb (f .number) 0 h);
-    worked = λ z. absurd (h z);
-    order = all-ranked (submission c);
-    keeps = rw (← e) (demands (differ (holdingSizes c) (lineSizes c)) two (submission c));
+    verdict = rw (e, ne-eqb (f .number) 0 n);
+    worked = λ z. absurd (n z);
+    order = all-ranked (submission h c);
+    keeps = rw (← e) (demands (differ (holdingSizes c) (lineSizes c)) two (submission h c));
   }
 
-  pub figures-judged : (units cents : ℕ) → outcomeIn two c ≡ accepted (priced (submission c)) (submission c .lines) → units ≡ unitsOf (priced (submission c)) (submission c .lines)
-      → RoundedUp units cents → Worked c before after → Judges two c before after (Accepted units cents)
+  pub figures-judged : (units cents : ℕ) → outcomeIn two h c ≡ accepted (priced (submission h c)) (submission h c .lines) → units ≡ unitsOf (priced (submission h c)) (submission h c .lines)
+      → RoundedUp units cents → Worked h c before after → Judges two h c before after (Accepted units cents)
   unfolding accepted verdictOf outcomeIn
   figures-judged units cents e u r w =
-      let answered : makeAnswer 0 units cents ≡ outcomeIn two c = rw (rounded-once units cents (centsOf units) r (rounded units), u) (sym e) in
+      let answered : makeAnswer 0 units cents ≡ outcomeIn two h c = rw (rounded-once units cents (centsOf units) r (rounded units), u) (sym e) in
       record {
         answer = answered;
         verdict = rw (← answered);
         worked = λ _. w;
-        order = all-ranked (submission c);
-        keeps = rw answered (demands (differ (holdingSizes c) (lineSizes c)) two (submission c));
+        order = all-ranked (submission h c);
+        keeps = rw answered (demands (differ (holdingSizes c) (lineSizes c)) two (submission h c));
       }

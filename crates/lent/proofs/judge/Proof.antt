@@ -38,7 +38,7 @@ returns c =
     let p = q .before .before .before .before .before in
     let v = accepted c in
     let k = checked (v .before .before) in
-    accepted-checks _ _ (tested k .lists-too-short .ensures) (k .check .ensures) (v .verdict .given .1) (p .write-words .ensures) (q .write-words2 .ensures) (a .put-answer .ensures)
+    accepted-checks _ _ _ (tested k .lists-too-short .ensures) (k .check .ensures) (v .verdict .given .1) (p .write-words .ensures) (q .write-words2 .ensures) (a .put-answer .ensures)
 
 pub judge-spec : {M : Type 1} → statement M
 judge-spec =
@@ -51,12 +51,12 @@ judge-spec =
     let v = c .before .before .before in
     let k = checked (v .before .before) in
     unfold countIn entries two writtenLists in
-    remainder-room _ (lists (tested k)) (tested k .lists-too-short .ensures) (k .check .ensures) (v .verdict .given .1))
+    remainder-room _ _ (lists (tested k)) (tested k .lists-too-short .ensures) (k .check .ensures) (v .verdict .given .1))
     (λ c κs.
     let v = c .before .before .before .before .before .before .before .before in
     let k = checked (v .before .before) in
     unfold countIn entries two writtenLists in
-    ranking-room _ (lists (tested k)) (tested k .lists-too-short .ensures) (k .check .ensures) (v .verdict .given .1))
+    ranking-room _ _ (lists (tested k)) (tested k .lists-too-short .ensures) (k .check .ensures) (v .verdict .given .1))
     (λ _ _. tt)
     (λ c. c .before .before .before .before .before .before .before .before .before .before .before .write-words .kept .1 .1 .0)
     (λ c. c .before .before .before .before .before .before .write-words2 .kept .1 .1 .0)
@@ -77,4 +77,4 @@ judge-spec =
     let v = refused c in
     let k = checked (v .before .before) in
     unfold countIn entries two writtenLists in
-    refused-checks _ _ (tested k .lists-too-short .ensures) (k .check .ensures) (v .verdict2 .given .1) (c .before .before .put-answer2 .ensures)))
+    refused-checks _ _ _ (tested k .lists-too-short .ensures) (k .check .ensures) (v .verdict2 .given .1) (c .before .before .put-answer2 .ensures)))

@@ -11,12 +11,12 @@ use Rattle.positions.proofs.open.Statement.{statement}
 use Rattle.positions.proofs.open.Tie as tie
 
 abbrev Inv-loop : tie.InvT-loop
-Inv-loop side kind issuer days value price currency legs₀ left₀ n i₀ legs left i =
-    let columns = side ∷ kind ∷ issuer ∷ days ∷ value ∷ currency ∷ [] in
-    (n ≡ countIn columns) × Opening columns price legs₀ left₀ legs left i
+Inv-loop account side kind issuer maturity value price currency legs₀ left₀ n i₀ legs left i =
+    let columns = side ∷ kind ∷ issuer ∷ maturity ∷ value ∷ currency ∷ [] in
+    (n ≡ countIn columns) × Opening account columns price legs₀ left₀ legs left i
 
 abbrev μ-loop : tie.MeasureT-loop
-μ-loop side kind issuer days value price currency legs₀ left₀ n i₀ legs left i = n - i
+μ-loop account side kind issuer maturity value price currency legs₀ left₀ n i₀ legs left i = n - i
 
 -- the loop, from where the leg of a turn has its code
 abbrev at-loop : tie.After-code-of Inv-loop μ-loop → tie.At-loop Inv-loop μ-loop

@@ -1,82 +1,67 @@
 -- `bond_rate` is `bondRate`: the table's entry is the article's flat rate, and in period 1 the year's fraction of it is taken. Assumes nothing.
 use mathlib.Core.Path.{_≡_, refl, sym, _∙_}
 use mathlib.Core.List.{[]}
-use Prim.Native.Nat.{ℕ, _*_, _/_, _-_, _≤_, _<_}
+use Prim.Native.Nat.{ℕ, _*_, _/_, _-_, _≤_}
+use native.Mathlib.Nat.{mul-le-mul}
 use native.Mathlib.Omega.{arith}
 use lib.ListN.{getD}
-use Rattle.article.proofs.FlatRates.{table, flat-right}
-use Rattle.article.proofs.Terms.{small, within-year, over-year}
-use Rattle.article.proofs.Rates.{bond-high}
-use Rattle.article.specs.Rate.{bondRate, flatRate, periodOf}
 use borrow.Author.Needs.{needs}
-use Rattle.article.proofs.rate.bond_rate.Statement.{statement}
-use Rattle.article.proofs.rate.bond_rate.Tie as tie
+use Rattle.dates.specs.Calendar.{daysBetween}
+use Rattle.holding.specs.declared.Account.{Account}
+use Rattle.rates.specs.Rate.{bondRate, flatRate, periodOf}
+use Rattle.rates.proofs.Periods.{first-only, not-first}
+use Rattle.rates.proofs.FlatRates.{table, flat-right, flat-high}
+use Rattle.rates.proofs.Terms.{within-one, over-one}
+use Rattle.rates.proofs.bond_rate.Statement.{statement}
+use Rattle.rates.proofs.bond_rate.Tie as tie
 
--- what was read of the table, for the class and the period that were found, is the article's flat rate
-module _ (class period issuer-class days flat : ℕ) (read : flat ≡ getD (getD table class []) (period - 1) 0) (p : class ≡ issuer-class) (q : period ≡ periodOf days) where
-  entry : flat ≡ flatRate issuer-class (periodOf days)
+-- what was read of the table, for the class and the period that were found, is the article's flat rate of the issuer's own class
+module _ (class period own flat : ℕ) (a : Account) (m : ℕ) (read : flat ≡ getD (getD table class []) (period - 1) 0) (p : class ≡ own) (q : period ≡ periodOf a m) where
+  entry : flat ≡ flatRate own (periodOf a m)
   entry = read ∙ flat-right class period ∙ (λ i. flatRate (p i) (q i))
 
-  fits : days ≤ 365 → flat * days ≤ 7300 * 365
-  fits h = rw entry (small issuer-class days h)
+  high : flat ≤ 7300
+  high = rw entry (flat-high own (periodOf a m))
 
-  early : days ≤ 365 → (flat * days / 365 ≡ bondRate issuer-class days) × (flat * days / 365 ≤ 7300)
-  early h =
-      let e : flat * days / 365 ≡ bondRate issuer-class days = rw entry (sym (within-year issuer-class days h)) in
-      (e, rw e (bond-high issuer-class days))
+  -- the days to any maturity that the code can be given are few enough
+  fits : (days : ℕ) → days ≤ 200000000 → flat * days ≤ 7300 * 200000000
+  fits days h = mul-le-mul high h
 
-  late : 365 < days → (flat ≡ bondRate issuer-class days) × (flat ≤ 7300)
-  late h =
-      let e : flat ≡ bondRate issuer-class days = entry ∙ sym (over-year issuer-class days h) in
-      (e, rw e (bond-high issuer-class days))
+  early : (days : ℕ) → days ≡ daysBetween (a .date) m → days ≤ 200000000 → period ≡ 1
+      → (flat * days / 365 ≡ bondRate own a m) × (flat * days / 365 ≤ 4000000000)
+  early days d h e = (rw (entry, d) (sym (within-one own a m (first-only a m (sym q ∙ e)))), omega (arith, fits days h))
 
-class-of-requires : tie.Need-class-of-requires
-class-of-requires c κs = search needs
-
-period-requires : tie.Need-period-requires
-period-requires c κs = search needs
-
-sub-at : tie.Need-sub-at
-sub-at c = search needs
-
-mul-flat : tie.Need-mul-flat
-mul-flat c = search needs
-
-mul-flat-2 : tie.Need-mul-flat-2
-mul-flat-2 c = search needs
-
-index-1-flat : tie.Need-index-1-flat
-index-1-flat c = search needs
-
-index-2-flat : tie.Need-index-2-flat
-index-2-flat c = search needs
+  late : (period ≡ 1 → ⊥) → (flat ≡ bondRate own a m) × (flat ≤ 4000000000)
+  late e = (entry ∙ sym (over-one own a m (not-first a m (λ f. e (q ∙ f)))), omega (arith, high))
 
 mul-result : tie.Need-mul-result
 mul-result c =
-    let at-period = c .before .before in
-    omega (arith, fits _ _ _ _ _ refl (at-period .before .class-of .ensures .0) (at-period .period .ensures .0) (c .if1 .taken))
+    let found = c .before .before .before in
+    omega (arith, fits _ _ _ _ _ _ refl (found .before .class-of .ensures .0) (found .period .ensures .0) _ (c .days-between .ensures .1))
 
 returns : tie.Need-returns
 returns c =
-    let at-period = c .before .before in
-    early _ _ _ _ _ refl (at-period .before .class-of .ensures .0) (at-period .period .ensures .0) (c .if1 .taken)
+    let test = c .before in
+    let found = test .before .before in
+    early _ _ _ _ _ _ refl (found .before .class-of .ensures .0) (found .period .ensures .0) _ (c .days-between .ensures .0) (c .days-between .ensures .1) (test .if1 .taken)
 
 returns-2 : tie.Need-returns-2
 returns-2 c =
-    let at-period = c .before .before in
-    late _ _ _ _ _ refl (at-period .before .class-of .ensures .0) (at-period .period .ensures .0) (c .if1 .left)
+    let found = c .before .before in
+    late _ _ _ _ _ _ refl (found .before .class-of .ensures .0) (found .period .ensures .0) (c .if1 .left)
 
 pub bond-rate-spec : {M : Type 1} → statement M
 bond-rate-spec =
     tie.close
     (tie.spec
-    class-of-requires
-    period-requires
-    sub-at
-    mul-flat
-    mul-flat-2
-    index-1-flat
-    index-2-flat
+    (λ c κs. search needs)
+    (λ c κs. search needs)
+    (λ c. search needs)
+    (λ c. search needs)
+    (λ c. search needs)
+    (λ c. search needs)
+    (λ c. search needs)
+    (λ c κs. search needs)
     mul-result
     returns
     returns-2)

@@ -1,0 +1,5 @@
+pub mod Periods
+pub mod FlatRates
+pub mod Terms
+pub mod RateTable
+pub mod Rates
