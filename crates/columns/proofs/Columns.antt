@@ -1,12 +1,12 @@
 -- Columns of bytes hold what is submitted, entry by entry. Assumes nothing.
-use mathlib.Core.Path.{_≡_, ap, _∙_}
+use mathlib.Core.Path.{_≡_, refl, ap, _∙_}
 use mathlib.Core.List.{List, []}
 use Prim.Native.Nat.{ℕ, _*_}
 use lib.ListN.{getD, List·getD-map}
 use lib.Seq.{drop-nil}
 use Rattle.lists.proofs.Tables.{length-to, getD-to}
 use Rattle.holding.specs.Holding.{rowBy}
-use Rattle.holding.specs.declared.Row.{Row}
+use Rattle.holding.specs.declared.{Head.Head, Row.Row}
 use Rattle.pairing.specs.declared.Line.{Line}
 use Rattle.proposal.specs.Submission.{noRow, noLine, lineBy}
 use Rattle.words.specs.Words.{number, wordAt, entries, decode}
@@ -28,7 +28,7 @@ module _ (columns : List (List ℕ)) (k : ℕ) where
     side = ap (λ (r : Row). r .side) e ∙ number-at 0;
     kind = ap (λ (r : Row). r .kind) e ∙ number-at 1;
     issuer = ap (λ (r : Row). r .issuer) e ∙ number-at 2;
-    days = ap (λ (r : Row). r .days) e ∙ number-at 3;
+    maturity = ap (λ (r : Row). r .maturity) e ∙ number-at 3;
     value = ap (λ (r : Row). r .value) e ∙ number-at 4;
     currency = ap (λ (r : Row). r .currency) e ∙ number-at 5;
   }
@@ -40,12 +40,13 @@ module _ (columns : List (List ℕ)) (k : ℕ) where
     amount = ap (λ (l : Line). l .amount) e ∙ number-at 2;
   }
 
-pub column-entries : (c : Columns) → ColumnEntries c
+pub column-entries : (h : Head) (c : Columns) → ColumnEntries h c
 unfolding submission rowsIn linesIn countIn decode entries
-column-entries c = record {
+column-entries h c = record {
+  head = refl;
   holdings = length-to _ _;
   lines = length-to _ _;
-  holding = λ k h. row-at (c .holdings) k _ (getD-to _ _ k noRow h);
-  price = λ k h. getD-to _ _ k 0 h;
-  line = λ k h. line-at (c .lines) k _ (getD-to _ _ k noLine h);
+  holding = λ k q. row-at (c .holdings) k _ (getD-to _ _ k noRow q);
+  price = λ k q. getD-to _ _ k 0 q;
+  line = λ k q. line-at (c .lines) k _ (getD-to _ _ k noLine q);
 }

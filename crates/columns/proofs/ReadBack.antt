@@ -8,7 +8,7 @@ use lib.Seq.{drop-nil, drop-cons, take-at}
 use Rattle.lists.specs.Tables.{Each, listTo, front}
 use Rattle.lists.proofs.Entries.{each-so, each-map, each-read}
 use Rattle.lists.proofs.Tables.{to-eq, to-back, getD-map-in}
-use Rattle.holding.specs.Holding.{numbersOf, rowBy}
+use Rattle.holding.specs.Holding.{headNumbers, numbersOf, rowBy}
 use Rattle.holding.specs.declared.Row.{Row}
 use Rattle.holding.proofs.Rows.{row-back}
 use Rattle.pairing.specs.declared.Line.{Line}
@@ -97,6 +97,7 @@ lines-read lines fit k h columns e = line-at _ k _ (entry-read lineNumbers lineB
 
 -- what is submitted in numbers that eight bytes hold
 pub record SubmissionFits (s : Submission) : Type 0 where
+  pub head : Fits (headNumbers (s .head))
   pub rows : Each (λ r. Fits (numbersOf r)) (s .rows)
   pub prices : Fits (s .prices)
   pub lines : Each (λ l. Fits (lineNumbers l)) (s .lines)
@@ -105,10 +106,10 @@ pub record SubmissionFits (s : Submission) : Type 0 where
 abbrev pub bare : Columns
 bare = makeColumns (replicate 6 []) [] (replicate 3 [])
 
-pub submission-filled : (s : Submission) → SubmissionFits s → submission (filled s bare) ≡ s
+pub submission-filled : (s : Submission) → SubmissionFits s → submission (s .head) (filled s bare) ≡ s
 unfolding submission rowsIn linesIn filled
 submission-filled s fit =
     let rows = entries-read numbersOf rowBy row-back 5 six noRow (s .rows) (fit .rows) (replicate 5 []) refl in
     let prices : decode (column (s .prices) []) ≡ s .prices = rw (bare-column (s .prices)) (decode-encode (s .prices) (fit .prices)) in
     let lines = entries-read lineNumbers lineBy line-back 2 three noLine (s .lines) (fit .lines) (replicate 2 []) refl in
-    λ i. record { rows = rows i; prices = prices i; lines = lines i }
+    λ i. record { head = s .head; rows = rows i; prices = prices i; lines = lines i }

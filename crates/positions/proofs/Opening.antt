@@ -106,13 +106,13 @@ module _ {a : Account} {columns : List (List ℕ)} {price legs₀ left₀ : List
           refused other (row-first _ _ _ _ number other) t
 
       pub opens-price : {m : Holding} {x : ℕ} {f : Fault} → b ≡ Made m → x ≡ wordAt price i → priceLimit < x → f ≡ makeFault 10 i 0 → Opens a columns price left₀ legs left f
-      opens-price s _ d t = refused (λ z. omega arith) (price-first _ _ _ (made-row builds s .1) (omega (arith, price-is))) t
+      opens-price s w d t = refused (λ z. omega arith) (price-first _ _ _ (made-row builds s .1) (omega (arith, price-is))) t
 
       -- without a fault, its leg and its value are written
       pub opening-more : (code : ℕ) {m : Holding} {x : ℕ} {leg : Leg} → b ≡ Made m → x ≡ wordAt price i → x ≤ priceLimit → leg ≡ legOf a m → legIn code ≡ leg
           → Opening a columns price legs₀ left₀ (set legs i code) (set left i (r .value)) (i + 1)
       unfolding atHolding
-      opening-more code s _ d el ec =
+      opening-more code s w d el ec =
           let (_, none, is) = made-row builds s in
           record {
             room = o .room;
@@ -135,7 +135,7 @@ module _ {a : Account} {columns : List (List ℕ)} {price legs₀ left₀ : List
       book = record { head = record { date = a .date }; rows = rowsIn columns; prices = decode price; lines = [] }
 
       in-limits : Limits book
-      unfolding atHolding
+      unfolding atHolding accountOf
       in-limits =
           let each : (k : ℕ) → k < length (rowsIn columns) → _ = λ k q. none-ranges _ _ _ (at-none k _ (o .passed .none k (omega (arith, whole)))) in
           record {
@@ -147,7 +147,7 @@ module _ {a : Account} {columns : List (List ℕ)} {price legs₀ left₀ : List
           }
 
       written : (k : ℕ) → k < length (rowsIn columns) → legAt legs k ≡ priced book .leg k
-      unfolding holdingAt
+      unfolding holdingAt accountOf
       written k q = o .coded k (omega (arith, whole)) ∙ sym (leg-at book k q)
 
       all-values : listTo i (λ k. row columns k .value) ≡ map (λ r. r .value) (rowsIn columns)
@@ -155,7 +155,7 @@ module _ {a : Account} {columns : List (List ℕ)} {price legs₀ left₀ : List
 
       -- no holding has a fault
       pub opens-all : {f : Fault} → f ≡ makeFault 0 0 0 → Opens a columns price left₀ legs left f
-      unfolding bookFaults faultAnswer priced bookOf
+      unfolding bookFaults faultAnswer priced bookOf accountOf
       opens-all s = rw s (record {
         fault = sym (first-of-none (bookFaults a (rowsIn columns) (decode price)) _ (passed-all (o .passed) (omega (arith, whole))));
         opened = λ _. record {

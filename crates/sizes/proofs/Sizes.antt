@@ -14,7 +14,7 @@ use Rattle.lists.proofs.Tests.{neither}
 use Rattle.lists.proofs.Entries.{none-some, oneOf, one-some}
 use Rattle.article.specs.Answer.{makeAnswer}
 use Rattle.proposal.specs.Submission.{Submission, priced}
-use Rattle.proposal.specs.Outcome.{atPlace, sizeFaults, fromBook, faults, accepted, outcome}
+use Rattle.proposal.specs.Outcome.{atPlace, sizeFaults, fromHead, faults, accepted, outcome}
 use Rattle.proposal.proofs.Places.{first-at}
 use Rattle.sizes.specs.Sizes.{entriesOf, Equal, unequal, differ, Room, tooShort, Lengths, lengthFault}
 
@@ -96,4 +96,4 @@ pub refused : (holdings lines : List ℕ) (two : Bool) (s : Submission) (n : ℕ
 unfolding outcome faults lengthFault
 refused holdings lines two s n p q e h =
     let z = accepted (priced s) (s .lines) in
-    rw (p, q) (first-append (atPlace 0 (refusals holdings lines two)) (fromBook s) z ∙ first-at 0 (refusals holdings lines two) n e h (firstOf (fromBook s) z))
+    rw (p, q) (first-append (atPlace 0 (refusals holdings lines two)) (fromHead s) z ∙ first-at 0 (refusals holdings lines two) n e h (firstOf (fromHead s) z))

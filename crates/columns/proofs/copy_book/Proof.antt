@@ -5,13 +5,13 @@ use Rattle.columns.proofs.copy_book.Statement.{statement}
 use Rattle.columns.proofs.copy_book.Tie as tie
 
 -- the start, from where one of the last four columns is copied
-abbrev of-days : tie.After-copy-arg4 → tie.Start
-of-days c =
+abbrev of-maturity : tie.After-copy-arg4 → tie.Start
+of-maturity c =
     let kind = c .before .before .before .before .before .before .before .before .before in
     kind .before .before .before .before .before .before .before .before .before .before .before .before .before .before .before .before
 
 abbrev of-value : tie.After-copy-arg5 → tie.Start
-of-value c = of-days (c .before .before .before .before .before)
+of-value c = of-maturity (c .before .before .before .before .before)
 
 abbrev of-price : tie.After-copy-arg6 → tie.Start
 of-price c = of-value (c .before .before .before .before .before)
@@ -30,11 +30,11 @@ module _ (c : tie.After-slice-known14) where
   abbrev value : tie.After-copy5
   value = price .before .before .before .before .before
 
-  abbrev days : tie.After-copy4
-  days = value .before .before .before .before .before
+  abbrev maturity : tie.After-copy4
+  maturity = value .before .before .before .before .before
 
   abbrev issuer : tie.After-copy3
-  issuer = days .before .before .before .before .before
+  issuer = maturity .before .before .before .before .before
 
   abbrev kind : tie.After-copy2
   kind = issuer .before .before .before .before .before
@@ -47,7 +47,7 @@ returns c =
     copied-more _ _ 0 _ _ _ (side c .before .before .column .ensures) (side c .copy .ensures)
     (copied-more _ _ 1 _ _ _ (kind c .before .before .column2 .ensures) (kind c .copy2 .ensures)
     (copied-more _ _ 2 _ _ _ (issuer c .before .before .column3 .ensures) (issuer c .copy3 .ensures)
-    (copied-more _ _ 3 _ _ _ (days c .before .before .column4 .ensures) (days c .copy4 .ensures)
+    (copied-more _ _ 3 _ _ _ (maturity c .before .before .column4 .ensures) (maturity c .copy4 .ensures)
     (copied-more _ _ 4 _ _ _ (value c .before .before .column5 .ensures) (value c .copy5 .ensures)
     (copied-more _ _ 5 _ _ _ (price c .before .before .column6 .ensures) (price c .copy6 .ensures)
     (copied-more _ _ 6 _ _ _ (currency c .before .before .column7 .ensures) (currency c .copy7 .ensures) (copied-none _ _ _ _)))))))
@@ -63,8 +63,8 @@ copy-book-spec =
     (λ c κs. search needs)
     (λ c κs. search (needs, column-fits))
     (λ c κs. search needs)
-    (λ c κs. let start = of-days c in search (needs, column-fits))
-    (λ c κs. let start = of-days (c .before .before .before) in search needs)
+    (λ c κs. let start = of-maturity c in search (needs, column-fits))
+    (λ c κs. let start = of-maturity (c .before .before .before) in search needs)
     (λ c κs. let start = of-value c in search (needs, column-fits))
     (λ c κs. let start = of-value (c .before .before .before) in search needs)
     (λ c κs. let start = of-price c in search (needs, column-fits))
@@ -73,7 +73,7 @@ copy-book-spec =
     (λ c. side c .copy .kept .1 .0)
     (λ c. kind c .copy2 .kept .1 .0)
     (λ c. issuer c .copy3 .kept .1 .0)
-    (λ c. days c .copy4 .kept .1 .0)
+    (λ c. maturity c .copy4 .kept .1 .0)
     (λ c. value c .copy5 .kept .1 .0)
     (λ c. price c .copy6 .kept .1 .0)
     (λ c. currency c .copy7 .kept .1 .0)

@@ -18,9 +18,9 @@ Inv-loop account side kind issuer maturity value price currency legs₀ left₀ 
 abbrev μ-loop : tie.MeasureT-loop
 μ-loop account side kind issuer maturity value price currency legs₀ left₀ n i₀ legs left i = n - i
 
--- the loop, from where the leg of a turn has its code
-abbrev at-loop : tie.After-code-of Inv-loop μ-loop → tie.At-loop Inv-loop μ-loop
-at-loop c = c .before .before .before .before .before .before .before .before .before .before .before .before .before .before .before
+-- the turn, from where its leg has its code
+abbrev in-loop : tie.After-code-of Inv-loop μ-loop → tie.In-loop Inv-loop μ-loop
+in-loop c = c .before .before .before .before .before .before .before .before .before .before .before .before .before .before
 
 returns : tie.Need-returns Inv-loop μ-loop
 returns c =
@@ -71,12 +71,15 @@ open-spec =
     (λ c. search needs)
     returns-2
     (λ c κs. search needs)
-    (λ c κs. small-leg (c .before .before .before .before .before .before .holding-of .ensures) (c .before .before .before .before .built2 .given .1) (c .leg-of .ensures .0))
-    (λ c. let inv = at-loop c .loop .inv in search needs)
-    (λ c. let inv = at-loop c .loop .inv in search needs)
-    (λ c. let inv = at-loop c .loop .inv in search needs)
-    (λ c. let inv = at-loop c .loop .inv in search needs)
-    (λ c. let inv = at-loop c .loop .inv in search needs)
+    (λ c κs.
+    let made = c .before .before .before .before .before .before in
+    let inv = made .before .before .before .before .before .before .before .before .loop .inv in
+    small-leg (inv .1 .room .valued) (made .holding-of .ensures) (c .before .before .before .before .built2 .given .1) (c .leg-of .ensures .0))
+    (λ c. let taken = in-loop c .loop-test .taken in let inv = in-loop c .before .loop .inv in search needs)
+    (λ c. let taken = in-loop c .loop-test .taken in let inv = in-loop c .before .loop .inv in search needs)
+    (λ c. let taken = in-loop c .loop-test .taken in let inv = in-loop c .before .loop .inv in search needs)
+    (λ c. let taken = in-loop c .loop-test .taken in let inv = in-loop c .before .loop .inv in search needs)
+    (λ c. let taken = in-loop c .loop-test .taken in let inv = in-loop c .before .loop .inv in search needs)
     (λ c. search needs)
     loop-again
     (λ c κs. search needs)
