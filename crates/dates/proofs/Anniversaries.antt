@@ -7,7 +7,7 @@ use lib.Dec.{eqb}
 use borrow.Author.Tests.{eqb-true, not-true}
 use Rattle.lists.proofs.Tests.{by-test, same-or-not}
 use Rattle.dates.specs.Calendar.{year, month, day, dated, isLeap, leapDay, monthLength, isDate, monthStart, dayNumber, daysBetween, isLeapDay, anniversary}
-use Rattle.dates.specs.Dates.{On, Real}
+use Rattle.dates.specs.Dates.{On, RealDay}
 use Rattle.dates.proofs.Years.{below-or-from, start-early, start-late, leap-true, leap-false, leap-one, year-more, february, other-month}
 use Rattle.dates.proofs.Tested.{date-tested, on-parts}
 use Rattle.dates.proofs.Days.{number-of, real-of, no-earlier}
@@ -68,7 +68,7 @@ module _ (d n : ℕ) where
   anniversary-year = either (λ k. kept-on k .of-year) (λ l. lost-on l .of-year)
 
   -- it is a day of the calendar
-  pub anniversary-real : Real d → Real (anniversary d n)
+  pub anniversary-real : RealDay d → RealDay (anniversary d n)
   anniversary-real r =
       either
       (λ k. real-of (kept-on k) (r .day-low)
@@ -90,7 +90,7 @@ module _ (d n : ℕ) where
   pub anniversary-low : d + 10000 * n ≤ anniversary d n + 1
   anniversary-low = either (λ k. rw (kept k) (omega arith)) (λ l. rw (lost l) (omega (arith, l .second, l .last)))
 
-pub anniversary-none : (d : ℕ) → Real d → anniversary d 0 ≡ d
+pub anniversary-none : (d : ℕ) → RealDay d → anniversary d 0 ≡ d
 anniversary-none d r =
     either d 0
     (λ k. kept d 0 k ∙ omega arith)
@@ -115,7 +115,7 @@ anniversary-follows d e n h =
     let one : d ≡ e = omega arith in
     rw one (omega arith))
 
-module _ (d : ℕ) (r : Real d) where
+module _ (d : ℕ) (r : RealDay d) where
   -- a year is 365 or 366 days
   record Year (count : ℕ) : Type 0 where
     low : dayNumber d + 365 ≤ count
@@ -150,7 +150,7 @@ module _ (d : ℕ) (r : Real d) where
   unfolding daysBetween
   year-high = omega (arith, year-on .high)
 
-  pub year-within : (e : ℕ) → Real e → e ≤ anniversary d 1 → daysBetween d e ≤ 366
+  pub year-within : (e : ℕ) → RealDay e → e ≤ anniversary d 1 → daysBetween d e ≤ 366
   unfolding daysBetween
   year-within e s h = omega (arith, year-on .high, no-earlier e (anniversary d 1) s (anniversary-real d 1 r) h)
 

@@ -2,32 +2,32 @@
 use mathlib.Core.Path.{_≡_, refl, sym, ap, _∙_}
 use mathlib.Core.Bool.{true, false}
 use mathlib.Core.List.{List, [], _∷_}
-use Prim.Native.Nat.{ℕ, _+_, _-_, _*_, _/_, _%_, _≤_, _<_}
+use Prim.Native.Nat.{ℕ, _+_, _-_, _*_, _%_, _≤_, _<_}
 use native.Mathlib.Omega.{arith}
 use lib.ListN.{getD}
 use Rattle.lists.specs.Tables.{sumOf, listTo}
 use Rattle.lists.proofs.Entries.{bounded}
 use Rattle.lists.proofs.Tables.{getD-to}
 use Rattle.dates.specs.Calendar.{year, month, day, dated, isLeap, leapDay, monthLengths, monthLength, nextDay, yearStart, monthStart, dayNumber, anniversary}
-use Rattle.dates.proofs.Years.{leap-false, year-end, year-high, start-early, start-late}
+use Rattle.dates.proofs.Years.{leap-false, year-end, start-high, start-early, start-late}
 use Rattle.dates.proofs.Days.{next-in-month, next-month, next-year}
 use Rattle.dates.proofs.Anniversaries.{kept, lost}
 
--- the days before each month of a year with no leap day, and before its end
+-- the days before each month of a year with no leap day
 abbrev starts : List ℕ
-starts = 0 ∷ 0 ∷ 31 ∷ 59 ∷ 90 ∷ 120 ∷ 151 ∷ 181 ∷ 212 ∷ 243 ∷ 273 ∷ 304 ∷ 334 ∷ 365 ∷ []
+starts = 0 ∷ 0 ∷ 31 ∷ 59 ∷ 90 ∷ 120 ∷ 151 ∷ 181 ∷ 212 ∷ 243 ∷ 273 ∷ 304 ∷ 334 ∷ []
 
 -- the test, computed: the year 1 is such a year
-tested : starts ≡ listTo 14 (monthStart 1)
+tested : starts ≡ listTo 13 (monthStart 1)
 unfolding listTo monthStart sumOf monthLengths leapDay isLeap
 tested = refl
 
-pub starts-small : (i : ℕ) → getD starts i 0 ≤ 365
-starts-small = bounded 365 starts refl
+pub starts-small : (i : ℕ) → getD starts i 0 ≤ 334
+starts-small = bounded 334 starts refl
 
 module _ (y m l : ℕ) where
   start-at : m ≤ 12 → getD starts m 0 ≡ monthStart 1 m
-  start-at h = ap (λ (s : List ℕ). getD s m 0) tested ∙ getD-to 14 (monthStart 1) m 0 (omega arith)
+  start-at h = ap (λ (s : List ℕ). getD s m 0) tested ∙ getD-to 13 (monthStart 1) m 0 (omega arith)
 
   pub early-start : m ≤ 2 → (getD starts m 0 ≡ monthStart y m) × (getD starts m 0 ≤ 366)
   early-start h = (start-at (omega arith) ∙ start-early 1 y m h, omega (arith, starts-small m))
@@ -44,7 +44,7 @@ module _ (y m l : ℕ) where
 pub number-right : (d s n : ℕ) → (s ≡ monthStart (year d) (month d)) × (s ≤ 366) → n ≡ yearStart (year d) + s + day d → d < 4294967296
     → (n ≡ dayNumber d) × (n ≤ 200000000)
 unfolding dayNumber
-number-right d s n e f h = (rw (f, e .0), omega (arith, e .1, year-high (year d)))
+number-right d s n e f h = (rw (f, e .0), omega (arith, e .1, start-high (year d)))
 
 -- the next day
 module _ (d l : ℕ) (e : l ≡ monthLength (year d) (month d)) where

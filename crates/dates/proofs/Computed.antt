@@ -19,7 +19,8 @@ pub no-dates : map isDate (18991231 ∷ 23000101 ∷ 19000229 ∷ 21000229 ∷ 2
 unfolding isDate isReal monthLength monthLengths leapDay isLeap within
 no-dates = refl
 
-pub next-days : map nextDay (20240228 ∷ 20240229 ∷ 21000228 ∷ 20250430 ∷ 20251231 ∷ 20250101 ∷ []) ≡ 20240229 ∷ 20240301 ∷ 21000301 ∷ 20250501 ∷ 20260101 ∷ 20250102 ∷ []
+pub next-days : map nextDay (20240228 ∷ 20240229 ∷ 21000228 ∷ 20250430 ∷ 20251231 ∷ 20250101 ∷ [])
+    ≡ 20240229 ∷ 20240301 ∷ 21000301 ∷ 20250501 ∷ 20260101 ∷ 20250102 ∷ []
 unfolding nextDay monthLength monthLengths leapDay isLeap
 next-days = refl
 
@@ -47,10 +48,12 @@ unfolding anniversary isLeapDay isLeap
 three-years = refl
 
 -- texts of the form, real date or not
-pub read : map readDate (ascii "2025-01-01" ∷ ascii "2025-02-30" ∷ ascii "0000-00-00" ∷ ascii "9999-99-99" ∷ []) ≡ Number 20250101 ∷ Number 20250230 ∷ Number 0 ∷ Number 99999999 ∷ []
+pub read : map readDate (ascii "2025-01-01" ∷ ascii "2025-02-30" ∷ ascii "0000-00-00" ∷ ascii "9999-99-99" ∷ [])
+    ≡ Number 20250101 ∷ Number 20250230 ∷ Number 0 ∷ Number 99999999 ∷ []
 unfolding readDate same dateText digitsOf textNumber valueFrom
 read = refl
 
-pub not-read : map readDate (ascii "" ∷ ascii "2025-1-01" ∷ ascii "2025-01-011" ∷ ascii "2025/01/01" ∷ ascii "20250101--" ∷ ascii ":025-01-01" ∷ []) ≡ NotADate ∷ NotADate ∷ NotADate ∷ NotADate ∷ NotADate ∷ NotADate ∷ []
+pub not-read : map readDate (ascii "" ∷ ascii "2025-1-01" ∷ ascii "2025-01-011" ∷ ascii "2025/01/01" ∷ ascii "20250101--" ∷ ascii ":025-01-01" ∷ [])
+    ≡ NotADate ∷ NotADate ∷ NotADate ∷ NotADate ∷ NotADate ∷ NotADate ∷ []
 unfolding readDate same dateText digitsOf textNumber valueFrom
 not-read = refl

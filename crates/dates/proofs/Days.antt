@@ -4,7 +4,7 @@ use Prim.Native.Nat.{ℕ, zero, suc, _+_, _-_, _≤_, _<_}
 use native.Mathlib.Omega.{arith}
 use borrow.Author.Tests.{lt-ltb, le-ltb}
 use Rattle.dates.specs.Calendar.{year, month, day, dated, leapDay, monthLength, nextDay, later, yearStart, monthStart, dayNumber, daysBetween}
-use Rattle.dates.specs.Dates.{On, Real}
+use Rattle.dates.specs.Dates.{On, RealDay}
 use Rattle.dates.proofs.Years.{below-or-from, year-more, year-grows, month-more, month-grows, january, december-end, month-end, length-low, length-high}
 use Rattle.dates.proofs.Tested.{real-day, on-parts, on-next}
 
@@ -16,7 +16,7 @@ pub number-of : {n y m d : ℕ} → On n y m d → dayNumber n ≡ numbered y m 
 unfolding dayNumber
 number-of p = rw (p .of-year, p .of-month, p .of-day)
 
-pub real-of : {n y m d : ℕ} → On n y m d → 1 ≤ d → d ≤ monthLength y m → Real n
+pub real-of : {n y m d : ℕ} → On n y m d → 1 ≤ d → d ≤ monthLength y m → RealDay n
 real-of {n} p c e = real-day n (omega (arith, p .of-day)) (rw (p .of-year, p .of-month, p .of-day) e)
 
 module _ (d : ℕ) where
@@ -35,10 +35,10 @@ module _ (d : ℕ) where
 
 -- what the next day is good for: it is a day of the calendar, the next in the count
 record Next (d n : ℕ) : Type 0 where
-  real : Real n
+  real : RealDay n
   more : dayNumber n ≡ dayNumber d + 1
 
-module _ (d : ℕ) (r : Real d) where
+module _ (d : ℕ) (r : RealDay d) where
   in-month : day d < monthLength (year d) (month d) → Next d (d + 1)
   unfolding dayNumber
   in-month h =
@@ -76,19 +76,19 @@ module _ (d : ℕ) (r : Real d) where
       (λ m. rw (next-month d h m) (new-month h m))
       (λ m. rw (next-year d h m) (new-year h m)))
 
-  pub next-real : Real (nextDay d)
+  pub next-real : RealDay (nextDay d)
   next-real = next .real
 
   pub next-more : dayNumber (nextDay d) ≡ dayNumber d + 1
   next-more = next .more
 
 -- k days later it is a day of the calendar, and the count is k more
-pub later-real : (k d : ℕ) → Real d → Real (later k d)
+pub later-real : (k d : ℕ) → RealDay d → RealDay (later k d)
 unfolding later
 later-real zero d r = r
 later-real (suc k) d r = next-real (later k d) (later-real k d r)
 
-pub later-more : (k d : ℕ) → Real d → dayNumber (later k d) ≡ dayNumber d + k
+pub later-more : (k d : ℕ) → RealDay d → dayNumber (later k d) ≡ dayNumber d + k
 unfolding later
 later-more zero d r = omega arith
 later-more (suc k) d r = omega (arith, next-more (later k d) (later-real k d r), later-more k d r)
@@ -107,7 +107,7 @@ by-month y m a n b h i l =
     omega (arith, month-more y m)
 
 -- of two days the one with the smaller number is earlier
-pub earlier : (d e : ℕ) → Real d → Real e → d < e → dayNumber d < dayNumber e
+pub earlier : (d e : ℕ) → RealDay d → RealDay e → d < e → dayNumber d < dayNumber e
 unfolding dayNumber
 earlier d e r s h =
     below-or-from (year d) (year e)
@@ -122,13 +122,13 @@ earlier d e r s h =
     rw one-month (omega arith))))
 
 -- a day has one number
-pub same-day : (d e : ℕ) → Real d → Real e → dayNumber d ≡ dayNumber e → d ≡ e
+pub same-day : (d e : ℕ) → RealDay d → RealDay e → dayNumber d ≡ dayNumber e → d ≡ e
 same-day d e r s h =
     below-or-from d e
     (λ l. absurd (omega (arith, earlier d e r s l)))
     (λ l. below-or-from e d (λ g. absurd (omega (arith, earlier e d s r g))) (λ g. omega arith))
 
-pub no-earlier : (d e : ℕ) → Real d → Real e → d ≤ e → dayNumber d ≤ dayNumber e
+pub no-earlier : (d e : ℕ) → RealDay d → RealDay e → d ≤ e → dayNumber d ≤ dayNumber e
 no-earlier d e r s h =
     below-or-from d e
     (λ l. omega (arith, earlier d e r s l))
@@ -137,12 +137,12 @@ no-earlier d e r s h =
     rw one (omega arith))
 
 -- the days between two days
-module _ (d : ℕ) (r : Real d) where
+module _ (d : ℕ) (r : RealDay d) where
   pub between-later : (k : ℕ) → daysBetween d (later k d) ≡ k
   unfolding daysBetween
   between-later k = omega (arith, later-more k d r)
 
-  module _ (e : ℕ) (s : Real e) where
+  module _ (e : ℕ) (s : RealDay e) where
     pub later-between : d ≤ e → later (daysBetween d e) d ≡ e
     unfolding daysBetween
     later-between h =

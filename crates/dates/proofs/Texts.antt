@@ -2,19 +2,19 @@
 use mathlib.Core.Path.{_≡_, refl, sym, ap, _∙_}
 use mathlib.Core.Logic.{_↔_, _≢_}
 use mathlib.Core.Bool.{true, _&&_, and-eq-true-iff}
-use mathlib.Core.List.{List, [], _∷_}
+use mathlib.Core.List.{List, [], _∷_, map}
 use Prim.Native.Nat.{ℕ, _+_, _-_, _*_, _/_, _%_, _≤_, _<_}
 use native.Mathlib.Omega.{arith}
 use lib.ListN.{length, getD}
-use lib.Seq.{ext-getD}
 use Rattle.lists.specs.Choice.{same, within}
-use Rattle.lists.specs.Tables.{listTo}
-use Rattle.lists.proofs.Entries.{same-true, same-refl}
-use Rattle.lists.proofs.Tables.{length-to, getD-to}
+use Rattle.lists.specs.Tables.{Each, listTo}
+use Rattle.lists.proofs.Entries.{each-so, each-map, same-true, same-refl}
+use Rattle.lists.proofs.Tables.{to-back}
 use Rattle.lists.proofs.Tests.{by-test, within-true, true-within}
 use Rattle.numerals.specs.Numerals.{valueFrom}
 use Rattle.dates.specs.Calendar.{year, month, day, dated}
 use Rattle.dates.specs.Text.{digitsOf, dateText, textNumber, readDate, Form, twoAt}
+use Rattle.dates.specs.Dates.{EightDigits}
 use Rattle.dates.specs.declared.text.Reading.the-variants.{Number, NotADate}
 use Rattle.dates.proofs.Tested.{on-parts}
 
@@ -102,7 +102,7 @@ not-read text h =
     (λ e. refl)
 
 -- the digits of a number that is given by them
-module _ (a b c d : ℕ) (p : a ≤ 9) (q : b ≤ 9) (r : c ≤ 9) (s : d ≤ 9) where
+module _ (a b : ℕ) (p : a ≤ 9) (q : b ≤ 9) where
   two-digits : digitsOf 2 (10 * a + b) ≡ (48 + a) ∷ (48 + b) ∷ []
   unfolding digitsOf
   two-digits =
@@ -110,9 +110,9 @@ module _ (a b c d : ℕ) (p : a ≤ 9) (q : b ≤ 9) (r : c ≤ 9) (s : d ≤ 9)
       let second : (10 * a + b) % 10 ≡ b = omega arith in
       rw (first, second)
 
-  four-digits : digitsOf 4 (1000 * a + 100 * b + 10 * c + d) ≡ (48 + a) ∷ (48 + b) ∷ (48 + c) ∷ (48 + d) ∷ []
+  four-digits : (c d : ℕ) → c ≤ 9 → d ≤ 9 → digitsOf 4 (1000 * a + 100 * b + 10 * c + d) ≡ (48 + a) ∷ (48 + b) ∷ (48 + c) ∷ (48 + d) ∷ []
   unfolding digitsOf
-  four-digits =
+  four-digits c d r s =
       let x = 1000 * a + 100 * b + 10 * c + d in
       let third : x / 10 ≡ 100 * a + 10 * b + c = omega arith in
       let second : (100 * a + 10 * b + c) / 10 ≡ 10 * a + b = omega arith in
@@ -122,17 +122,24 @@ module _ (a b c d : ℕ) (p : a ≤ 9) (q : b ≤ 9) (r : c ≤ 9) (s : d ≤ 9)
       bytes : {w x y z : ℕ} → w ≡ a → x ≡ b → y ≡ c → z ≡ d → (48 + w) ∷ (48 + x) ∷ (48 + y) ∷ (48 + z) ∷ [] ≡ (48 + a) ∷ (48 + b) ∷ (48 + c) ∷ (48 + d) ∷ []
       bytes e f g h = λ i. (48 + e i) ∷ (48 + f i) ∷ (48 + g i) ∷ (48 + h i) ∷ []
 
-pub digits-text : (a b c d e f g h : ℕ) → a ≤ 9 → b ≤ 9 → c ≤ 9 → d ≤ 9 → e ≤ 9 → f ≤ 9 → g ≤ 9 → h ≤ 9
+digits-text : (a b c d e f g h : ℕ) → Each (_≤ 9) (a ∷ b ∷ c ∷ d ∷ e ∷ f ∷ g ∷ h ∷ [])
     → dateText (dated (1000 * a + 100 * b + 10 * c + d) (10 * e + f) (10 * g + h))
     ≡ (48 + a) ∷ (48 + b) ∷ (48 + c) ∷ (48 + d) ∷ 45 ∷ (48 + e) ∷ (48 + f) ∷ 45 ∷ (48 + g) ∷ (48 + h) ∷ []
 unfolding dateText
-digits-text a b c d e f g h p q r s t u v w =
+digits-text a b c d e f g h (p, (q, (r, (s, (t, (u, (v, (w, _)))))))) =
     let on = on-parts (1000 * a + 100 * b + 10 * c + d) (10 * e + f) (10 * g + h) (omega arith) (omega arith) in
-    rw (on .of-year, on .of-month, on .of-day, four-digits a b c d p q r s, two-digits e f 0 0 t u (omega arith) (omega arith), two-digits g h 0 0 v w (omega arith) (omega arith))
+    rw (on .of-year, on .of-month, on .of-day, four-digits a b p q c d r s, two-digits e f t u, two-digits g h v w)
 
-digits-below : (a b c d e f g h : ℕ) → a ≤ 9 → b ≤ 9 → c ≤ 9 → d ≤ 9 → e ≤ 9 → f ≤ 9 → g ≤ 9 → h ≤ 9
+-- as one sum
+pub eight-text : (a b c d e f g h : ℕ) → Each (_≤ 9) (a ∷ b ∷ c ∷ d ∷ e ∷ f ∷ g ∷ h ∷ []) → EightDigits a b c d e f g h
+eight-text a b c d e f g h low =
+    let sum : 10000000 * a + 1000000 * b + 100000 * c + 10000 * d + 1000 * e + 100 * f + 10 * g + h
+    ≡ dated (1000 * a + 100 * b + 10 * c + d) (10 * e + f) (10 * g + h) = omega arith in
+    record { text = rw sum (digits-text a b c d e f g h low) }
+
+digits-below : (a b c d e f g h : ℕ) → Each (_≤ 9) (a ∷ b ∷ c ∷ d ∷ e ∷ f ∷ g ∷ h ∷ [])
     → dated (1000 * a + 100 * b + 10 * c + d) (10 * e + f) (10 * g + h) < 100000000
-digits-below a b c d e f g h p q r s t u v w = omega arith
+digits-below a b c d e f g h (p, (q, (r, (s, (t, (u, (v, (w, _)))))))) = omega arith
 
 module _ (text : List ℕ) where
   -- the digit at a place
@@ -152,24 +159,25 @@ module _ (text : List ℕ) where
   abbrev eight : ℕ
   eight = dated (1000 * at 0 + 100 * at 1 + 10 * at 2 + at 3) (10 * at 5 + at 6) (10 * at 8 + at 9)
 
-  tens : length text ≡ 10 → text ≡ listTo 10 (λ i. getD text i 0)
-  tens h =
-      ext-getD 0 text (listTo 10 (λ i. getD text i 0)) (h ∙ sym (length-to 10 (λ i. getD text i 0)))
-      (λ i l. sym (getD-to 10 (λ i. getD text i 0) i 0 (omega arith)))
+  abbrev places : List ℕ
+  places = 0 ∷ 1 ∷ 2 ∷ 3 ∷ 5 ∷ 6 ∷ 8 ∷ 9 ∷ []
+
+  lows : Form text → Each (_≤ 9) (map at places)
+  lows f = each-map (_≤ 9) at places (each-so IsDigit (λ i. at i ≤ 9) low places (f .digits))
 
   -- a text of the form is the text of the number of its digits
   form-text : Form text → text ≡ dateText eight
   unfolding listTo
   form-text f =
       let (a, (b, (c, (d, (e, (g, (h, (k, _)))))))) = f .digits in
-      tens (f .ten)
-      ∙ (λ i. byte 0 a i ∷ byte 1 b i ∷ byte 2 c i ∷ byte 3 d i ∷ f .hyphens .0 i ∷ byte 5 e i ∷ byte 6 g i ∷ f .hyphens .1 .0 i ∷ byte 8 h i ∷ byte 9 k i ∷ [])
-      ∙ sym (digits-text (at 0) (at 1) (at 2) (at 3) (at 5) (at 6) (at 8) (at 9) (low 0 a) (low 1 b) (low 2 c) (low 3 d) (low 5 e) (low 6 g) (low 8 h) (low 9 k))
+      let (m, (n, _)) = f .hyphens in
+      sym (to-back 10 text 0 (f .ten))
+      ∙ (λ i. byte 0 a i ∷ byte 1 b i ∷ byte 2 c i ∷ byte 3 d i ∷ m i ∷ byte 5 e i ∷ byte 6 g i ∷ n i ∷ byte 8 h i ∷ byte 9 k i ∷ [])
+      ∙ sym (digits-text (at 0) (at 1) (at 2) (at 3) (at 5) (at 6) (at 8) (at 9) (lows f))
 
   pub form-read : Form text → readDate text ≡ Number (textNumber text)
   form-read f =
-      let (a, (b, (c, (d, (e, (g, (h, (k, _)))))))) = f .digits in
-      let below : eight < 100000000 = digits-below (at 0) (at 1) (at 2) (at 3) (at 5) (at 6) (at 8) (at 9) (low 0 a) (low 1 b) (low 2 c) (low 3 d) (low 5 e) (low 6 g) (low 8 h) (low 9 k) in
+      let below = digits-below (at 0) (at 1) (at 2) (at 3) (at 5) (at 6) (at 8) (at 9) (lows f) in
       let value : textNumber text ≡ eight = ap textNumber (form-text f) ∙ number-back eight ∙ small eight below in
       rw value (read-of text eight (form-text f) below)
 

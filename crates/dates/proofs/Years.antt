@@ -1,5 +1,5 @@
 -- Laws of years and months: their lengths, and the days before them. Assumes nothing.
-use mathlib.Core.Path.{_≡_, refl, ap, sym, _∙_}
+use mathlib.Core.Path.{_≡_, refl, sym, _∙_}
 use mathlib.Core.Logic.{_≢_}
 use mathlib.Core.Bool.{Bool, true, false, cond, not, _&&_, _||_}
 use mathlib.Core.List.{List, [], _∷_}
@@ -101,9 +101,9 @@ module _ (y : ℕ) where
       by a false true p q r = absurd (omega (arith, eqb-true (y % 400) 0 r, eqb-false (y % 100) 0 q))
 
 -- no year has more than 366 days
-pub year-high : (y : ℕ) → yearStart y ≤ 366 * y
+pub start-high : (y : ℕ) → yearStart y ≤ 366 * y
 unfolding yearStart
-year-high y = omega arith
+start-high y = omega arith
 
 -- a later year starts later
 pub year-grows : (y k : ℕ) → yearStart y ≤ yearStart (y + k)

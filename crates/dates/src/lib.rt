@@ -9,23 +9,8 @@ ghost use Rattle.dates.specs.Calendar.{isLeap, leapDay, monthLength, isD
 // January to December in a year with no leap day, from entry 1 on.
 const LENGTHS: [u64; 13] = [0, 31, 28, 31, 30, 31, 30, 31, 31, 30, 31, 30, 31];
 
-// The days of such a year before each month, and before the end of the year.
-const STARTS: [u64; 14] = [
-    0,
-    0,
-    31,
-    59,
-    90,
-    120,
-    151,
-    181,
-    212,
-    243,
-    273,
-    304,
-    334,
-    365,
-];
+// The days of such a year before each month.
+const STARTS: [u64; 13] = [0, 0, 31, 59, 90, 120, 151, 181, 212, 243, 273, 304, 334];
 
 fn is_leap(year: u64) -> bool
     ensures { λ r. ⌜ r ≡ isLeap year ⌝ }
@@ -104,10 +89,10 @@ fn month_start(year: u64, month: u64) -> u64
     if month <= 2 {
         return STARTS[month as usize];
     }
-    if 12 < month {
-        return STARTS[13] + leap_day(year);
+    if month <= 12 {
+        return STARTS[month as usize] + leap_day(year);
     }
-    STARTS[month as usize] + leap_day(year)
+    365 + leap_day(year)
 }
 
 // A day's number in the count of all days.

@@ -2,6 +2,7 @@
 use mathlib.Core.Path.{_≡_}
 use mathlib.Core.Bool.{Bool, true, false, cond}
 use Prim.Native.Nat.{ℕ, _+_, _≤_, _<_}
+use native.Mathlib.Nat.{le-of-lt}
 use native.Mathlib.Omega.{arith}
 use borrow.Author.Tests.{le-ltb, lt-ltb, ltb-false}
 use Rattle.lists.specs.Choice.{count}
@@ -12,25 +13,29 @@ use Rattle.holding.specs.declared.Account.{Account}
 use Rattle.rates.specs.Rate.{longerThan, periodOf}
 use Rattle.rates.specs.RateTable.{Periods}
 
+-- the end at n years
+abbrev pub end : Account → ℕ → ℕ
+end a = anniversary (a .date)
+
 module _ (a : Account) (m : ℕ) where
-  -- the end at n years
-  abbrev end : ℕ → ℕ
-  end = anniversary (a .date)
+  -- what is over more years is over fewer, and what is up to fewer is below more
+  pub over-fewer : (n k : ℕ) → n < k → end a k < m → end a n < m
+  over-fewer n k l h = omega (arith, anniversary-grows (a .date) n k l)
 
-  pub over : (n : ℕ) → end n < m → longerThan a m n ≡ true
+  pub below-more : (n k : ℕ) → n < k → m ≤ end a n → m < end a k
+  below-more n k l h = omega (arith, anniversary-grows (a .date) n k l)
+
+  -- the test of a term over n years, and of one up to n years or below
+  pub over : (n : ℕ) → end a n < m → longerThan a m n ≡ true
   unfolding longerThan
-  over n = lt-ltb (end n) m
+  over n = lt-ltb (end a n) m
 
-  pub up-to : (n : ℕ) → m ≤ end n → longerThan a m n ≡ false
+  pub up-to : (n : ℕ) → m ≤ end a n → longerThan a m n ≡ false
   unfolding longerThan
-  up-to n = le-ltb (end n) m
+  up-to n = le-ltb (end a n) m
 
-  -- a term over more years is over fewer, and one up to fewer is up to more
-  over-fewer : (n k : ℕ) → n < k → end k < m → longerThan a m n ≡ true
-  over-fewer n k l h = over n (omega (arith, anniversary-grows (a .date) n k l))
-
-  up-to-more : (n k : ℕ) → n < k → m ≤ end n → longerThan a m k ≡ false
-  up-to-more n k l h = up-to k (omega (arith, anniversary-grows (a .date) n k l))
+  below : (n : ℕ) → m < end a n → longerThan a m n ≡ false
+  below n h = up-to n (le-of-lt h)
 
   -- one more than how many of the ends at 1, 3, 7 and 11 years the term is over
   ends : {p q r s : Bool} → longerThan a m 1 ≡ p → longerThan a m 3 ≡ q → longerThan a m 7 ≡ r → longerThan a m 11 ≡ s
@@ -38,20 +43,24 @@ module _ (a : Account) (m : ℕ) where
   unfolding periodOf count
   ends p q r s = λ i. 1 + (cond (p i) 1 0 + (cond (q i) 1 0 + (cond (r i) 1 0 + (cond (s i) 1 0 + 0))))
 
-  pub period-1 : m ≤ end 1 → periodOf a m ≡ 1
-  period-1 h = ends (up-to 1 h) (up-to-more 1 3 (omega arith) h) (up-to-more 1 7 (omega arith) h) (up-to-more 1 11 (omega arith) h)
+  pub period-1 : m ≤ end a 1 → periodOf a m ≡ 1
+  period-1 h =
+      ends (up-to 1 h)
+      (below 3 (below-more 1 3 (omega arith) h)) (below 7 (below-more 1 7 (omega arith) h)) (below 11 (below-more 1 11 (omega arith) h))
 
-  pub period-2 : end 1 < m → m ≤ end 3 → periodOf a m ≡ 2
-  period-2 l h = ends (over 1 l) (up-to 3 h) (up-to-more 3 7 (omega arith) h) (up-to-more 3 11 (omega arith) h)
+  pub period-2 : end a 1 < m → m ≤ end a 3 → periodOf a m ≡ 2
+  period-2 l h = ends (over 1 l) (up-to 3 h) (below 7 (below-more 3 7 (omega arith) h)) (below 11 (below-more 3 11 (omega arith) h))
 
-  pub period-3 : end 3 < m → m ≤ end 7 → periodOf a m ≡ 3
-  period-3 l h = ends (over-fewer 1 3 (omega arith) l) (over 3 l) (up-to 7 h) (up-to-more 7 11 (omega arith) h)
+  pub period-3 : end a 3 < m → m ≤ end a 7 → periodOf a m ≡ 3
+  period-3 l h = ends (over 1 (over-fewer 1 3 (omega arith) l)) (over 3 l) (up-to 7 h) (below 11 (below-more 7 11 (omega arith) h))
 
-  pub period-4 : end 7 < m → m ≤ end 11 → periodOf a m ≡ 4
-  period-4 l h = ends (over-fewer 1 7 (omega arith) l) (over-fewer 3 7 (omega arith) l) (over 7 l) (up-to 11 h)
+  pub period-4 : end a 7 < m → m ≤ end a 11 → periodOf a m ≡ 4
+  period-4 l h = ends (over 1 (over-fewer 1 7 (omega arith) l)) (over 3 (over-fewer 3 7 (omega arith) l)) (over 7 l) (up-to 11 h)
 
-  pub period-5 : end 11 < m → periodOf a m ≡ 5
-  period-5 l = ends (over-fewer 1 11 (omega arith) l) (over-fewer 3 11 (omega arith) l) (over-fewer 7 11 (omega arith) l) (over 11 l)
+  pub period-5 : end a 11 < m → periodOf a m ≡ 5
+  period-5 l =
+      ends (over 1 (over-fewer 1 11 (omega arith) l)) (over 3 (over-fewer 3 11 (omega arith) l)) (over 7 (over-fewer 7 11 (omega arith) l))
+      (over 11 l)
 
   -- the page's periods
   pub periods : Periods a m

@@ -2,7 +2,7 @@
 use mathlib.Core.Path.{_≡_, refl, ap, _∙_}
 use Prim.Native.Nat.{ℕ, _*_, _/_, _≤_, _<_}
 use native.Mathlib.Omega.{arith}
-use Rattle.dates.specs.Calendar.{anniversary, daysBetween}
+use Rattle.dates.specs.Calendar.{daysBetween}
 use Rattle.dates.proofs.Anniversaries.{anniversary-grows}
 use Rattle.holding.specs.declared.Account.{Account}
 use Rattle.holding.specs.declared.Kind.{Kind}
@@ -11,7 +11,7 @@ use Rattle.holding.specs.declared.Issuer.{Issuer}
 use Rattle.holding.specs.declared.Holding.{Holding}
 use Rattle.rates.specs.Rate.{periodOf, percents, flatRate, bondRate, stripRate, kindRate, classOf, rateAt, rateOf}
 use Rattle.rates.specs.RateTable.{Rates, RateTable}
-use Rattle.rates.proofs.Periods.{over, up-to, period-1, period-2, period-3, period-4, period-5}
+use Rattle.rates.proofs.Periods.{end, over-fewer, below-more, over, up-to, period-1, period-2, period-3, period-4, period-5}
 use Rattle.rates.proofs.Terms.{within-one, over-one, below-twenty, from-twenty}
 
 -- what is no bond has a strip's rate
@@ -25,16 +25,13 @@ module _ (a : Account) (h : Holding) where
   abbrev m : ℕ
   m = h .maturity
 
-  abbrev end : ℕ → ℕ
-  end = anniversary (a .date)
-
   -- a bond's rate up to a year, and in a period over a year
-  fraction : m ≤ end 1 → (class : ℕ) → bondRate class a m ≡ flatRate class 1 * daysBetween (a .date) m / 365
+  fraction : m ≤ end a 1 → (class : ℕ) → bondRate class a m ≡ flatRate class 1 * daysBetween (a .date) m / 365
   fraction l class =
       within-one class a m (up-to a m 1 l)
       ∙ ap (λ (p : ℕ). flatRate class p * daysBetween (a .date) m / 365) (period-1 a m l)
 
-  flat : (p : ℕ) → end 1 < m → periodOf a m ≡ p → (class : ℕ) → bondRate class a m ≡ flatRate class p
+  flat : (p : ℕ) → end a 1 < m → periodOf a m ≡ p → (class : ℕ) → bondRate class a m ≡ flatRate class p
   flat p l e class = over-one class a m (over a m 1 l) ∙ ap (flatRate class) e
 
   of-bond : {i : Issuer} {x : ℕ} → bondRate (classOf i) a m ≡ x → h .issuer ≡ i → h .kind ≡ Bond → rateOf a h ≡ x
@@ -59,29 +56,22 @@ module _ (a : Account) (h : Holding) where
   }
 
   -- a row over a year and below 20 years
-  short : (p : ℕ) → end 1 < m → m < end 20 → periodOf a m ≡ p → Rates a h (flatRate 0 p) (flatRate 0 p * 3 / 2) (flatRate 1 p) (flatRate 1 p * 3 / 2)
+  short : (p : ℕ) → end a 1 < m → m < end a 20 → periodOf a m ≡ p → Rates a h (flatRate 0 p) (flatRate 0 p * 3 / 2) (flatRate 1 p) (flatRate 1 p * 3 / 2)
   short p l b e = rates (flat p l e 0) (below-twenty _ a m b) (flat p l e 1) (below-twenty _ a m b)
-
-  -- a term over more than a year is over one, and one up to fewer than 20 is below 20
-  after-1 : (n : ℕ) → 1 < n → end n < m → end 1 < m
-  after-1 n k l = omega (arith, anniversary-grows (a .date) 1 n k)
-
-  before-20 : (n : ℕ) → n < 20 → m ≤ end n → m < end 20
-  before-20 n k b = omega (arith, anniversary-grows (a .date) n 20 k)
 
   pub rate-table : RateTable a h
   unfolding flatRate percents
   rate-table =
       record {
         row-1 = λ b.
-            let low = before-20 1 (omega arith) b in
+            let low = below-more a m 1 20 (omega arith) b in
             rates (fraction b 0 ∙ omega arith) (below-twenty _ a m low ∙ omega arith) (fraction b 1 ∙ omega arith) (below-twenty _ a m low ∙ omega arith);
-        row-2 = λ l b. short 2 l (before-20 3 (omega arith) b) (period-2 a m l b);
-        row-3 = λ l b. short 3 (after-1 3 (omega arith) l) (before-20 7 (omega arith) b) (period-3 a m l b);
-        row-4 = λ l b. short 4 (after-1 7 (omega arith) l) (before-20 11 (omega arith) b) (period-4 a m l b);
-        row-5-below = λ l b. short 5 (after-1 11 (omega arith) l) b (period-5 a m l);
+        row-2 = λ l b. short 2 l (below-more a m 3 20 (omega arith) b) (period-2 a m l b);
+        row-3 = λ l b. short 3 (over-fewer a m 1 3 (omega arith) l) (below-more a m 7 20 (omega arith) b) (period-3 a m l b);
+        row-4 = λ l b. short 4 (over-fewer a m 1 7 (omega arith) l) (below-more a m 11 20 (omega arith) b) (period-4 a m l b);
+        row-5-below = λ l b. short 5 (over-fewer a m 1 11 (omega arith) l) b (period-5 a m l);
         row-5-from = λ b.
-            let l : end 11 < m = omega (arith, anniversary-grows (a .date) 11 20 (omega arith)) in
-            let over-11 = flat 5 (after-1 11 (omega arith) l) (period-5 a m l) in
+            let l : end a 11 < m = omega (arith, anniversary-grows (a .date) 11 20 (omega arith)) in
+            let over-11 = flat 5 (over-fewer a m 1 11 (omega arith) l) (period-5 a m l) in
             rates (over-11 0) (from-twenty _ a m b) (over-11 1) (from-twenty _ a m b);
       }

@@ -3,9 +3,10 @@ use mathlib.Core.Path.{_≡_}
 use mathlib.Core.Bool.{true, false}
 use Prim.Native.Nat.{ℕ, _*_, _/_, _≤_, _<_}
 use borrow.Author.Tests.{le-leb, lt-leb}
-use Rattle.dates.specs.Calendar.{anniversary, daysBetween}
+use Rattle.dates.specs.Calendar.{daysBetween}
 use Rattle.holding.specs.declared.Account.{Account}
 use Rattle.rates.specs.Rate.{longerThan, atLeast, periodOf, flatRate, bondRate, stripRate}
+use Rattle.rates.proofs.Periods.{end}
 
 module _ (class : ℕ) (a : Account) (m : ℕ) where
   pub within-one : longerThan a m 1 ≡ false → bondRate class a m ≡ flatRate class (periodOf a m) * daysBetween (a .date) m / 365
@@ -17,10 +18,10 @@ module _ (class : ℕ) (a : Account) (m : ℕ) where
   over-one e = rw e
 
 module _ (bond : ℕ) (a : Account) (m : ℕ) where
-  pub below-twenty : m < anniversary (a .date) 20 → stripRate bond a m ≡ bond * 3 / 2
+  pub below-twenty : m < end a 20 → stripRate bond a m ≡ bond * 3 / 2
   unfolding stripRate atLeast
   below-twenty h = rw (lt-leb _ m h)
 
-  pub from-twenty : anniversary (a .date) 20 ≤ m → stripRate bond a m ≡ bond * 3
+  pub from-twenty : end a 20 ≤ m → stripRate bond a m ≡ bond * 3
   unfolding stripRate atLeast
   from-twenty h = rw (le-leb _ m h)

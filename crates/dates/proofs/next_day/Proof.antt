@@ -1,5 +1,4 @@
 -- `next_day` is `nextDay`, in each of its three cases. Assumes nothing.
-use mathlib.Core.Path.{sym}
 use borrow.Author.Needs.{needs}
 use Rattle.dates.proofs.Coded.{coded-in-month, coded-month, coded-year}
 use Rattle.dates.proofs.next_day.Statement.{statement}

@@ -61,18 +61,18 @@ judge-spec =
     (λ c. c .before .before .before .before .before .before .before .before .before .before .before .write-words .kept .1 .1 .0)
     (λ c. c .before .before .before .before .before .before .write-words2 .kept .1 .1 .0)
     (λ c. c .before .before .put-answer .kept .1 .1 .1 .0)
-    (λ c. checked (accepted c .before .before) .check .kept .1 .1 .1 .1 .1 .1 .1 .1 .1 .1 .1 .0)
     (λ c. checked (accepted c .before .before) .check .kept .1 .1 .1 .1 .1 .1 .1 .1 .1 .1 .1 .1 .0)
     (λ c. checked (accepted c .before .before) .check .kept .1 .1 .1 .1 .1 .1 .1 .1 .1 .1 .1 .1 .1 .0)
     (λ c. checked (accepted c .before .before) .check .kept .1 .1 .1 .1 .1 .1 .1 .1 .1 .1 .1 .1 .1 .1 .0)
+    (λ c. checked (accepted c .before .before) .check .kept .1 .1 .1 .1 .1 .1 .1 .1 .1 .1 .1 .1 .1 .1 .1 .0)
     returns
     (λ c. search needs)
     (λ _ _. tt)
     (λ c. c .before .before .put-answer2 .kept .1 .1 .1 .0)
-    (λ c. checked (refused c .before .before) .check .kept .1 .1 .1 .1 .1 .1 .1 .1 .1 .1 .1 .0)
     (λ c. checked (refused c .before .before) .check .kept .1 .1 .1 .1 .1 .1 .1 .1 .1 .1 .1 .1 .0)
     (λ c. checked (refused c .before .before) .check .kept .1 .1 .1 .1 .1 .1 .1 .1 .1 .1 .1 .1 .1 .0)
     (λ c. checked (refused c .before .before) .check .kept .1 .1 .1 .1 .1 .1 .1 .1 .1 .1 .1 .1 .1 .1 .0)
+    (λ c. checked (refused c .before .before) .check .kept .1 .1 .1 .1 .1 .1 .1 .1 .1 .1 .1 .1 .1 .1 .1 .0)
     (λ c.
     let v = refused c in
     let k = checked (v .before .before) in

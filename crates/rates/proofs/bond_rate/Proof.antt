@@ -1,7 +1,7 @@
 -- `bond_rate` is `bondRate`: the table's entry is the article's flat rate, and in period 1 the year's fraction of it is taken. Assumes nothing.
 use mathlib.Core.Path.{_≡_, refl, sym, _∙_}
 use mathlib.Core.List.{[]}
-use Prim.Native.Nat.{ℕ, _*_, _/_, _-_, _≤_}
+use Prim.Native.Nat.{ℕ, _*_, _/_, _-_, _≤_, _<_}
 use native.Mathlib.Nat.{mul-le-mul}
 use native.Mathlib.Omega.{arith}
 use lib.ListN.{getD}
@@ -24,12 +24,15 @@ module _ (class period own flat : ℕ) (a : Account) (m : ℕ) (read : flat ≡ 
   high = rw entry (flat-high own (periodOf a m))
 
   -- the days to any maturity that the code can be given are few enough
-  fits : (days : ℕ) → days ≤ 200000000 → flat * days ≤ 7300 * 200000000
-  fits days h = mul-le-mul high h
+  few : (days : ℕ) → days ≤ 200000000 → flat * days ≤ 7300 * 200000000
+  few days h = mul-le-mul high h
+
+  below : (days : ℕ) → days ≤ 200000000 → flat * days < 18446744073709551616
+  below days h = omega (arith, few days h)
 
   early : (days : ℕ) → days ≡ daysBetween (a .date) m → days ≤ 200000000 → period ≡ 1
       → (flat * days / 365 ≡ bondRate own a m) × (flat * days / 365 ≤ 4000000000)
-  early days d h e = (rw (entry, d) (sym (within-one own a m (first-only a m (sym q ∙ e)))), omega (arith, fits days h))
+  early days d h e = (rw (entry, d) (sym (within-one own a m (first-only a m (sym q ∙ e)))), omega (arith, few days h))
 
   late : (period ≡ 1 → ⊥) → (flat ≡ bondRate own a m) × (flat ≤ 4000000000)
   late e = (entry ∙ sym (over-one own a m (not-first a m (λ f. e (q ∙ f)))), omega (arith, high))
@@ -37,13 +40,12 @@ module _ (class period own flat : ℕ) (a : Account) (m : ℕ) (read : flat ≡ 
 mul-result : tie.Need-mul-result
 mul-result c =
     let found = c .before .before .before in
-    omega (arith, fits _ _ _ _ _ _ refl (found .before .class-of .ensures .0) (found .period .ensures .0) _ (c .days-between .ensures .1))
+    record { fits = below _ _ _ _ _ _ refl (found .before .class-of .ensures .0) (found .period .ensures .0) _ (omega arith) }
 
 returns : tie.Need-returns
 returns c =
-    let test = c .before in
-    let found = test .before .before in
-    early _ _ _ _ _ _ refl (found .before .class-of .ensures .0) (found .period .ensures .0) _ (c .days-between .ensures .0) (c .days-between .ensures .1) (test .if1 .taken)
+    let found = c .before .before .before in
+    early _ _ _ _ _ _ refl (found .before .class-of .ensures .0) (found .period .ensures .0) _ (omega arith) (omega arith) (omega arith)
 
 returns-2 : tie.Need-returns-2
 returns-2 c =
