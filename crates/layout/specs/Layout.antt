@@ -1,5 +1,5 @@
 -- Document 01, "The file", and document 02 a) and b): the layout of a record, parsed, and the refusals 19 to 21. Assumes nothing.
-use mathlib.Core.{Path._≡_, Bool.cond, Bool.Bool, Bool._&&_, List.List, List.[], List._∷_, List._++_, List.map}
+use mathlib.Core.{Path._≡_, Bool.cond, Bool.Bool, Bool.true, Bool.false, Bool._&&_, List.List, List.[], List._∷_, List._++_, List.map}
 use Prim.Native.Nat.{ℕ, _≤_, _<_, suc, _-_}
 use lib.{Dec.eqb, Dec.leb, Dec.ltb, ListN.length, ListN.getD, ListN.replicate}
 use Rattle.lists.specs.Tables.{ascii}

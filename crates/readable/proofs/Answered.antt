@@ -10,6 +10,7 @@ use borrow.Author.Tests.{eq-eqb}
 use Rattle.lists.specs.Choice.{firstOf}
 use Rattle.lists.proofs.Tests.{same-or-not}
 use Rattle.lists.proofs.Firsts.{first-append, first-refused, first-of-none}
+use Rattle.holding.specs.declared.Head.{Head}
 use Rattle.article.specs.Answer.{Answer, makeAnswer}
 use Rattle.proposal.specs.Submission.{pricedRow, lineBy}
 use Rattle.proposal.proofs.Clear.{number}
@@ -47,10 +48,10 @@ module _ (text : List ℕ) (two : Bool) where
       by false e = refl
 
 -- contents are not of both cases
-refused-number : {n place : ℕ} (a : Answer) → Refused n place ≡ contentsOf a → a .number ≢ 0
+refused-number : {n place : ℕ} (a : Answer) (head : Head) → Refused n place ≡ contentsOf a head → a .number ≢ 0
 unfolding contentsOf
-refused-number a e z =
-    let read : contentsOf a ≡ Read (a .first) (a .second) = rw (eq-eqb (a .number) 0 z) in
+refused-number a head e z =
+    let read : contentsOf a head ≡ Read head (a .first) (a .second) = rw (eq-eqb (a .number) 0 z) in
     clash cc
 
 module _ {text : List ℕ} {rows : ℕ} {book lines book′ lines′ : List ℕ} {d : Contents} (from-file : ReadsFile text rows book lines book′ lines′ d) where
@@ -58,12 +59,12 @@ module _ {text : List ℕ} {rows : ℕ} {book lines book′ lines′ : List ℕ}
   pub refusal-known : {n place : ℕ} → d ≡ Refused n place → (n ≢ 0) × (fileFault text ≡ makeAnswer n place 0)
   refusal-known {n} {place} e =
       let answer : makeAnswer n place 0 ≡ readAnswer false text = rw e at (from-file .answer) in
-      let other : readAnswer false text .number ≢ 0 = refused-number (readAnswer false text) (sym e ∙ from-file .contents) in
+      let other : readAnswer false text .number ≢ 0 = refused-number (readAnswer false text) (submissionIn text .head) (sym e ∙ from-file .contents) in
       let fault : fileFault text .number ≢ 0 = λ z. other (answer-exactly text false .1 (z, refl)) in
       (λ z. other (sym (ap number answer) ∙ z), sym (answer-refused text false fault) ∙ sym answer)
 
-  -- a file that was read has none, and its counts are those of what is submitted
-  module _ {n m : ℕ} (e : d ≡ Read n m) where
+  -- a file that was read has none, and its head and its counts are those of what is submitted
+  module _ {head : Head} {n m : ℕ} (e : d ≡ Read head n m) where
     answer : makeAnswer 0 n m ≡ readAnswer false text
     answer = rw e at (from-file .answer)
 
@@ -76,6 +77,13 @@ module _ {text : List ℕ} {rows : ℕ} {book lines book′ lines′ : List ℕ}
     counted : makeAnswer 0 n m ≡ counts text false
     counted = answer ∙ answer-none text false no-fault
 
+    pub head-read : submissionIn text .head ≡ head
+    unfolding contentsOf
+    head-read =
+        let read : contentsOf (readAnswer false text) (submissionIn text .head) ≡ Read (submissionIn text .head) n m = rw (sym answer) in
+        let same = sym e ∙ from-file .contents ∙ read in
+        cc
+
     pub holdings-counted : length (submissionIn text .rows) ≡ n
     holdings-counted = sym (ap (λ (a : Answer). a .first) counted)
 
@@ -83,13 +91,13 @@ module _ {text : List ℕ} {rows : ℕ} {book lines book′ lines′ : List ℕ}
     lines-counted = sym (ap (λ (a : Answer). a .second) counted)
 
     -- so are those of the values, which the tables hold
-    pub holdings-held : length (valuesBy 0 (parsedIn text)) ≡ n
+    pub holdings-held : length (valuesBy 1 (parsedIn text)) ≡ n
     unfolding submissionOf
-    holdings-held = sym (length-map (valuesBy 0 (parsedIn text)) pricedRow) ∙ holdings-counted
+    holdings-held = sym (length-map (valuesBy 1 (parsedIn text)) pricedRow) ∙ holdings-counted
 
-    pub lines-held : length (valuesBy 1 (parsedIn text)) ≡ m
+    pub lines-held : length (valuesBy 2 (parsedIn text)) ≡ m
     unfolding submissionOf
-    lines-held = sym (length-map (valuesBy 1 (parsedIn text)) lineBy) ∙ lines-counted
+    lines-held = sym (length-map (valuesBy 2 (parsedIn text)) lineBy) ∙ lines-counted
 
     pub few-holdings : n ≤ rows
     few-holdings = rw holdings-held at (from-file .each-holding was-read .few)

@@ -1,12 +1,15 @@
--- The file: a text is read exactly when it is short and a rendering, in RFC 4180's grammar, of good H and then good P, not too many of either;
+-- The file: a text is read exactly when it is short and a rendering, in RFC 4180's grammar, of a good D, then good H and then good P, not too many of either;
 -- and what is read is what these are. Assumes nothing.
-use mathlib.Core.Path.{refl, sym}
-use mathlib.Core.List.{List}
+use mathlib.Core.Path.{_≡_, refl, sym}
+use mathlib.Core.Logic.{_≢_}
+use mathlib.Core.List.{List, []}
 use Prim.Native.Nat.{ℕ, _≤_}
 use native.Mathlib.Omega.{arith}
 use lib.ListN.{length, length-map}
 use Rattle.proposal.specs.Submission.{Submission, pricedRow, lineBy}
+use Rattle.csv.specs.Grammar.{File, none}
 use Rattle.csv.specs.Reading.{recordsOf}
+use Rattle.csv.proofs.Places.{clash, records-end}
 use Rattle.grammar.proofs.Sound.{file-sound}
 use Rattle.grammar.proofs.Complete.{file-complete}
 use Rattle.layout.specs.Layout.{refused}
@@ -14,39 +17,52 @@ use Rattle.reader.specs.File.{parsedIn, valuesBy, submissionOf}
 use Rattle.readable.specs.Readable.{Submits, ReadExactly}
 use Rattle.readable.proofs.Orders.{InOrder, few, order-exactly}
 use Rattle.readable.proofs.Numbers.{none-exactly}
-use Rattle.readable.proofs.Submitted.{Gives, parted, records-give}
+use Rattle.readable.proofs.Submitted.{Gives, headed, file-gives}
+
+-- a file of no records has no bytes
+no-bytes : {text : List ℕ} → File text [] → length text ≡ 0
+no-bytes none = refl
 
 module _ (text : List ℕ) where
   -- what comes in order is submitted
-  order-submits : length text ≤ 65536 → InOrder (refused 0) (λ k. 0) (parsedIn text) → Submits text (submissionOf (parsedIn text))
+  order-submits : length text ≤ 65536 → length text ≢ 0 → InOrder (refused 0) (λ k. 0) (parsedIn text) → Submits text (submissionOf (parsedIn text))
   unfolding parsedIn submissionOf
-  order-submits short order =
-      let (holdings, lines, all, each-holding, each-line) = parted (recordsOf text) (refused 0) (λ k. 0) order in
+  order-submits short some order =
+      let (head, holdings, lines, all, valued, each-holding, each-line) = headed (recordsOf text) (λ k. 0) (λ e. some (no-bytes (file-sound text [] e))) order in
       record {
+        head = head;
         holdings = holdings;
         lines = lines;
         short = short;
         rendering = file-sound text _ all;
+        valued = valued;
         each-holding = each-holding;
         each-line = each-line;
-        few-holdings = omega (arith, length-map (valuesBy 0 (parsedIn text)) pricedRow, few 0 (parsedIn text) (refused 0) (λ k. 0) order (omega arith));
-        few-lines = omega (arith, length-map (valuesBy 1 (parsedIn text)) lineBy, few 1 (parsedIn text) (refused 0) (λ k. 0) order (omega arith));
+        few-holdings =
+            omega (arith, length-map (valuesBy 1 (parsedIn text)) pricedRow, few 1 256 (λ before count vs c. c .1 refl) (parsedIn text) (refused 0) (λ k. 0) order (omega arith));
+        few-lines =
+            omega (arith, length-map (valuesBy 2 (parsedIn text)) lineBy, few 2 512 (λ before count vs c. c .2 refl) (parsedIn text) (refused 0) (λ k. 0) order (omega arith));
       }
 
-  -- what is submitted comes in order
+  -- what is submitted comes in order, and is some bytes
   submits-gives : (s : Submission) → Submits text s → Gives (refused 0) (λ k. 0) (parsedIn text) s
   unfolding parsedIn
-  submits-gives s h =
-      rw (file-complete text _ (h .rendering))
-      (records-give (h .each-holding) (h .each-line) (refused 0) (λ k. 0) refl refl (omega (arith, h .few-holdings)) (omega (arith, h .few-lines)))
+  submits-gives s h = rw (file-complete text _ (h .rendering)) (file-gives (h .head) (s .head) (h .valued) (h .each-holding) (h .each-line) (h .few-holdings) (h .few-lines))
+
+  submits-some : (s : Submission) → Submits text s → length text ≢ 0
+  unfolding recordsOf
+  submits-some s h e =
+      let nothing : recordsOf text ≡ [] = records-end text 0 (omega (arith, e)) in
+      let all = file-complete text _ (h .rendering) in
+      clash cc
 
   pub read-exactly : ReadExactly text
   read-exactly = record {
     read = (
       λ e.
-          let (short, order) = order-exactly text .0 (none-exactly text .0 e) in
-          order-submits short order,
-      λ h. none-exactly text .1 (order-exactly text .1 (h .short, submits-gives _ h .0)),
+          let (short, some, order) = order-exactly text .0 (none-exactly text .0 e) in
+          order-submits short some order,
+      λ h. none-exactly text .1 (order-exactly text .1 (h .short, submits-some _ h, submits-gives _ h .0)),
     );
     only = λ s h. sym (submits-gives s h .1);
   }

@@ -30,17 +30,17 @@ holdings-fit : {rs : List (List (List ℕ))} {rows : List Row} {prices : List �
 unfolding pricedNumbers numbersOf
 holdings-fit no-holdings = record { each-row = tt; each-price = tt }
 holdings-fit (holding-and {r} {row} {price} is rest) =
-    let (side, (kind, (issuer, (days, (value, (worth, (currency, none))))))) = record-fits 0 r (pricedNumbers row price) is in
+    let (side, (kind, (issuer, (maturity, (value, (worth, (currency, none))))))) = record-fits 1 r (pricedNumbers row price) is in
     let more = holdings-fit rest in
-    record { each-row = ((side, (kind, (issuer, (days, (value, (currency, none)))))), more .each-row); each-price = (worth, more .each-price) }
+    record { each-row = ((side, (kind, (issuer, (maturity, (value, (currency, none)))))), more .each-row); each-price = (worth, more .each-price) }
 
 lines-fit : {rs : List (List (List ℕ))} {lines : List Line} → AreLines rs lines → Each (λ line. Fits (lineNumbers line)) lines
 lines-fit no-lines = tt
-lines-fit (line-and {r} is rest) = (record-fits 1 r _ is, lines-fit rest)
+lines-fit (line-and {r} is rest) = (record-fits 2 r _ is, lines-fit rest)
 
 -- of a file that is read
 pub file-fits : (text : List ℕ) → fileFault text .number ≡ 0 → SubmissionFits (submissionIn text)
 file-fits text e =
     let file = read-exactly text .read .0 e in
     let holdings = holdings-fit (file .each-holding) in
-    record { rows = holdings .each-row; prices = holdings .each-price; lines = lines-fit (file .each-line) }
+    record { head = record-fits 0 (file .head) _ (file .valued); rows = holdings .each-row; prices = holdings .each-price; lines = lines-fit (file .each-line) }

@@ -1,18 +1,18 @@
--- No refusal of a file holds exactly when it is short and its records come in order, none of them one too many. Assumes nothing.
-use mathlib.Core.Path.{_≡_, sym}
+-- No refusal of a file holds exactly when it is short, not empty, and its records come in order, none of them one too many. Assumes nothing.
+use mathlib.Core.Path.{_≡_}
 use mathlib.Core.Logic.{_↔_, _≢_}
-use mathlib.Core.Bool.{true, false≢true}
 use mathlib.Core.List.{List, [], _∷_}
 use Prim.Native.Nat.{ℕ, zero, suc, _+_, _≤_, _<_}
 use native.Mathlib.Nat.{add-zero, zero-add}
 use native.Mathlib.Omega.{arith}
 use lib.ListN.{length, getD, take}
-use borrow.Author.Tests.{le-ltb, ltb-false, eq-eqb, ne-eqb, eqb-false, not-false}
+use borrow.Author.Tests.{le-ltb, ltb-false, eq-eqb, ne-eqb, eqb-false}
 use Rattle.lists.proofs.Firsts.{None, none-in-turn, in-turn-none}
 use Rattle.lists.proofs.Tests.{same-or-not}
 use Rattle.codes.specs.declared.Place.{Place}
-use Rattle.layout.specs.Layout.{Meaning, good, refused, mayFollow}
-use Rattle.reader.specs.File.{parsedIn, valuesBy, limitOf, faultsOf, letterOf, atRecord, fileFaults}
+use Rattle.layout.specs.Layout.{Meaning, good, refused}
+use Rattle.reader.specs.File.{parsedIn, valuesBy, letterOf, atRecord, fileFaults}
+use Rattle.reader.proofs.Comes.{Comes, comes-exactly}
 
 -- how many there are of a letter
 abbrev pub many : ℕ → List Meaning → ℕ
@@ -22,20 +22,10 @@ many k parsed = length (valuesBy k parsed)
 abbrev pub plus : (ℕ → ℕ) → Meaning → ℕ → ℕ
 plus count m k = count k + many k (m ∷ [])
 
--- what may come after a letter and after so many of each: a good record of a letter that may follow, and not one too many
-abbrev pub Comes : Place → (ℕ → ℕ) → Meaning → Type 0
-Comes before count (good k vs) = (mayFollow before k ≡ true) × (count k ≢ limitOf k .0)
-Comes before count (refused number) = ⊥
-
--- and all that is parsed, in turn, after a record and so many
+-- all that is parsed may come, in turn, after a record and so many
 abbrev pub InOrder : Meaning → (ℕ → ℕ) → List Meaning → Type 0
 InOrder last count [] = Unit {0}
 InOrder last count (m ∷ ms) = Comes (letterOf last) count m × InOrder m (plus count m) ms
-
--- a record has no refusal exactly when it may come
-comes-exactly : (n : ℕ) (before : Place) (count : ℕ → ℕ) (m : Meaning) → None (faultsOf n before count m) ↔ Comes before count m
-comes-exactly n before count (good k vs) = (λ c. (not-false _ (c .0), eqb-false _ _ (c .1 .0)), λ h. (rw (h .0), (ne-eqb _ _ (h .1), tt)))
-comes-exactly n before count (refused number) = (λ c. false≢true (sym (c .0)), λ h. absurd h)
 
 -- the first of what is parsed, and the rest
 many-then : (k : ℕ) (m : Meaning) (ms : List Meaning) → many k (m ∷ ms) ≡ many k (m ∷ []) + many k ms
@@ -67,15 +57,16 @@ order-comes [] last count o n q = absurd (omega arith)
 order-comes (m ∷ ms) last count o zero q = rw (first last count m ms) (o .0)
 order-comes (m ∷ ms) last count o (suc n) q = rw (later last count m ms n) (order-comes ms m _ (o .1) n (omega arith))
 
--- then there are not too many of any letter
-pub few : (k : ℕ) (parsed : List Meaning) (last : Meaning) (count : ℕ → ℕ) → InOrder last count parsed → count k ≤ limitOf k .0 → count k + many k parsed ≤ limitOf k .0
-unfolding valuesBy
-few k [] last count o l = omega arith
-few k (m ∷ ms) last count o l = omega (arith, many-then k m ms, few k ms m _ (o .1) (by m (o .0)))
-  where
-    by : (m : Meaning) → Comes (letterOf last) count m → plus count m k ≤ limitOf k .0
-    by (good j vs) c = same-or-not j k (λ e. rw (eq-eqb j k e) (omega (arith, rw e at (c .1)))) (λ o. rw (ne-eqb j k o) (omega arith))
-    by (refused number) c = absurd c
+-- then there are not too many of a letter of which none comes after the most
+module _ (k most : ℕ) (limit : (before : Place) (count : ℕ → ℕ) (vs : List ℕ) → Comes before count (good k vs) → count k ≢ most) where
+  pub few : (parsed : List Meaning) (last : Meaning) (count : ℕ → ℕ) → InOrder last count parsed → count k ≤ most → count k + many k parsed ≤ most
+  unfolding valuesBy
+  few [] last count o l = omega arith
+  few (m ∷ ms) last count o l = omega (arith, many-then k m ms, few ms m _ (o .1) (by m (o .0)))
+    where
+      by : (m : Meaning) → Comes (letterOf last) count m → plus count m k ≤ most
+      by (good j vs) c = same-or-not j k (λ e. rw (eq-eqb j k e) (omega (arith, limit (letterOf last) count vs (rw e at c)))) (λ o. rw (ne-eqb j k o) (omega arith))
+      by (refused number) c = absurd c
 
 -- the records of a file, where nothing came before
 at-exactly : (parsed : List Meaning) (n : ℕ) → None (atRecord parsed n) ↔ ComesAt (refused 0) (λ k. 0) parsed n
@@ -83,10 +74,20 @@ unfolding atRecord
 at-exactly parsed zero = simp zero-add (comes-exactly 0 _ _ (getD parsed 0 (refused 0)))
 at-exactly parsed (suc n) = simp zero-add (comes-exactly (suc n) _ _ (getD parsed (suc n) (refused 0)))
 
-pub order-exactly : (text : List ℕ) → None (fileFaults text) ↔ ((length text ≤ 65536) × InOrder (refused 0) (λ k. 0) (parsedIn text))
+pub order-exactly : (text : List ℕ) → None (fileFaults text) ↔ ((length text ≤ 65536) × (length text ≢ 0) × InOrder (refused 0) (λ k. 0) (parsedIn text))
 unfolding fileFaults
 order-exactly text =
     let parsed = parsedIn text in (
-      λ c. (ltb-false 65536 (length text) (c .0), comes-order parsed _ _ (λ n q. at-exactly parsed n .0 (in-turn-none (atRecord parsed) (length parsed) (c .1) n q))),
-      λ h. (le-ltb 65536 (length text) (h .0), none-in-turn (atRecord parsed) (length parsed) (λ n q. at-exactly parsed n .1 (order-comes parsed _ _ (h .1) n q))),
+      λ c. (
+        ltb-false 65536 (length text) (c .0),
+        eqb-false (length text) 0 (c .1 .0),
+        comes-order parsed _ _ (λ n q. at-exactly parsed n .0 (in-turn-none (atRecord parsed) (length parsed) (c .1 .1) n q)),
+      ),
+      λ h. (
+        le-ltb 65536 (length text) (h .0),
+        (
+          ne-eqb (length text) 0 (h .1),
+          none-in-turn (atRecord parsed) (length parsed) (λ n q. at-exactly parsed n .1 (order-comes parsed _ _ (h .2) n q)),
+        ),
+      ),
     )

@@ -15,13 +15,18 @@ use Rattle.numerals.specs.Numerals.{numeralOf}
 use Rattle.numerals.specs.declared.Numeral.{Numeral}
 use Rattle.numerals.specs.declared.Numeral.the-variants.{Number, NotANumeral}
 use Rattle.numerals.proofs.Exactly.{numeral-exactly}
-use Rattle.layout.specs.Layout.{IsValue, AreValues, no-values, value-and, sides, kinds, issuers, currencies, byPlace, byNumeral, valueOf, Values, values, wrong, andValue, valuesOf}
+use Rattle.dates.specs.Text.{readDate}
+use Rattle.dates.specs.declared.text.Reading.{Reading}
+use Rattle.dates.specs.declared.text.Reading.the-variants.{Number as Dated, NotADate}
+use Rattle.dates.proofs.Texts.{read-exactly}
+use Rattle.layout.specs.Layout.{IsValue, AreValues, no-values, value-and, sides, kinds, issuers, currencies}
+use Rattle.layout.specs.Layout.{byPlace, byNumeral, byDate, valueOf, Values, values, wrong, andValue, valuesOf}
 use Rattle.layout.specs.declared.Sort.{Sort}
-use Rattle.layout.specs.declared.Sort.the-variants.{Side, Kind, Issuer, Currency, Six, Twelve, Empty}
+use Rattle.layout.specs.declared.Sort.the-variants.{Side, Kind, Issuer, Currency, Date, Six, Twelve, Empty}
 use Rattle.layout.specs.declared.Value.{Value}
 use Rattle.layout.specs.declared.Value.the-variants.{Of, Wrong}
 
--- the value of a place, or of a numeral, is its number
+-- the value of a place, of a numeral or of a date is its number
 place-value : (p : Place) (v : ℕ) → (byPlace p ≡ Of v) ↔ (p ≡ At v)
 place-value (At n) v = (λ e. cc, λ e. cc)
 place-value Nowhere v = (λ e. cc, λ e. cc)
@@ -29,6 +34,10 @@ place-value Nowhere v = (λ e. cc, λ e. cc)
 numeral-value : (n : Numeral) (v : ℕ) → (byNumeral n ≡ Of v) ↔ (n ≡ Number v)
 numeral-value (Number n) v = (λ e. cc, λ e. cc)
 numeral-value NotANumeral v = (λ e. cc, λ e. cc)
+
+date-value : (r : Reading) (v : ℕ) → (byDate r ≡ Of v) ↔ (r ≡ Dated v)
+date-value (Dated n) v = (λ e. cc, λ e. cc)
+date-value NotADate v = (λ e. cc, λ e. cc)
 
 -- nothing is the text of an empty field, and 0 its value
 empty-value : (t : List ℕ) (v : ℕ) → (valueOf Empty t ≡ Of v) ↔ IsValue Empty t v
@@ -48,6 +57,7 @@ value-exactly Side t v = Iff·trans (place-value (placeOf t sides) v) (distinct-
 value-exactly Kind t v = Iff·trans (place-value (placeOf t kinds) v) (distinct-exactly t kinds refl v)
 value-exactly Issuer t v = Iff·trans (place-value (placeOf t issuers) v) (distinct-exactly t issuers refl v)
 value-exactly Currency t v = Iff·trans (place-value (placeOf t currencies) v) (distinct-exactly t currencies refl v)
+value-exactly Date t v = Iff·trans (date-value (readDate t) v) (read-exactly t v)
 value-exactly Six t v = Iff·trans (numeral-value (numeralOf 6 t) v) (numeral-exactly 6 t v)
 value-exactly Twelve t v = Iff·trans (numeral-value (numeralOf 12 t) v) (numeral-exactly 12 t v)
 value-exactly Empty t v = empty-value t v

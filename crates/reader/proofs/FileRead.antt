@@ -6,10 +6,11 @@ use Prim.Native.Nat.{ℕ, _≤_, _<_}
 use native.Mathlib.Omega.{arith}
 use lib.ListN.{length, take, drop, length-drop, length-map}
 use lib.Seq.{take-all}
-use borrow.Author.Tests.{ne-eqb, lt-ltb, le-ltb}
+use borrow.Author.Tests.{eq-eqb, ne-eqb, lt-ltb, le-ltb}
 use Rattle.lists.specs.Choice.{firstOf}
 use Rattle.lists.proofs.Firsts.{first-append, skip-none}
 use Rattle.lists.proofs.Passed.{passed-all}
+use Rattle.holding.specs.declared.Head.{Head}
 use Rattle.article.specs.Answer.{makeAnswer}
 use Rattle.codes.specs.declared.Place.{Place}
 use Rattle.csv.proofs.Places.{records-end}
@@ -22,6 +23,10 @@ use Rattle.reader.proofs.Reading.{Reading, Refuses}
 pub too-long : (text : List ℕ) → fileLimit < length text → Refuses text (makeAnswer 18 0 0)
 unfolding fileFaults firstOf
 too-long text h w = rw (lt-ltb fileLimit (length text) h)
+
+pub no-record : (text : List ℕ) → length text ≤ fileLimit → length text ≡ 0 → Refuses text (makeAnswer 22 0 0)
+unfolding fileFaults firstOf
+no-record text short none w = rw (le-ltb fileLimit (length text) short, eq-eqb (length text) 0 none)
 
 pub contents-refused : (text : List ℕ) {rows : ℕ} {book lines book′ lines′ : List ℕ} (number place : ℕ) → Refuses text (makeAnswer number place 0)
     → (number ≡ 0 → ⊥) → ReadsFile text rows book lines book′ lines′ (Refused number place)
@@ -36,8 +41,8 @@ contents-refused text number place f other =
     }
 
 -- all records are read
-module _ {text : List ℕ} {rows : ℕ} {book lines book′ lines′ : List ℕ} {before : Place} {holdings pairs n i : ℕ}
-    (r : Reading text rows book lines book′ lines′ before holdings pairs n i) (end : length text ≤ i) (short : length text ≤ fileLimit) where
+module _ {text : List ℕ} {rows : ℕ} {book lines book′ lines′ : List ℕ} {before : Place} {head : Head} {holdings pairs n i : ℕ}
+    (r : Reading text rows book lines book′ lines′ before head holdings pairs n i) (end : length text ≤ i) (short : length text ≤ fileLimit) (some : length text ≡ 0 → ⊥) where
   none-left : length (parsedIn text) ≤ n
   none-left =
       let none : drop n (parsedIn text) ≡ [] = sym (r .passing .rest) ∙ rw (records-end text i end) in
@@ -49,14 +54,14 @@ module _ {text : List ℕ} {rows : ℕ} {book lines book′ lines′ : List ℕ}
   counts : readAnswer false text ≡ makeAnswer 0 holdings pairs
   unfolding readAnswer fileFaults firstOf submissionOf
   counts =
-      skip-none (fileFaults text) _ _ (le-ltb fileLimit (length text) short, passed-all (r .passing .passed) none-left)
+      skip-none (fileFaults text) _ _ (le-ltb fileLimit (length text) short, (ne-eqb (length text) 0 some, passed-all (r .passing .passed) none-left))
       ∙ simp length-map (rw (r .each-holding .counted, r .each-line .counted, all))
 
-  pub contents-read : ReadsFile text rows book lines book′ lines′ (Read holdings pairs)
-  unfolding contentsOf
+  pub contents-read : ReadsFile text rows book lines book′ lines′ (Read head holdings pairs)
+  unfolding contentsOf submissionOf
   contents-read = record {
     answer = sym counts;
-    contents = rw counts;
+    contents = rw (counts, r .headed, all);
     each-holding = λ z. rw all at (r .each-holding .entered);
     each-line = λ z. rw all at (r .each-line .entered);
   }

@@ -1,3 +1,4 @@
+pub mod Comes
 pub mod Reading
 pub mod Turns
 pub mod FileRead

@@ -1,13 +1,15 @@
--- What holds before each record of a file: those before it are passed, and in their tables. Assumes nothing.
+-- What holds before each record of a file: those before it are passed, the head is that of the first D, and the others are in their tables. Assumes nothing.
 use mathlib.Core.Path.{_≡_, refl}
 use mathlib.Core.Bool.{Bool, true, false, cond}
 use mathlib.Core.List.{List, [], _∷_, _++_, map}
 use Prim.Native.Nat.{ℕ, zero, suc, _-_, _≤_}
 use native.Mathlib.Omega.{arith}
 use lib.Dec.{eqb}
-use lib.ListN.{length, take, drop}
+use lib.ListN.{length, getD, take, drop}
 use Rattle.lists.specs.Choice.{firstOf}
 use Rattle.lists.proofs.Passed.{Passed, passed-none}
+use Rattle.holding.specs.Holding.{headBy}
+use Rattle.holding.specs.declared.Head.{Head}
 use Rattle.article.specs.Answer.{Answer}
 use Rattle.codes.specs.declared.Place.{Place}
 use Rattle.codes.specs.declared.Place.the-variants.{Nowhere}
@@ -15,7 +17,7 @@ use Rattle.csv.specs.Reading.{fieldCount, recordsAt, recordsOf}
 use Rattle.columns.specs.Columns.{Entered}
 use Rattle.columns.proofs.Tables.{entered-none}
 use Rattle.layout.specs.Layout.{Meaning, good, refused, parse}
-use Rattle.reader.specs.File.{parsedIn, valuesBy, limitOf, letterBefore, atRecord, fileFaults}
+use Rattle.reader.specs.File.{parsedIn, valuesBy, letterBefore, atRecord, fileFaults}
 
 -- the values of a letter, of records and of others after them
 pub values-append : (k : ℕ) (xs ys : List Meaning) → valuesBy k (xs ++ ys) ≡ valuesBy k xs ++ valuesBy k ys
@@ -40,42 +42,49 @@ values-few k (suc n) (good letter vs ∷ xs) = by (eqb letter k) (values-few k n
     by false h = omega arith
 values-few k (suc n) (refused number ∷ xs) = omega (arith, values-few k n xs)
 
--- n records are passed, up to place i: none is refused, and this is the letter of the last
+-- n records are passed, up to place i: none is refused, and this is the letter of the last, none only if there is none
 pub record Passing (text : List ℕ) (before : Place) (n i : ℕ) : Type 0 where
   pub few : n ≤ i
   pub rest : map parse (recordsAt text i) ≡ drop n (parsedIn text)
   pub passed : Passed (length (parsedIn text)) (atRecord (parsedIn text)) n
   pub last : before ≡ letterBefore (parsedIn text) n
+  pub started : before ≡ Nowhere → n ≡ 0
 
 -- the records of letter k among the first n
 abbrev pub countBy : List ℕ → ℕ → ℕ → ℕ
 countBy text n k = length (valuesBy k (take n (parsedIn text)))
 
--- they are in a table of so many columns, within the letter's limit
-pub record Tabled (text : List ℕ) (n k columns rows : ℕ) (old now : List ℕ) (put : ℕ) : Type 0 where
+-- they are in a table of so many columns, and not too many
+pub record Tabled (text : List ℕ) (n k most columns rows : ℕ) (old now : List ℕ) (put : ℕ) : Type 0 where
   pub counted : put ≡ countBy text n k
-  pub few : put ≤ limitOf k .0
+  pub few : put ≤ most
   pub entered : Entered columns rows (valuesBy k (take n (parsedIn text))) old now
 
--- n records are read, up to place i: they are passed, and in the two tables
-pub record Reading (text : List ℕ) (rows : ℕ) (book₀ lines₀ book lines : List ℕ) (before : Place) (holdings pairs n i : ℕ) : Type 0 where
+-- the head of the first D among them
+abbrev pub headIn : List ℕ → ℕ → Head
+headIn text n = headBy (getD (valuesBy 0 (take n (parsedIn text))) 0 [])
+
+-- n records are read, up to place i: they are passed, their head is known, and each H and each P is in its table
+pub record Reading (text : List ℕ) (rows : ℕ) (book₀ lines₀ book lines : List ℕ) (before : Place) (head : Head) (holdings pairs n i : ℕ) : Type 0 where
   pub passing : Passing text before n i
-  pub each-holding : Tabled text n 0 (fieldCount - 1) rows book₀ book holdings
-  pub each-line : Tabled text n 1 3 rows lines₀ lines pairs
+  pub headed : head ≡ headIn text n
+  pub each-holding : Tabled text n 1 256 (fieldCount - 1) rows book₀ book holdings
+  pub each-line : Tabled text n 2 512 3 rows lines₀ lines pairs
 
 -- what refuses a text, whatever follows its records
 abbrev pub Refuses : List ℕ → Answer → Type 0
 Refuses text a = (w : Answer) → firstOf (fileFaults text) w ≡ a
 
 -- before the first record
-tabled-none : (text : List ℕ) (k columns rows : ℕ) (table : List ℕ) → Tabled text 0 k columns rows table table 0
+tabled-none : (text : List ℕ) (k most columns rows : ℕ) (table : List ℕ) → Tabled text 0 k most columns rows table table 0
 unfolding valuesBy
-tabled-none text k columns rows table = record { counted = refl; few = omega arith; entered = entered-none columns rows table }
+tabled-none text k most columns rows table = record { counted = refl; few = omega arith; entered = entered-none columns rows table }
 
-pub reading-none : (text : List ℕ) (rows : ℕ) (book lines : List ℕ) → Reading text rows book lines book lines Nowhere 0 0 0 0
-unfolding parsedIn recordsOf
+pub reading-none : (text : List ℕ) (rows : ℕ) (book lines : List ℕ) → Reading text rows book lines book lines Nowhere (headBy []) 0 0 0 0
+unfolding parsedIn recordsOf valuesBy
 reading-none text rows book lines = record {
-  passing = record { few = omega arith; rest = refl; passed = passed-none; last = refl };
-  each-holding = tabled-none text 0 _ rows book;
-  each-line = tabled-none text 1 _ rows lines;
+  passing = record { few = omega arith; rest = refl; passed = passed-none; last = refl; started = λ e. refl };
+  headed = refl;
+  each-holding = tabled-none text 1 _ _ rows book;
+  each-line = tabled-none text 2 _ _ rows lines;
 }

@@ -1,6 +1,6 @@
--- What each turn does with the record that it looked at: it refuses the file, or passes the record and puts it into the table of its letter. Assumes nothing.
+-- What each turn does with the record that it looked at: it refuses the file, or passes the record and keeps the head of a D, puts an H or a P into its table. Assumes nothing.
 use mathlib.Core.Path.{_≡_, refl, sym, ap, _∙_}
-use mathlib.Core.Bool.{true, false}
+use mathlib.Core.Bool.{true, false, false≢true}
 use mathlib.Core.List.{List, [], _∷_, _++_, map, append-nil}
 use Prim.Native.Nat.{ℕ, suc, _+_, _-_, _*_, _≤_, _<_}
 use native.Mathlib.Numerals.{add-one}
@@ -12,9 +12,11 @@ use borrow.Author.Tests.{eq-eqb, ne-eqb, le-ltb, ltb-true, ltb-false}
 use Rattle.lists.specs.Choice.{firstOf}
 use Rattle.lists.proofs.Tests.{either-way}
 use Rattle.lists.proofs.Passed.{passed-more, passed-first}
+use Rattle.holding.specs.Holding.{headBy}
+use Rattle.holding.specs.declared.Head.{Head}
 use Rattle.article.specs.Answer.{Answer, makeAnswer}
 use Rattle.codes.specs.declared.Place.{Place}
-use Rattle.codes.specs.declared.Place.the-variants.{At}
+use Rattle.codes.specs.declared.Place.the-variants.{At, Nowhere}
 use Rattle.csv.specs.Reading.{Split, fields, malformed, recordAt, recordsAt, fieldCount}
 use Rattle.csv.proofs.Places.{clash, progress, records-broken, records-next}
 use Rattle.columns.specs.Columns.{EntryRoom, EntryPut}
@@ -23,8 +25,9 @@ use Rattle.layout.specs.Layout.{letters, Meaning, good, refused, mayFollow, par
 use Rattle.layout.specs.declared.Entry.{Entry}
 use Rattle.layout.specs.declared.Parsed.the-variants.{Good, Refused}
 use Rattle.layout.proofs.Letters.{parse-good, good-length, parse-refused}
-use Rattle.reader.specs.File.{parsedIn, valuesBy, limitOf, faultsOf, atRecord, fileLimit, fileFaults}
-use Rattle.reader.proofs.Reading.{values-append, values-few, Passing, countBy, Tabled, Refuses}
+use Rattle.reader.specs.File.{parsedIn, valuesBy, faultsOf, atRecord, fileLimit, fileFaults}
+use Rattle.reader.proofs.Reading.{values-append, values-few, Passing, countBy, Tabled, headIn, Refuses}
+use Rattle.reader.proofs.Comes.{Comes, comes-exactly}
 
 -- a list of which x and others are left
 module _ {A : Type 0} (d x : A) (others : List A) where
@@ -84,7 +87,9 @@ module _ {text : List ℕ} {before : Place} {n i : ℕ} {vs : List ℕ} {e : Ent
     -- a refusal of it is the file's
     refusal : {a : Answer} → ((w : Answer) → firstOf (faultsOf n before (countBy text n) m) w ≡ a) → Refuses text a
     unfolding fileFaults firstOf
-    refusal f w = rw (le-ltb fileLimit (length text) (u .short)) (passed-first (u .passing .passed) w (nth .within) (λ w. rw faults-here (f w)))
+    refusal f w =
+        rw (le-ltb fileLimit (length text) (u .short), ne-eqb (length text) 0 (λ none. omega (arith, u .more)))
+        (passed-first (u .passing .passed) w (nth .within) (λ w. rw faults-here (f w)))
 
     -- the values of a letter, with those of this record
     values-more : (k : ℕ) → valuesBy k (take (n + 1) (parsedIn text)) ≡ valuesBy k (take n (parsedIn text)) ++ valuesBy k (m ∷ [])
@@ -103,7 +108,7 @@ module _ {text : List ℕ} {before : Place} {n i : ℕ} {vs : List ℕ} {e : Ent
   means : meaningOf (e .parsed) vs ≡ good k vs
   means = rw (g .good)
 
-  -- its letter is one of the two, and it has a value for each field after it
+  -- its letter is a known one, and it has a value for each field after it
   pub turn-letter : k < length letters
   turn-letter = parse-good (readOf text (recordAt text i)) (parsed-here (g .turn) means)
 
@@ -131,55 +136,73 @@ module _ {text : List ℕ} {before : Place} {n i : ℕ} {vs : List ℕ} {e : Ent
   pub turn-ahead : Ahead text i (e .next)
   turn-ahead = followed .0
 
-  module _ {j columns rows put : ℕ} {old now : List ℕ} (t : Tabled text n j columns rows old now put) where
+  -- it is one too many
+  module _ (follows : mayFollow before k ≡ true) where
+    pub turn-full-holdings : k ≡ 1 → countBy text n 1 ≡ 256 → Refuses text (makeAnswer 3 0 0)
+    unfolding firstOf
+    turn-full-holdings here full = refusal (g .turn) means (λ w. rw (follows, here, full))
+
+    pub turn-full-lines : k ≡ 2 → countBy text n 2 ≡ 512 → Refuses text (makeAnswer 9 0 0)
+    unfolding firstOf
+    turn-full-lines here full = refusal (g .turn) means (λ w. rw (follows, here, full))
+
+  -- it may come, and is passed
+  pub turn-passing : Comes before (countBy text n) (good k vs) → Passing text (At k) (n + 1) (e .next)
+  turn-passing comes =
+      let (ahead, rest) = followed in
+      record {
+        few = omega (arith, g .turn .passing .few, ahead .further);
+        rest = rest ∙ rw add-one (sym (nth (g .turn) means .then));
+        passed =
+            passed-more (g .turn .passing .passed) (nth (g .turn) means .within)
+            (rw (faults-here (g .turn) means) (comes-exactly n before (countBy text n) (good k vs) .1 comes));
+        last = rw (add-one, nth (g .turn) means .here);
+        started = λ none. clash cc;
+      }
+
+  -- the values of another letter are those of the records before
+  values-same : (j : ℕ) → (k ≡ j → ⊥) → valuesBy j (take (n + 1) (parsedIn text)) ≡ valuesBy j (take n (parsedIn text))
+  unfolding valuesBy
+  values-same j other = values-more (g .turn) means j ∙ rw (ne-eqb k j other) (append-nil _)
+
+  -- a D is the first record, and its head is kept
+  pub headed-first : k ≡ 0 → mayFollow before k ≡ true → headBy vs ≡ headIn text (n + 1)
+  unfolding valuesBy
+  headed-first here follows =
+      let none : n ≡ 0 = g .turn .passing .started (first-only before (rw here at follows)) in
+      let same : valuesBy 0 (take (n + 1) (parsedIn text)) ≡ vs ∷ [] = values-more (g .turn) means 0 ∙ rw (none, here) in
+      rw same
+    where
+      first-only : (p : Place) → mayFollow p 0 ≡ true → p ≡ Nowhere
+      first-only Nowhere e = refl
+      first-only (At j) e = absurd (false≢true e)
+
+  pub headed-same : {head : Head} → (k ≡ 0 → ⊥) → head ≡ headIn text n → head ≡ headIn text (n + 1)
+  headed-same other same = rw (values-same 0 other) same
+
+  module _ {j most columns rows put : ℕ} {old now : List ℕ} (t : Tabled text n j most columns rows old now put) where
     -- a table of another letter stays as it is
-    pub tabled-same : (k ≡ j → ⊥) → Tabled text (n + 1) j columns rows old now put
-    unfolding valuesBy
-    tabled-same other =
-        let same : valuesBy j (take (n + 1) (parsedIn text)) ≡ valuesBy j (take n (parsedIn text)) = values-more (g .turn) means j ∙ rw (ne-eqb k j other) (append-nil _) in
-        record { counted = rw (same, ← t .counted) refl; few = t .few; entered = rw same (t .entered) }
+    pub tabled-same : (k ≡ j → ⊥) → Tabled text (n + 1) j most columns rows old now put
+    tabled-same other = record { counted = rw (values-same j other, ← t .counted) refl; few = t .few; entered = rw (values-same j other) (t .entered) }
 
-    -- in the table of its letter
-    module _ (here : k ≡ j) where
-      counted-here : countBy text n k ≡ put
-      counted-here = rw here (sym (t .counted))
+    -- in the table of its letter there is room for it, and it is put there
+    module _ (here : k ≡ j) (less : put ≡ most → ⊥) where
+      pub entry-room : length old ≡ 8 * (rows * columns) → (rows < 512 → length text ≤ rows) → columns < fieldCount → most ≤ 512 → EntryRoom columns rows put vs now
+      entry-room whole enough wide low = record {
+        whole = t .entered .long ∙ whole;
+        within =
+            either-way (ltb rows 512)
+            (λ l. omega (arith, enough (ltb-true rows 512 l), values-few j n (parsedIn text), t .counted, g .turn .passing .few, g .turn .more))
+            (λ l. omega (arith, ltb-false rows 512 l, t .few));
+        enough = omega (arith, turn-values);
+      }
 
-      -- it is one too many
-      pub turn-full : mayFollow before k ≡ true → put ≡ limitOf j .0 → Refuses text (makeAnswer (limitOf j .1) 0 0)
-      unfolding firstOf
-      turn-full follows full = rw (← here) (refusal (g .turn) means (λ w. rw (follows, counted-here, eq-eqb put (limitOf k .0) (full ∙ rw here))))
-
-      module _ (less : put ≡ limitOf j .0 → ⊥) where
-        pub turn-passing : mayFollow before k ≡ true → Passing text (At k) (n + 1) (e .next)
-        turn-passing follows =
-            let (ahead, rest) = followed in
-            record {
-              few = omega (arith, g .turn .passing .few, ahead .further);
-              rest = rest ∙ rw add-one (sym (nth (g .turn) means .then));
-              passed =
-                  passed-more (g .turn .passing .passed) (nth (g .turn) means .within)
-                  (rw (faults-here (g .turn) means, follows, counted-here, ne-eqb put (limitOf k .0) (λ full. less (full ∙ rw here))) (refl, (refl, tt)));
-              last = rw (add-one, nth (g .turn) means .here);
-            }
-
-        -- there is room for it, and it is put there
-        pub entry-room : length old ≡ 8 * (rows * columns) → (rows < 512 → length text ≤ rows) → columns < fieldCount → limitOf j .0 ≤ 512
-            → EntryRoom columns rows put vs now
-        entry-room whole enough wide low = record {
-          whole = t .entered .long ∙ whole;
-          within =
-              either-way (ltb rows 512)
-              (λ l. omega (arith, enough (ltb-true rows 512 l), values-few j n (parsedIn text), t .counted, g .turn .passing .few, g .turn .more))
-              (λ l. omega (arith, ltb-false rows 512 l, t .few));
-          enough = omega (arith, turn-values);
-        }
-
-        pub tabled-more : {new : List ℕ} → EntryRoom columns rows put vs now → EntryPut columns rows put vs now new → Tabled text (n + 1) j columns rows old new (put + 1)
-        unfolding valuesBy
-        tabled-more room done =
-            let same : valuesBy j (take (n + 1) (parsedIn text)) ≡ valuesBy j (take n (parsedIn text)) ++ (vs ∷ []) = values-more (g .turn) means j ∙ rw (eq-eqb k j here) in
-            record {
-              counted = rw (same, length-append, ← t .counted) refl;
-              few = omega (arith, t .few);
-              entered = rw same (entered-more (t .entered) (rw (t .counted) at done) (rw (t .counted) at (room .within)));
-            }
+      pub tabled-more : {new : List ℕ} → EntryRoom columns rows put vs now → EntryPut columns rows put vs now new → Tabled text (n + 1) j most columns rows old new (put + 1)
+      unfolding valuesBy
+      tabled-more room done =
+          let same : valuesBy j (take (n + 1) (parsedIn text)) ≡ valuesBy j (take n (parsedIn text)) ++ (vs ∷ []) = values-more (g .turn) means j ∙ rw (eq-eqb k j here) in
+          record {
+            counted = rw (same, length-append, ← t .counted) refl;
+            few = omega (arith, t .few);
+            entered = rw same (entered-more (t .entered) (rw (t .counted) at done) (rw (t .counted) at (room .within)));
+          }

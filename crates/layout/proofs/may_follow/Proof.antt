@@ -1,5 +1,7 @@
--- `may_follow` lets anything come first, and then nothing of an earlier letter. Assumes nothing.
+-- `may_follow` lets D come first, and then neither D nor anything of an earlier letter. Assumes nothing.
+use native.Mathlib.Omega.{arith}
 use borrow.Author.Needs.{needs}
+use borrow.Author.Tests.{lt-ltb}
 use Rattle.layout.proofs.may_follow.Statement.{statement}
 use Rattle.layout.proofs.may_follow.Tie as tie
 
@@ -9,5 +11,6 @@ may-follow-spec =
     (tie.spec
     (λ c. search needs)
     (λ c. search needs)
-    (λ c. search needs)
-    (λ c. rw (c .before .before2 .given .1)))
+    (λ c. rw (c .enum-told .given .1))
+    (λ c. rw (c .before .before .before2 .given .1, c .if1 .taken))
+    (λ c. rw (c .before .before .before2 .given .1, lt-ltb 0 (c .before .before .before .before .args .letter) (omega (arith, c .if1 .left)))))

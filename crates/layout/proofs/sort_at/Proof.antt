@@ -1,4 +1,4 @@
--- `sort_at` is the sort of the field: after H, after P, and none after no letter or past the last. Assumes nothing.
+-- `sort_at` is the sort of the field: after D, after H, after P, and none after no letter or past the last. Assumes nothing.
 use mathlib.Core.Path.{_≡_}
 use Prim.Native.Nat.{ℕ, zero, suc, _≤_}
 use native.Mathlib.Omega.{arith}
@@ -21,15 +21,17 @@ sort-at-spec =
     tie.close
     (tie.spec
     (λ c. search needs)
-    (λ c. search needs)
-    (λ c. search needs)
-    (λ c. search needs)
-    (λ c. search needs)
-    (λ c. search needs)
-    (λ c. search needs)
     (λ c. rw (c .before .if1 .taken) (past-listed 0 _ (from-end _ _ (c .match .rest))))
     (λ c. search needs)
     (λ c. search needs)
     (λ c. search needs)
+    (λ c. search needs)
+    (λ c. search needs)
+    (λ c. search needs)
+    (λ c. search needs)
     (λ c. rw (c .before .if2 .taken) (past-listed 1 _ (from-end _ _ (c .match2 .rest))))
-    (λ c. past-letters (c .before .before .args .letter) (c .before .before .args .j) (omega arith)))
+    (λ c. search needs)
+    (λ c. search needs)
+    (λ c. search needs)
+    (λ c. rw (c .before .if3 .taken) (past-listed 2 _ (from-end _ _ (c .match3 .rest))))
+    (λ c. past-letters (c .before .before .before .args .letter) (c .before .before .before .args .j) (omega arith)))
