@@ -10,6 +10,7 @@ use borrow.Author.Tests.{ltb-true}
 use Rattle.lists.specs.Tables.{listTo}
 use Rattle.lists.proofs.Entries.{every, each-by, each-map}
 use Rattle.lists.proofs.Tables.{to-eq}
+use Rattle.holding.specs.declared.Head.{Head}
 use Rattle.proposal.specs.Submission.{Submission, lineBy, pricedRow, rowPrice}
 use Rattle.columns.specs.Columns.{Columns, columnAt, submission, holdingSizes, lineSizes, column, filledFrom, filled, columnIn, Entered}
 use Rattle.columns.proofs.Columns.{column-entries}
@@ -24,11 +25,11 @@ use Rattle.report.specs.declared.Printed.{Printed}
 use Rattle.report.proofs.Judged.{report-judged}
 use Rattle.printing.specs.Printed.{PrintsColumns, columnsOf, TablesHold}
 
-pub columns-printed : (c : Columns) (before after : Scratch) {v : Verdict} {old now : List ℕ} {r : Printed} → Judges false c before after v
+pub columns-printed : (h : Head) (c : Columns) (before after : Scratch) {v : Verdict} {old now : List ℕ} {r : Printed} → Judges false h c before after v
     → (let lines = reportOf v (length (columnAt (c .holdings) 0) / 8) (after .left) (after .margins) (after .ranks) in Prints lines old now r × (length lines ≤ reportRoom))
-    → PrintsColumns c old now r
-columns-printed c before after judges (p, few) =
-    let same = report-judged c before after _ _ judges (sym (column-entries c .holdings)) in
+    → PrintsColumns h c old now r
+columns-printed h c before after judges (p, few) =
+    let same = report-judged h c before after _ _ judges (sym (column-entries h c .holdings)) in
     record { prints = rw (← same) p; room = rw (← same) few }
 
 -- the columns of one table are equally long
@@ -55,14 +56,14 @@ module _ (n m : ℕ) (book lines : List ℕ) where
       (equal n 7 book (h .few-holdings) (h .whole-book) 0 (1 ∷ 2 ∷ 3 ∷ 4 ∷ 6 ∷ 5 ∷ []) refl, equal m 3 lines (h .few-lines) (h .whole-lines) 0 (1 ∷ 2 ∷ []) refl)
 
   -- where values were entered they hold what these submit
-  module _ (hs ls : List (List ℕ)) where
+  module _ (h : Head) (hs ls : List (List ℕ)) where
     abbrev submitted : Submission
-    submitted = record { rows = map pricedRow hs; prices = map rowPrice hs; lines = map lineBy ls }
+    submitted = record { head = h; rows = map pricedRow hs; prices = map rowPrice hs; lines = map lineBy ls }
 
     pub tables-submitted : {old oldLines : List ℕ} → Entered 7 512 hs old book → Entered 3 512 ls oldLines lines → length hs ≡ n → length ls ≡ m
-        → SubmissionFits submitted → submission (columnsOf n m book lines) ≡ submitted
+        → SubmissionFits submitted → submission h (columnsOf n m book lines) ≡ submitted
     unfolding listTo filledFrom
     tables-submitted e f p q fit =
         let filling : columnsOf n m book lines ≡ filled submitted bare =
-        (λ i. byTables (bare-columns e p i) (bare-columns f q i)) ∙ sym (filled-values hs ls (replicate 7 []) (replicate 3 []) refl refl) in
+        (λ i. byTables (bare-columns e p i) (bare-columns f q i)) ∙ sym (filled-values h hs ls (replicate 7 []) (replicate 3 []) refl refl) in
         rw filling (submission-filled submitted fit)

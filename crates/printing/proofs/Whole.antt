@@ -16,6 +16,7 @@ use Rattle.proposal.specs.Outcome.{outcome}
 use Rattle.proposal.specs.Demands.{Acceptable}
 use Rattle.proposal.proofs.Clear.{number}
 use Rattle.proposal.proofs.Demands.{demands}
+use Rattle.holding.specs.declared.Head.{Head}
 use Rattle.columns.specs.Columns.{submission}
 use Rattle.reader.specs.File.{parsedIn, valuesBy, submissionOf, submissionIn, fileFault, ReadsFile}
 use Rattle.reader.specs.declared.Contents.{Contents}
@@ -23,7 +24,7 @@ use Rattle.reader.specs.declared.Contents.the-variants.{Read, Refused}
 use Rattle.readable.specs.Readable.{Submits}
 use Rattle.readable.proofs.Exactly.{read-exactly}
 use Rattle.readable.proofs.Fitting.{file-fits}
-use Rattle.readable.proofs.Answered.{refusal-known, was-read, no-fault, holdings-held, lines-held, few-holdings, few-lines}
+use Rattle.readable.proofs.Answered.{refusal-known, was-read, no-fault, head-read, holdings-held, lines-held, few-holdings, few-lines}
 use Rattle.verdict.specs.Judges.{outcomeIn}
 use Rattle.verdict.proofs.Judged.{all-ranked}
 use Rattle.report.specs.Report.{lineOf, refusalLine, marginLine, remainderLine, printedLines, bookLine, printedOf, reportRoom, Prints}
@@ -110,7 +111,7 @@ module _ (text : List ℕ) where
         promised (rw line p) (rw line few)
 
     -- tables that the file was read into
-    module _ {n m : ℕ} (e : d ≡ Read n m) (whole : length book ≡ 8 * (512 * 7)) (whole-lines : length lines ≡ 8 * (512 * 3)) where
+    module _ {h : Head} {n m : ℕ} (e : d ≡ Read h n m) (whole : length book ≡ 8 * (512 * 7)) (whole-lines : length lines ≡ 8 * (512 * 3)) where
       pub tables-hold : TablesHold n m book′ lines′
       tables-hold = record {
         few-holdings = few-holdings from-file e;
@@ -119,13 +120,14 @@ module _ (text : List ℕ) where
         whole-lines = from-file .each-line (was-read from-file e) .long ∙ whole-lines;
       }
 
-      pub checked-printed : {before after : List ℕ} {r : Printed} → PrintsColumns (columnsOf n m book′ lines′) before after r → PrintsFile text before after r
+      pub checked-printed : {before after : List ℕ} {r : Printed} → PrintsColumns h (columnsOf n m book′ lines′) before after r → PrintsFile text before after r
       unfolding printed outcomeIn submissionOf
       checked-printed p =
           let read = was-read from-file e in
-          let holds : submission (columnsOf n m book′ lines′) ≡ submissionIn text =
-          tables-submitted n m book′ lines′ (valuesBy 0 (parsedIn text)) (valuesBy 1 (parsedIn text)) (from-file .each-holding read) (from-file .each-line read)
-          (holdings-held from-file e) (lines-held from-file e) (file-fits text (no-fault from-file e)) in
-          let same : printedOf (submission (columnsOf n m book′ lines′)) (outcomeIn false (columnsOf n m book′ lines′)) ≡ printed text =
+          let holds : submission h (columnsOf n m book′ lines′) ≡ submissionIn text =
+          rw (← head-read from-file e)
+          (tables-submitted n m book′ lines′ _ (valuesBy 1 (parsedIn text)) (valuesBy 2 (parsedIn text)) (from-file .each-holding read) (from-file .each-line read)
+          (holdings-held from-file e) (lines-held from-file e) (file-fits text (no-fault from-file e))) in
+          let same : printedOf (submission h (columnsOf n m book′ lines′)) (outcomeIn false h (columnsOf n m book′ lines′)) ≡ printed text =
           rw (answer-checked (no-fault from-file e), tables-even n m book′ lines′ tables-hold, holds) in
           promised (rw same at (p .prints)) (rw same at (p .room))

@@ -8,7 +8,7 @@ returns : tie.Need-returns
 returns c =
     let reported = c .before .before in
     let checked = reported .before .before .before .before .before .before .before .before .before in
-    columns-printed _ _ _ (checked .check .ensures) (reported .report .ensures)
+    columns-printed _ _ _ _ (checked .check .ensures) (reported .report .ensures)
 
 pub print-columns-spec : {M : Type 1} → statement M
 print-columns-spec =
