@@ -1,6 +1,7 @@
 -- `term_fault` is the first of `termFaults`, by the tests made on the way to a return. Assumes nothing.
 use mathlib.Core.Path.{sym, _∙_}
 use mathlib.Core.Logic.{inl, inr}
+use native.Mathlib.Omega.{arith}
 use borrow.Author.Tests.{not-true, not-false}
 use Rattle.holding.proofs.Terms.{unreal-term, out-term, good-term}
 use borrow.Author.Needs.{needs}
@@ -21,7 +22,7 @@ returns-3 c =
     let tested = late .before .before .before .before in
     sym
     (out-term _ _ (sym (tested .before .is-date .ensures) ∙ not-false _ (tested .if1 .left))
-    (inr (rw (← late .anniversary .ensures) (c .if3 .taken))))
+    (inr (omega (arith, late .anniversary .ensures, c .if3 .taken))))
 
 returns-4 : tie.Need-returns-4
 returns-4 c =
@@ -32,7 +33,7 @@ returns-4 c =
     (record {
       date = sym (tested .before .is-date .ensures) ∙ not-false _ (tested .if1 .left);
       after = late .before .if2 .left;
-      until = rw (← late .anniversary .ensures) (c .if3 .left);
+      until = omega (arith, late .anniversary .ensures, c .if3 .left);
     }))
 
 pub term-fault-spec : {M : Type 1} → statement M
