@@ -3,14 +3,8 @@
 pub mod text;
 
 ghost use mathlib.Core.Path.{_≡_};
-ghost use Prim.Native.Nat.{_≤_};
-ghost use Rattle.dates.specs.Calendar.{isLeap, leapDay, monthLength, isDate, nextDay, monthStart, dayNumber, daysBetween, anniversary};
-
-// January to December in a year with no leap day, from entry 1 on.
-const LENGTHS: [u64; 13] = [0, 31, 28, 31, 30, 31, 30, 31, 31, 30, 31, 30, 31];
-
-// The days of such a year before each month.
-const STARTS: [u64; 13] = [0, 0, 31, 59, 90, 120, 151, 181, 212, 243, 273, 304, 334];
+ghost use Prim.Native.Nat.{_+_, _*_, _≤_};
+ghost use Rattle.dates.specs.Calendar.{isLeap, leapDay, monthLength, isDate, nextDay, yearStart, monthStart, dayNumber, daysBetween, anniversary};
 
 fn is_leap(year: u64) -> bool
     ensures { λ r. ⌜ r ≡ isLeap year ⌝ }
@@ -33,36 +27,37 @@ fn leap_day(year: u64) -> u64
     if is_leap(year) { 1 } else { 0 }
 }
 
-// The days of a month; a month that no year has is given none.
+// The days of a month, 31 and 30 in turn and in turn again from August on; a month that no year has is given none.
 fn month_length(year: u64, month: u64) -> u64
     ensures { λ r. ⌜ r ≡ monthLength year month ⌝ }
 {
-    if 12 < month {
-        return 0;
-    }
     if month == 2 {
         return 28 + leap_day(year);
     }
-    LENGTHS[month as usize]
+    if month < 1 {
+        return 0;
+    }
+    if 12 < month {
+        return 0;
+    }
+    30 + (month + month / 8) % 2
 }
 
 // Whether a number is a day of the calendar in the years 1900 to 2299.
 pub fn is_date(d: u64) -> bool
     ensures { λ r. ⌜ r ≡ isDate d ⌝ }
 {
-    let year = d / 10000;
-    let month = d / 100 % 100;
+    if d < 19000101 {
+        return false;
+    }
+    if 22991231 < d {
+        return false;
+    }
     let day = d % 100;
-    if year < 1900 {
-        return false;
-    }
-    if 2299 < year {
-        return false;
-    }
     if day < 1 {
         return false;
     }
-    day <= month_length(year, month)
+    day <= month_length(d / 10000, d / 100 % 100)
 }
 
 // The day after.
@@ -82,27 +77,33 @@ pub fn next_day(d: u32) -> u64
     10000 * (year + 1) + 101
 }
 
-// The days of a year before a month.
-fn month_start(year: u64, month: u64) -> u64
-    ensures { λ r. ⌜ (r ≡ monthStart year month) × (r ≤ 366) ⌝ }
+// The days of a common year before a month, of which February has two less than 30.
+fn month_start(month: u64) -> u64
+    ensures { λ r. ⌜ (r ≡ monthStart 1 month) × (r ≤ 365) ⌝ }
 {
-    if month <= 2 {
-        return STARTS[month as usize];
-    }
-    if month <= 12 {
-        return STARTS[month as usize] + leap_day(year);
-    }
-    365 + leap_day(year)
+    let low = if month < 1 { 1 } else { month };
+    let place = if 12 < low { 13 } else { low };
+    let short = if place <= 2 { 0 } else { 2 };
+    (367 * place - 362) / 12 - short
 }
 
-// A day's number in the count of all days.
+// The leap days of the years before a year.
+fn leap_days(year: u64) -> u64
+    requires { ⌜ year ≤ 429497 ⌝ }
+    ensures { λ r. ⌜ (365 * year + r ≡ yearStart year) × (r ≤ 110000) ⌝ }
+{
+    (year + 3) / 4 - (year + 99) / 100 + (year + 399) / 400
+}
+
+// A day's number in the count of all days: the leap day of its own year counts from March on.
 fn day_number(d: u32) -> u64
     ensures { λ r. ⌜ (r ≡ dayNumber d) × (r ≤ 200000000) ⌝ }
 {
     let number = d as u64;
     let year = number / 10000;
-    let start = month_start(year, number / 100 % 100);
-    365 * year + (year + 3) / 4 - (year + 99) / 100 + (year + 399) / 400 + start + number % 100
+    let month = number / 100 % 100;
+    let years = if month <= 2 { year } else { year + 1 };
+    365 * year + leap_days(years) + month_start(month) + number % 100
 }
 
 // The days from one date to another, 0 to an earlier one.

@@ -9,7 +9,7 @@ ghost use Prim.Native.Nat.{_≤_, _<_};
 ghost use Rattle.rates.specs.Rate.{periodOf, classOf, bondRate, stripRate, rateOf};
 
 // Issuer class (Canada with US and GB, the provinces) by period: the article's percentages in units.
-const FLAT: [[u64; 5]; 2] = [
+const FLAT: [[u16; 5]; 2] = [
     [1460, 1460, 2920, 5840, 5840],
     [2920, 4380, 5840, 7300, 7300],
 ];
@@ -53,7 +53,7 @@ fn bond_rate(account: Account, issuer: Issuer, maturity: u32) -> u64
     let class = class_of(issuer);
     let period = period(account, maturity);
     let at = (period - 1) as usize;
-    let flat = FLAT[class][at];
+    let flat = FLAT[class][at] as u64;
     if period == 1 {
         return flat * dates::days_between(account.date, maturity) / 365;
     }
