@@ -1,6 +1,6 @@
 //! A book and a proposal on it.
 
-use crate::{Currency, Issuer, Kind, Side};
+use crate::{Currency, Date, Issuer, Kind, Side};
 
 /// One holding. Its ranges are the check's to judge.
 #[derive(Clone, Copy, Debug, PartialEq, Eq, Hash)]
@@ -11,70 +11,66 @@ pub struct Holding {
     pub kind: Kind,
     /// Canada, a province, the United States or the United Kingdom.
     pub issuer: Issuer,
-    /// Days to maturity, for a coupon to its payment date: 1 to 36,500.
-    pub days: u64,
+    /// The maturity, for a coupon its payment date: after the valuation date, and no later than its
+    /// 100th anniversary.
+    pub maturity: Date,
     /// Market value in Canadian cents, 1 to 100,000,000,000.
     pub value: u64,
     /// What it is denominated in.
     pub currency: Currency,
 }
 
-/// A book: up to 256 holdings, numbered from 0. Two may be alike in everything.
+/// A book on its valuation date: up to 256 holdings, numbered from 0. Two may be alike in everything.
 ///
 /// ```
 /// use margin_host::{Book, Currency, Holding, Issuer, Kind, Side};
 ///
-/// let records = [("ON", 1_000), ("QC", 2_000)];
-/// let book: Result<Book, _> = records
-///     .into_iter()
-///     .map(|(issuer, value)| {
-///         Ok::<_, margin_host::UnknownCode>(Holding {
-///             side: Side::Long,
-///             kind: Kind::Bond,
-///             issuer: issuer.parse()?,
-///             days: 400,
-///             value,
-///             currency: Currency::Cad,
-///         })
-///     })
-///     .collect();
-/// assert_eq!(book.map(|book| book.holdings[1].issuer), Ok(Issuer::Quebec));
+/// let records = [("ON", "2026-02-05", 1_000), ("QC", "2028-02-29", 2_000)];
+/// let mut book = Book::new("2025-01-01".parse()?, []);
+/// for (issuer, maturity, value) in records {
+///     book.holdings.push(Holding {
+///         side: Side::Long,
+///         kind: Kind::Bond,
+///         issuer: issuer.parse()?,
+///         maturity: maturity.parse()?,
+///         value,
+///         currency: Currency::Cad,
+///     });
+/// }
+/// assert_eq!(book.holdings[1].issuer, Issuer::Quebec);
+/// # Ok::<(), Box<dyn std::error::Error>>(())
 /// ```
-#[derive(Clone, Debug, Default, PartialEq, Eq, Hash)]
+#[derive(Clone, Debug, PartialEq, Eq, Hash)]
 pub struct Book {
+    /// The valuation date.
+    pub date: Date,
     /// The holdings in the order of their numbers.
     pub holdings: Vec<Holding>,
 }
 
 impl Book {
-    /// A book of these holdings.
+    /// A book of these holdings on this valuation date.
     ///
     /// ```
-    /// use margin_host::{Book, Currency, Holding, Issuer, Kind, Side};
+    /// use margin_host::{Book, Currency, Date, Holding, Issuer, Kind, Side};
     ///
+    /// let date = Date::new(2025, 1, 1).expect("a day");
     /// let bond = Holding {
     ///     side: Side::Long,
     ///     kind: Kind::Bond,
     ///     issuer: Issuer::Canada,
-    ///     days: 365,
+    ///     maturity: Date::new(2026, 1, 1).expect("a day"),
     ///     value: 1_000,
     ///     currency: Currency::Cad,
     /// };
     /// let coupon = Holding { kind: Kind::Coupon, ..bond };
-    /// assert_eq!(Book::new([bond, coupon]).holdings, vec![bond, coupon]);
+    /// assert_eq!(Book::new(date, [bond, coupon]).holdings, vec![bond, coupon]);
     /// ```
     #[must_use]
-    pub fn new(holdings: impl Into<Vec<Holding>>) -> Book {
+    pub fn new(date: Date, holdings: impl Into<Vec<Holding>>) -> Book {
         Book {
+            date,
             holdings: holdings.into(),
-        }
-    }
-}
-
-impl FromIterator<Holding> for Book {
-    fn from_iter<T: IntoIterator<Item = Holding>>(holdings: T) -> Book {
-        Book {
-            holdings: holdings.into_iter().collect(),
         }
     }
 }

@@ -24,8 +24,8 @@ pub struct Accepted {
 
 /// Checks a proposal on a book.
 ///
-/// The call needs less than 32 KiB of stack, whatever the size of the book: when tried with 256 holdings it
-/// returned on a thread of 32 KiB and not on one of 30. The tests call it on a thread of 40 KiB.
+/// The call needs less than 34 KiB of stack, whatever the size of the book: when tried with 256 holdings it
+/// returned on a thread of 34 KiB and not on one of 32. The tests call it on a thread of 40 KiB.
 ///
 /// # Errors
 ///
@@ -39,19 +39,20 @@ pub struct Accepted {
 ///
 /// ```
 /// use margin_host::{
-///     Book, Currency, Holding, Issuer, Kind, Line, Proposal, Refusal, Side, check,
+///     Book, Currency, Date, Holding, Issuer, Kind, Line, Proposal, Refusal, Side, check,
 /// };
 ///
+/// let date = Date::new(2025, 1, 1).expect("a day");
 /// let coupon = Holding {
 ///     side: Side::Long,
 ///     kind: Kind::Coupon,
 ///     issuer: Issuer::Ontario,
-///     days: 2_000,
+///     maturity: Date::new(2030, 6, 24).expect("a day"),
 ///     value: 1_000,
 ///     currency: Currency::Cad,
 /// };
 /// let residual = Holding { side: Side::Short, kind: Kind::Residual, value: 400, ..coupon };
-/// let book = Book::new([coupon, residual]);
+/// let book = Book::new(date, [coupon, residual]);
 /// let mut proposal = Proposal::new([0, 17_520], [Line { long: 0, short: 1, amount: 400 }]);
 /// let accepted = check(&book, &proposal)?;
 /// assert_eq!(accepted.figures.cents, 36);
@@ -62,10 +63,14 @@ pub struct Accepted {
 /// # Ok::<(), Refusal>(())
 /// ```
 pub fn check(book: &Book, proposal: &Proposal) -> Result<Accepted, Refusal> {
-    let count = book.holdings.len();
+    accepted(book.date.number(), &Columns::of(book, proposal))
+}
+
+/// What the check says to columns, with lists of their length.
+pub(crate) fn accepted(date: u64, columns: &Columns<Vec<u64>>) -> Result<Accepted, Refusal> {
+    let count = columns.side.len();
     let (mut remainder, mut ranking) = (vec![0; count], vec![0; count]);
-    let columns = Columns::of(book, proposal);
-    let figures = check_columns(&columns, &mut remainder, &mut ranking)?;
+    let figures = check_columns(date, columns, &mut remainder, &mut ranking)?;
     Ok(Accepted {
         figures,
         remainder,
@@ -73,7 +78,8 @@ pub fn check(book: &Book, proposal: &Proposal) -> Result<Accepted, Refusal> {
     })
 }
 
-/// Checks columns of numbers, in place and whatever they hold.
+/// Checks columns of numbers on a valuation date, in place and whatever they hold. Dates are the numbers
+/// YYYYMMDD.
 ///
 /// On acceptance the first entries of `remainder` and `ranking`, one for each holding, are written, as in
 /// [`Accepted`]. Entries past them, and on a refusal both lists, are kept. It needs as much stack as
@@ -96,7 +102,7 @@ pub fn check(book: &Book, proposal: &Proposal) -> Result<Accepted, Refusal> {
 ///     side: &[0, 1],
 ///     kind: &[1, 2],
 ///     issuer: &[7, 9],
-///     days: &[2_000, 2_000],
+///     maturity: &[2030_06_24, 2030_06_24],
 ///     value: &[1_000, 400],
 ///     price: &[0, 17_520],
 ///     currency: &[0, 0],
@@ -105,15 +111,16 @@ pub fn check(book: &Book, proposal: &Proposal) -> Result<Accepted, Refusal> {
 ///     amount: &[400],
 /// };
 /// let (mut remainder, mut ranking) = ([0; 2], [0; 2]);
-/// let figures = check_columns(&columns, &mut remainder, &mut ranking);
+/// let figures = check_columns(2025_01_01, &columns, &mut remainder, &mut ranking);
 /// assert_eq!(figures, Ok(Figures { units: 5_256_000, cents: 36 }));
 /// assert_eq!((remainder, ranking), ([600, 0], [0, 1]));
 ///
 /// columns.issuer = &[7, 13];
-/// let refused = check_columns(&columns, &mut remainder, &mut ranking);
+/// let refused = check_columns(2025_01_01, &columns, &mut remainder, &mut ranking);
 /// assert_eq!(refused, Err(Refusal::IssuerUnknown { holding: 1 }));
 /// ```
 pub fn check_columns<C: AsRef<[u64]>>(
+    date: u64,
     columns: &Columns<C>,
     remainder: &mut [u64],
     ranking: &mut [u64],
@@ -121,7 +128,7 @@ pub fn check_columns<C: AsRef<[u64]>>(
     let columns = columns.each_ref().map(|column| bytes(column.as_ref()));
     let (remainder, ranking) = (bytes_mut(remainder), bytes_mut(ranking));
     let mut answer = [0; 16];
-    let number = raw::margin_check(&columns, remainder, ranking, &mut answer);
+    let number = raw::margin_check(date, &columns, remainder, ranking, &mut answer);
     let (first, second) = halves(&answer);
     if number == 0 {
         return Ok(Figures {
@@ -130,10 +137,10 @@ pub fn check_columns<C: AsRef<[u64]>>(
         });
     }
     match Refusal::from_parts(number, first, second) {
-        Some(refusal) if matches!(number, 1..=17 | 23) => Err(refusal),
+        Some(refusal) if matches!(number, 1..=17 | 23 | 24) => Err(refusal),
         _ => unreachable!(
-            "the check's contract is proved: it returns 0 to 17 or 23, and a place only where \
-             the number has one"
+            "the check's contract is proved: it returns 0 to 17, 23 or 24, and a place only \
+             where the number has one"
         ),
     }
 }

@@ -1,6 +1,6 @@
 //! A book and a proposal as columns.
 
-use crate::{Book, Currency, Holding, Issuer, Kind, Line, Proposal, Side};
+use crate::{Book, Currency, Date, Holding, Issuer, Kind, Line, Proposal, Refusal, Side};
 
 /// Defines the columns by their names, in the order in which they are lent.
 macro_rules! columns {
@@ -21,7 +21,7 @@ macro_rules! columns {
         ///     side: &[0, 1, 1],
         ///     kind: &[1, 0, 2],
         ///     issuer: &[0, 0, 7],
-        ///     days: &[2_000, 2_000, 2_000],
+        ///     maturity: &[2030_06_24, 2030_06_24, 2030_06_24],
         ///     value: &[1_000_000, 600_000, 300_000],
         ///     price: &[0, 5_840, 6_570],
         ///     currency: &[0, 0, 0],
@@ -139,8 +139,8 @@ columns! {
         /// 0 Canada, 1 to 10 a province, 11 the United States, 12 the United Kingdom:
         /// [`Issuer::number`].
         issuer,
-        /// Days to maturity, 1 to 36,500.
-        days,
+        /// The maturity as YYYYMMDD: [`Date::number`].
+        maturity,
         /// Market value in Canadian cents, 1 to 100,000,000,000.
         value,
         /// The proposal's price of each holding, 0 to 43,800.
@@ -159,21 +159,23 @@ columns! {
 }
 
 impl Columns<Vec<u64>> {
-    /// The columns of a book and a proposal.
+    /// The columns of a book and a proposal. The valuation date is in none of them.
     ///
     /// ```
-    /// use margin_host::{Book, Columns, Currency, Holding, Issuer, Kind, Proposal, Side};
+    /// use margin_host::{Book, Columns, Currency, Date, Holding, Issuer, Kind, Proposal, Side};
     ///
+    /// let date = Date::new(2025, 1, 1).expect("a day");
     /// let holding = Holding {
     ///     side: Side::Short,
     ///     kind: Kind::Residual,
     ///     issuer: Issuer::Ontario,
-    ///     days: 2_000,
+    ///     maturity: Date::new(2030, 6, 24).expect("a day"),
     ///     value: 300_000,
     ///     currency: Currency::Cad,
     /// };
-    /// let columns = Columns::of(&Book::new([holding]), &Proposal::new([6_570], []));
+    /// let columns = Columns::of(&Book::new(date, [holding]), &Proposal::new([6_570], []));
     /// assert_eq!((columns.side, columns.kind, columns.issuer), (vec![1], vec![2], vec![7]));
+    /// assert_eq!(columns.maturity, vec![2030_06_24]);
     /// ```
     #[must_use]
     pub fn of(book: &Book, proposal: &Proposal) -> Columns<Vec<u64>> {
@@ -183,7 +185,7 @@ impl Columns<Vec<u64>> {
             side: holdings(|holding| holding.side.number()),
             kind: holdings(|holding| holding.kind.number()),
             issuer: holdings(|holding| holding.issuer.number()),
-            days: holdings(|holding| holding.days),
+            maturity: holdings(|holding| holding.maturity.number()),
             value: holdings(|holding| holding.value),
             price: proposal.prices.clone(),
             currency: holdings(|holding| holding.currency.number()),
@@ -193,17 +195,21 @@ impl Columns<Vec<u64>> {
         }
     }
 
-    /// The book and the proposal of columns as long as they must be, if every side, kind, issuer and
-    /// currency is known.
-    pub(crate) fn book_and_proposal(self) -> Option<(Book, Proposal)> {
+    /// The book on this date and the proposal of columns that the reader has filled: it knows each side,
+    /// kind, issuer and currency, but not whether a date is a day.
+    pub(crate) fn book_and_proposal(self, date: u64) -> Result<(Book, Proposal), Refusal> {
+        const KNOWN: &str =
+            "the reader's contract is proved: it knows each side, kind, issuer and currency";
+        let day =
+            |number, holding| Date::from_number(number).ok_or(Refusal::DateInvalid { holding });
         let holding = |at: usize| {
-            Some(Holding {
-                side: Side::from_number(self.side[at])?,
-                kind: Kind::from_number(self.kind[at])?,
-                issuer: Issuer::from_number(self.issuer[at])?,
-                days: self.days[at],
+            Ok(Holding {
+                side: Side::from_number(self.side[at]).expect(KNOWN),
+                kind: Kind::from_number(self.kind[at]).expect(KNOWN),
+                issuer: Issuer::from_number(self.issuer[at]).expect(KNOWN),
+                maturity: day(self.maturity[at], at as u64)?,
                 value: self.value[at],
-                currency: Currency::from_number(self.currency[at])?,
+                currency: Currency::from_number(self.currency[at]).expect(KNOWN),
             })
         };
         let line = |at: usize| Line {
@@ -211,10 +217,10 @@ impl Columns<Vec<u64>> {
             short: self.short[at],
             amount: self.amount[at],
         };
-        let book = (0..self.side.len())
-            .map(holding)
-            .collect::<Option<Book>>()?;
+        let date = day(date, 0)?;
+        let holdings = (0..self.side.len()).map(holding);
+        let holdings = holdings.collect::<Result<Vec<Holding>, Refusal>>()?;
         let lines: Vec<Line> = (0..self.long.len()).map(line).collect();
-        Some((book, Proposal::new(self.price, lines)))
+        Ok((Book::new(date, holdings), Proposal::new(self.price, lines)))
     }
 }

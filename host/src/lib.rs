@@ -2,24 +2,25 @@
 //! In Canadian dollars it pairs debt of Canada and its provinces; in US dollars or sterling a bond of Canada,
 //! the United States or the United Kingdom with a strip of the same government.
 //!
-//! A desk makes a [`Book`] of [`Holding`]s and a [`Proposal`] on it, or reads both from a file with
-//! [`read()`]; [`check()`] gives the least margin, or the [`Refusal`]. Both are done by code that was
-//! proved: this package lends it the memory and names its answers. Callers that keep [`Columns`] of
-//! numbers use [`check_columns`], and [`raw`] has both calls on bytes.
+//! A desk makes a [`Book`] of [`Holding`]s on its valuation date and a [`Proposal`] on it, or reads both from
+//! a file with [`read()`]; [`check()`] gives the least margin, or the [`Refusal`]. Both are done by code that
+//! was proved: this package lends it the memory and names its answers. Callers that keep [`Columns`] of
+//! numbers use [`check_columns`] and [`read_columns`], and [`raw`] has both calls on bytes.
 //!
-//! The file that document 01, the customer's scope, prints, in Canadian dollars:
+//! The file that document 01, the customer's scope, prints, in Canadian dollars and valued on 2025-01-01:
 //!
 //! ```
 //! use margin_host::{
-//!     Book, Currency, Figures, Holding, Issuer, Kind, Line, Proposal, Refusal, Side, check,
+//!     Book, Currency, Date, Figures, Holding, Issuer, Kind, Line, Proposal, Refusal, Side, check,
 //!     check_file,
 //! };
 //!
+//! let date = Date::new(2025, 1, 1).expect("a day");
 //! let coupon = Holding {
 //!     side: Side::Long,
 //!     kind: Kind::Coupon,
 //!     issuer: Issuer::Canada,
-//!     days: 2_000,
+//!     maturity: Date::new(2030, 6, 24).expect("a day"),
 //!     value: 1_000_000,
 //!     currency: Currency::Cad,
 //! };
@@ -31,7 +32,7 @@
 //!     value: 300_000,
 //!     ..coupon
 //! };
-//! let book = Book::new([coupon, bond, residual]);
+//! let book = Book::new(date, [coupon, bond, residual]);
 //! let lines = [
 //!     Line { long: 0, short: 1, amount: 600_000 },
 //!     Line { long: 0, short: 2, amount: 300_000 },
@@ -42,9 +43,10 @@
 //! assert_eq!(accepted.remainder, vec![100_000, 0, 0]);
 //! assert_eq!(accepted.ranking, vec![0, 1, 2]);
 //!
-//! let text = "H,L,C,CA,2000,1000000,0,CAD\r\n\
-//!             H,S,B,CA,2000,600000,5840,CAD\r\n\
-//!             H,S,R,ON,2000,300000,6570,CAD\r\n\
+//! let text = "D,2025-01-01,,,,,,\r\n\
+//!             H,L,C,CA,2030-06-24,1000000,0,CAD\r\n\
+//!             H,S,B,CA,2030-06-24,600000,5840,CAD\r\n\
+//!             H,S,R,ON,2030-06-24,300000,6570,CAD\r\n\
 //!             P,0,1,600000,,,,\r\n\
 //!             P,0,2,300000,,,,\r\n";
 //! assert_eq!(check_file(text.as_bytes())?, accepted);
@@ -60,6 +62,7 @@ mod book;
 mod check;
 mod codes;
 mod columns;
+mod date;
 pub mod raw;
 mod read;
 mod refusal;
@@ -68,5 +71,6 @@ pub use book::{Book, Holding, Line, Proposal};
 pub use check::{Accepted, Figures, check, check_columns};
 pub use codes::{Currency, Issuer, Kind, Side, UnknownCode};
 pub use columns::Columns;
-pub use read::{check_file, read};
+pub use date::{Date, InvalidDate};
+pub use read::{check_file, read, read_columns};
 pub use refusal::Refusal;

@@ -3,19 +3,21 @@
 use crate::Columns;
 
 unsafe extern "C" {
-    // Twelve slices, each a pointer and then its length in bytes.
+    // Thirteen slices, each a pointer and then its length in bytes.
     #[link_name = "margin_read"]
     fn exported_read(
         text: *const u8,
         text_length: usize,
+        head: *mut u8,
+        head_length: usize,
         side: *mut u8,
         side_length: usize,
         kind: *mut u8,
         kind_length: usize,
         issuer: *mut u8,
         issuer_length: usize,
-        days: *mut u8,
-        days_length: usize,
+        maturity: *mut u8,
+        maturity_length: usize,
         value: *mut u8,
         value_length: usize,
         price: *mut u8,
@@ -32,17 +34,18 @@ unsafe extern "C" {
         answer_length: usize,
     ) -> u64;
 
-    // Thirteen slices, each a pointer and then its length in bytes.
+    // The valuation date, and thirteen slices, each a pointer and then its length in bytes.
     #[link_name = "margin_check"]
     fn exported_check(
+        date: u64,
         side: *const u8,
         side_length: usize,
         kind: *const u8,
         kind_length: usize,
         issuer: *const u8,
         issuer_length: usize,
-        days: *const u8,
-        days_length: usize,
+        maturity: *const u8,
+        maturity_length: usize,
         value: *const u8,
         value_length: usize,
         price: *const u8,
@@ -64,7 +67,7 @@ unsafe extern "C" {
     ) -> u64;
 }
 
-/// Calls the check and returns the refusal number, 0 for accepted.
+/// Calls the check on a valuation date, the number YYYYMMDD, and returns the refusal number, 0 for accepted.
 ///
 /// An answer slice of 16 bytes or more gets units and cents, or the two places; a shorter one is kept.
 /// On acceptance the remainder and the ranking get one entry for each holding; a refusal keeps both.
@@ -76,19 +79,19 @@ unsafe extern "C" {
 ///
 /// // One Canada bond of one cent and one day, without a line.
 /// let number = |number: u64| number.to_le_bytes();
-/// let (zero, one) = (number(0), number(1));
+/// let (zero, one, maturity) = (number(0), number(1), number(2025_01_02));
 /// let mut columns: Columns<&[u8]> = Columns::by_group(&zero, &[]);
-/// (columns.days, columns.value) = (&one, &one);
+/// (columns.maturity, columns.value) = (&maturity, &one);
 /// let (mut remainder, mut ranking, mut answer) = ([0; 8], [9; 8], [0; 16]);
-/// assert_eq!(raw::margin_check(&columns, &mut remainder, &mut ranking, &mut answer), 0);
+/// let mut check = |date| raw::margin_check(date, &columns, &mut remainder, &mut ranking, &mut answer);
+/// assert_eq!(check(2025_01_02), 7);
+/// assert_eq!(check(2025_01_01), 0);
 /// assert_eq!((remainder, ranking), (one, zero));
 /// assert_eq!(answer.as_chunks().0, [number(4), number(1)]);
-///
-/// columns.days = &zero;
-/// assert_eq!(raw::margin_check(&columns, &mut remainder, &mut ranking, &mut answer), 7);
 /// ```
 #[must_use]
 pub fn margin_check(
+    date: u64,
     columns: &Columns<&[u8]>,
     remainder: &mut [u8],
     ranking: &mut [u8],
@@ -101,10 +104,11 @@ pub fn margin_check(
     #[rustfmt::skip]
     let number = unsafe {
         exported_check(
+            date,
             c.side.as_ptr(), c.side.len(),
             c.kind.as_ptr(), c.kind.len(),
             c.issuer.as_ptr(), c.issuer.len(),
-            c.days.as_ptr(), c.days.len(),
+            c.maturity.as_ptr(), c.maturity.len(),
             c.value.as_ptr(), c.value.len(),
             c.price.as_ptr(), c.price.len(),
             c.currency.as_ptr(), c.currency.len(),
@@ -121,41 +125,49 @@ pub fn margin_check(
 
 /// Calls the reader and returns the refusal number, 0 for a file that was read.
 ///
-/// A file that is read goes to the front of the lists, seven with an entry for each holding and three with
-/// one for each line; what comes after is kept, and a refusal keeps all ten. An answer slice of 16 bytes or
-/// more gets the number of holdings and the number of lines, or the place and 0; a shorter one is kept.
+/// A file that is read goes to the front of the lists: its valuation date to the first entry of the head, and
+/// of the columns seven get an entry for each holding and three one for each line. What comes after is kept,
+/// and a refusal keeps the head and all ten. An answer slice of 16 bytes or more gets the number of holdings
+/// and the number of lines, or the place and 0; a shorter one is kept.
 ///
-/// The call needs less than 48 KB of stack, whatever the size of the file: when tried with one holding and
-/// with 256 holdings and 512 lines, threads of 48,000 bytes were enough, and 46,000 were not.
+/// The call needs less than 50 KB of stack, whatever the size of the file: when tried with one holding and
+/// with 256 holdings and 512 lines, threads of 50,000 bytes were enough, and 48,000 were not.
 ///
 /// ```
 /// use margin_host::{Columns, raw};
 ///
 /// let mut room = Columns::by_group(vec![0; 8], vec![0; 8]);
 /// let mut columns = room.each_mut().map(Vec::as_mut_slice);
-/// let mut answer = [0; 16];
-/// let text = b"H,S,B,US,2000,600000,5840,USD\r\n";
-/// assert_eq!(raw::margin_read(text, &mut columns, &mut answer), 0);
-/// assert_eq!(columns.value, 600_000_u64.to_le_bytes());
+/// let (mut head, mut answer) = ([0; 8], [0; 16]);
+/// let text = b"D,2025-01-01,,,,,,\r\nH,S,B,US,2030-06-24,600000,5840,USD\r\n";
+/// assert_eq!(raw::margin_read(text, &mut head, &mut columns, &mut answer), 0);
+/// assert_eq!(head, 2025_01_01_u64.to_le_bytes());
+/// assert_eq!(columns.maturity, 2030_06_24_u64.to_le_bytes());
 /// assert_eq!(columns.currency, 1_u64.to_le_bytes());
 /// assert_eq!(answer.as_chunks().0, [1_u64.to_le_bytes(), [0; 8]]);
 ///
-/// assert_eq!(raw::margin_read(b"\r\n", &mut columns, &mut answer), 20);
+/// assert_eq!(raw::margin_read(b"\r\n", &mut head, &mut columns, &mut answer), 20);
 /// ```
 #[must_use]
-pub fn margin_read(text: &[u8], columns: &mut Columns<&mut [u8]>, answer: &mut [u8]) -> u64 {
+pub fn margin_read(
+    text: &[u8],
+    head: &mut [u8],
+    columns: &mut Columns<&mut [u8]>,
+    answer: &mut [u8],
+) -> u64 {
     let c = columns;
     // SAFETY: each pointer comes from a slice that is borrowed for the whole call, beside that slice's
-    // own length. The eleven lists are borrowed alone, so nothing else refers to them meanwhile. The reader
+    // own length. The twelve lists are borrowed alone, so nothing else refers to them meanwhile. The reader
     // presumes nothing of the bytes and keeps no pointer.
     #[rustfmt::skip]
     let number = unsafe {
         exported_read(
             text.as_ptr(), text.len(),
+            head.as_mut_ptr(), head.len(),
             c.side.as_mut_ptr(), c.side.len(),
             c.kind.as_mut_ptr(), c.kind.len(),
             c.issuer.as_mut_ptr(), c.issuer.len(),
-            c.days.as_mut_ptr(), c.days.len(),
+            c.maturity.as_mut_ptr(), c.maturity.len(),
             c.value.as_mut_ptr(), c.value.len(),
             c.price.as_mut_ptr(), c.price.len(),
             c.currency.as_mut_ptr(), c.currency.len(),

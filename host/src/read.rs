@@ -1,17 +1,20 @@
 //! The file's reader with its answer as a `Result`, and reading and checking in one call.
 
-use crate::check::{bytes_mut, check, halves};
+use crate::check::{accepted, bytes_mut, halves};
 use crate::{Accepted, Book, Columns, Proposal, Refusal, raw};
 
 /// Entries that no file exceeds.
 const MOST_HOLDINGS: usize = 256;
 const MOST_LINES: usize = 512;
 
-/// Reads a file into a book and a proposal. Their ranges are left to the check.
+/// Reads a file into a book and a proposal. Their ranges are left to the check, but a book has no room for a
+/// date that is none.
 ///
 /// # Errors
 ///
-/// The first refusal in the reader's order: 18; each record in turn 19 to 22, then 3 or 9.
+/// The first refusal in the reader's order: 18; 22 for an empty file; each record in turn 19 to 22, then 3 or
+/// 9. After these 24, as the check would give it if nothing else were wrong, for a valuation date or else the
+/// first maturity that is no day of the years 1900 to 2299.
 ///
 /// # Panics
 ///
@@ -20,33 +23,64 @@ const MOST_LINES: usize = 512;
 /// # Examples
 ///
 /// ```
-/// use margin_host::{Issuer, Line, Refusal, read};
+/// use margin_host::{Date, Issuer, Line, Refusal, read};
 ///
-/// let text = "H,L,C,ON,2000,1000,0,CAD\r\nH,S,R,QC,2000,400,17520,CAD\r\nP,0,1,400,,,,\r\n";
+/// let text = "D,2025-01-01,,,,,,\r\n\
+///             H,L,C,ON,2030-06-24,1000,0,CAD\r\n\
+///             H,S,R,QC,2030-06-24,400,17520,CAD\r\n\
+///             P,0,1,400,,,,\r\n";
 /// let (book, proposal) = read(text.as_bytes())?;
+/// assert_eq!(Some(book.date), Date::new(2025, 1, 1));
 /// assert_eq!(book.holdings[1].issuer, Issuer::Quebec);
 /// assert_eq!(proposal.prices, vec![0, 17_520]);
 /// assert_eq!(proposal.lines, vec![Line { long: 0, short: 1, amount: 400 }]);
 ///
 /// let refused = read(text.replace("QC", "YT").as_bytes());
-/// assert_eq!(refused, Err(Refusal::FieldNotOfItsSort { record: 1 }));
+/// assert_eq!(refused, Err(Refusal::FieldNotOfItsSort { record: 2 }));
 /// # Ok::<(), Refusal>(())
 /// ```
 pub fn read(text: &[u8]) -> Result<(Book, Proposal), Refusal> {
+    let (date, columns) = read_columns(text)?;
+    columns.book_and_proposal(date)
+}
+
+/// Reads a file into the number of its valuation date, YYYYMMDD, and columns of numbers, whose ranges are all
+/// left to the check.
+///
+/// # Errors
+///
+/// The first refusal in the reader's order: 18; 22 for an empty file; each record in turn 19 to 22, then 3 or
+/// 9.
+///
+/// # Panics
+///
+/// If the linked archive breaks the contract that was proved, as only another archive can.
+///
+/// # Examples
+///
+/// ```
+/// use margin_host::{Refusal, check_columns, read_columns};
+///
+/// let text = "D,2025-01-01,,,,,,\r\nH,L,B,ON,2025-02-30,1000,0,CAD\r\n";
+/// let (date, columns) = read_columns(text.as_bytes())?;
+/// assert_eq!((date, columns.maturity[0]), (2025_01_01, 2025_02_30));
+/// let refused = check_columns(date, &columns, &mut [0], &mut [0]);
+/// assert_eq!(refused, Err(Refusal::DateInvalid { holding: 0 }));
+/// # Ok::<(), Refusal>(())
+/// ```
+pub fn read_columns(text: &[u8]) -> Result<(u64, Columns<Vec<u64>>), Refusal> {
+    let mut date = [0];
     let mut columns = Columns::by_group(vec![0; MOST_HOLDINGS], vec![0; MOST_LINES]);
     let mut lists = columns.each_mut().map(|list| bytes_mut(list));
     let mut answer = [0; 16];
-    let number = raw::margin_read(text, &mut lists, &mut answer);
+    let number = raw::margin_read(text, bytes_mut(&mut date), &mut lists, &mut answer);
     let (first, second) = halves(&answer);
     if number == 0 {
         let counts = Columns::by_group(first, second).into_array();
         for (list, count) in columns.each_mut().into_array().into_iter().zip(counts) {
             list.truncate(count as usize);
         }
-        let known = columns.book_and_proposal();
-        return Ok(known.expect(
-            "the reader's contract is proved: it knows each side, kind, issuer and currency",
-        ));
+        return Ok((date[0], columns));
     }
     match Refusal::from_parts(number, first, second) {
         Some(refusal) if matches!(number, 3 | 9 | 18..=22) => Err(refusal),
@@ -72,7 +106,10 @@ pub fn read(text: &[u8]) -> Result<(Book, Proposal), Refusal> {
 /// ```
 /// use margin_host::{Refusal, check_file};
 ///
-/// let text = "H,L,C,ON,2000,1000,0,CAD\r\nH,S,R,QC,2000,400,17520,CAD\r\nP,0,1,400,,,,\r\n";
+/// let text = "D,2025-01-01,,,,,,\r\n\
+///             H,L,C,ON,2030-06-24,1000,0,CAD\r\n\
+///             H,S,R,QC,2030-06-24,400,17520,CAD\r\n\
+///             P,0,1,400,,,,\r\n";
 /// assert_eq!(check_file(text.as_bytes())?.figures.cents, 36);
 ///
 /// let refused = check_file(text.replace("17520", "17519").as_bytes());
@@ -80,6 +117,6 @@ pub fn read(text: &[u8]) -> Result<(Book, Proposal), Refusal> {
 /// # Ok::<(), Refusal>(())
 /// ```
 pub fn check_file(text: &[u8]) -> Result<Accepted, Refusal> {
-    let (book, proposal) = read(text)?;
-    check(&book, &proposal)
+    let (date, columns) = read_columns(text)?;
+    accepted(date, &columns)
 }

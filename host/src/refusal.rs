@@ -29,8 +29,8 @@ pub enum Refusal {
         /// The holding at fault.
         holding: u64,
     },
-    /// 7: days to maturity outside 1 to 36,500.
-    DaysOutOfRange {
+    /// 7: a maturity on or before the valuation date, or past its 100th anniversary.
+    MaturityOutOfRange {
         /// The holding at fault.
         holding: u64,
     },
@@ -98,8 +98,9 @@ pub enum Refusal {
         /// The record at fault.
         record: u64,
     },
-    /// 22: a holding after a pair line.
-    HoldingAfterLine {
+    /// 22: no valuation date at the beginning, as in an empty file, another one later, or a holding after a
+    /// pair line.
+    RecordOutOfOrder {
         /// The record at fault.
         record: u64,
     },
@@ -108,10 +109,15 @@ pub enum Refusal {
         /// The holding at fault.
         holding: u64,
     },
+    /// 24: a valuation date or a maturity that is no day of the years 1900 to 2299.
+    DateInvalid {
+        /// The holding at fault; 0 also for the valuation date.
+        holding: u64,
+    },
 }
 
 impl Refusal {
-    /// The number, 1 to 23.
+    /// The number, 1 to 24.
     ///
     /// ```
     /// use margin_host::Refusal;
@@ -127,7 +133,7 @@ impl Refusal {
             Refusal::SideUnknown { .. } => 4,
             Refusal::KindUnknown { .. } => 5,
             Refusal::IssuerUnknown { .. } => 6,
-            Refusal::DaysOutOfRange { .. } => 7,
+            Refusal::MaturityOutOfRange { .. } => 7,
             Refusal::ValueOutOfRange { .. } => 8,
             Refusal::TooManyLines => 9,
             Refusal::PriceTooHigh { .. } => 10,
@@ -142,8 +148,9 @@ impl Refusal {
             Refusal::RecordIllFormed { .. } => 19,
             Refusal::WrongNumberOfFields { .. } => 20,
             Refusal::FieldNotOfItsSort { .. } => 21,
-            Refusal::HoldingAfterLine { .. } => 22,
+            Refusal::RecordOutOfOrder { .. } => 22,
             Refusal::CurrencyUnknown { .. } => 23,
+            Refusal::DateInvalid { .. } => 24,
         }
     }
 
@@ -167,9 +174,10 @@ impl Refusal {
             Refusal::SideUnknown { holding }
             | Refusal::KindUnknown { holding }
             | Refusal::IssuerUnknown { holding }
-            | Refusal::DaysOutOfRange { holding }
+            | Refusal::MaturityOutOfRange { holding }
             | Refusal::ValueOutOfRange { holding }
             | Refusal::CurrencyUnknown { holding }
+            | Refusal::DateInvalid { holding }
             | Refusal::PriceTooHigh { holding } => holding,
             Refusal::NotInBook { line }
             | Refusal::WrongSide { line }
@@ -180,7 +188,7 @@ impl Refusal {
             Refusal::RecordIllFormed { record }
             | Refusal::WrongNumberOfFields { record }
             | Refusal::FieldNotOfItsSort { record }
-            | Refusal::HoldingAfterLine { record } => record,
+            | Refusal::RecordOutOfOrder { record } => record,
         }
     }
 
@@ -219,7 +227,7 @@ impl Refusal {
             4 => Refusal::SideUnknown { holding },
             5 => Refusal::KindUnknown { holding },
             6 => Refusal::IssuerUnknown { holding },
-            7 => Refusal::DaysOutOfRange { holding },
+            7 => Refusal::MaturityOutOfRange { holding },
             8 => Refusal::ValueOutOfRange { holding },
             9 => Refusal::TooManyLines,
             10 => Refusal::PriceTooHigh { holding },
@@ -237,8 +245,9 @@ impl Refusal {
             19 => Refusal::RecordIllFormed { record },
             20 => Refusal::WrongNumberOfFields { record },
             21 => Refusal::FieldNotOfItsSort { record },
-            22 => Refusal::HoldingAfterLine { record },
+            22 => Refusal::RecordOutOfOrder { record },
             23 => Refusal::CurrencyUnknown { holding },
+            24 => Refusal::DateInvalid { holding },
             _ => return None,
         };
         (refusal.place() == place && refusal.second() == second).then_some(refusal)
@@ -264,6 +273,14 @@ impl fmt::Display for Refusal {
                 "the prices of long holding {place} and short holding {second}, counting from 0, {fault}"
             ),
             19..=22 => write!(f, "record {place}, counting from 0, {fault}"),
+            24 if place == 0 => write!(
+                f,
+                "the valuation date, or the maturity of holding 0, counting from 0, {fault}"
+            ),
+            24 => write!(
+                f,
+                "the maturity of holding {place}, counting from 0, {fault}"
+            ),
             _ => f.write_str(fault),
         }
     }
@@ -280,7 +297,7 @@ impl Refusal {
             Refusal::ListTooShort => {
                 "a list lent for the results is too short: remainder, ranking and the columns of \
                  the holdings need one entry for each holding, the columns of the lines one for \
-                 each line, the answer 16 bytes"
+                 each line, the head one entry, the answer 16 bytes"
             }
             Refusal::TooManyHoldings => "the book has more than 256 holdings",
             Refusal::SideUnknown { .. } => {
@@ -294,13 +311,16 @@ impl Refusal {
                 "has an unknown issuer: it must be 0 for Canada, 1 to 10 for a province, 11 for the \
                  United States or 12 for the United Kingdom"
             }
-            Refusal::DaysOutOfRange { .. } => "has days to maturity outside 1 to 36,500",
+            Refusal::MaturityOutOfRange { .. } => {
+                "has a maturity on or before the valuation date, or past its 100th anniversary"
+            }
             Refusal::ValueOutOfRange { .. } => {
                 "has a market value outside 1 to 100,000,000,000 cents"
             }
             Refusal::CurrencyUnknown { .. } => {
                 "has an unknown currency: it must be 0 for CAD, 1 for USD or 2 for GBP"
             }
+            Refusal::DateInvalid { .. } => "is no day of the years 1900 to 2299",
             Refusal::TooManyLines => "the proposal has more than 512 lines",
             Refusal::PriceTooHigh { .. } => "has a price outside 0 to 43,800",
             _ => self.fault_of_lines(),
@@ -339,10 +359,13 @@ impl Refusal {
             }
             Refusal::WrongNumberOfFields { .. } => "does not have eight fields",
             Refusal::FieldNotOfItsSort { .. } => {
-                "begins with neither H nor P, has a field that is no value of its sort, or fills \
+                "begins with none of D, H and P, has a field that is no value of its sort, or fills \
                  one that must be empty"
             }
-            _ => "is a holding after a pair line, and all holdings must come before all lines",
+            _ => {
+                "is missing or out of its order: one D with the valuation date comes first, then all \
+                 holdings, then all pair lines"
+            }
         }
     }
 }

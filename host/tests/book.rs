@@ -1,36 +1,39 @@
 //! Books and proposals of named values: they are judged as their numbers are.
 
-use margin_calculator::samples::{Random, SHAPES, best_sheet, holdings};
-use margin_calculator::{Row, Rows, Sheet};
+use margin_calculator::samples::{Random, SHAPES, best_sheet, book};
+use margin_calculator::{self as calculator, Row, Sheet};
 use margin_host::{
-    Accepted, Book, Columns, Currency, Figures, Holding, Issuer, Kind, Line, Proposal, Refusal,
-    Side, check, check_columns,
+    Accepted, Book, Columns, Currency, Date, Figures, Holding, Issuer, Kind, Line, Proposal,
+    Refusal, Side, check, check_columns,
 };
 
-/// A Canada coupon of 2,000 days in CAD.
+const VALUED: Date = Date::new(2025, 1, 1).expect("a day");
+
+/// A Canada coupon in CAD.
 const COUPON: Holding = Holding {
     side: Side::Long,
     kind: Kind::Coupon,
     issuer: Issuer::Canada,
-    days: 2_000,
+    maturity: Date::new(2030, 6, 24).expect("a day"),
     value: 1_000_000,
     currency: Currency::Cad,
 };
 
-/// The book and the proposal of a sheet whose sides, kinds, issuers and currencies are known.
+/// The book and the proposal of a sheet whose sides, kinds, issuers, dates and currencies are known.
 fn named(sheet: &Sheet) -> (Book, Proposal) {
+    let day = |number| Date::from_number(number).expect("a day");
     let holding = |number| {
         let row = sheet.row(number);
         Holding {
             side: Side::ALL[row.side as usize],
             kind: Kind::ALL[row.kind as usize],
             issuer: Issuer::ALL[row.issuer as usize],
-            days: row.days,
+            maturity: day(row.maturity),
             value: row.value,
             currency: Currency::ALL[row.currency as usize],
         }
     };
-    let book = (0..sheet.side.len()).map(holding).collect();
+    let holdings: Vec<Holding> = (0..sheet.side.len()).map(holding).collect();
     let legs = sheet.long.iter().zip(&sheet.short);
     let lines: Vec<Line> = legs
         .zip(&sheet.amount)
@@ -40,6 +43,7 @@ fn named(sheet: &Sheet) -> (Book, Proposal) {
             amount,
         })
         .collect();
+    let book = Book::new(day(sheet.date), holdings);
     (book, Proposal::new(sheet.price.clone(), lines))
 }
 
@@ -47,7 +51,7 @@ fn named(sheet: &Sheet) -> (Book, Proposal) {
 fn by_columns(sheet: &Sheet) -> Result<Accepted, Refusal> {
     let count = sheet.side.len();
     let (mut remainder, mut ranking) = (vec![0; count], vec![0; count]);
-    let figures = check_columns(sheet, &mut remainder, &mut ranking)?;
+    let figures = check_columns(sheet.date, &sheet.columns, &mut remainder, &mut ranking)?;
     Ok(Accepted {
         figures,
         remainder,
@@ -72,12 +76,14 @@ fn the_columns_are_the_numbers() {
                         side: side.number(),
                         kind: kind.number(),
                         issuer: issuer.number(),
-                        days: 2_000,
+                        maturity: 2030_06_24,
                         value: 1_000_000,
                         currency: currency.number(),
                     };
-                    let columns = Columns::of(&Book::new([holding]), &Proposal::new([5], []));
-                    assert_eq!(columns, Sheet::of_rows(&[row], 5));
+                    let book = Book::new(VALUED, [holding]);
+                    let columns = Columns::of(&book, &Proposal::new([5], []));
+                    let sheet = Sheet::of_rows(calculator::VALUED, &[row], 5);
+                    assert_eq!((book.date.number(), columns), (sheet.date, sheet.columns));
                 }
             }
         }
@@ -89,13 +95,14 @@ fn random_books_by_name_and_by_number() {
     let mut random = Random::new(0x0D01);
     for shape in &SHAPES {
         for size in [0, 1, 2, 9, 40, 256] {
-            let mut sheet = best_sheet(&holdings(&mut random, shape, size));
+            let mut sheet = best_sheet(&book(&mut random, shape, size));
             for change in [0, 1] {
                 if size > 0 {
                     sheet.price[random.place(size)] ^= change;
                 }
                 let (book, proposal) = named(&sheet);
-                assert_eq!(Columns::of(&book, &proposal), sheet, "{}", shape.name);
+                let columns = Columns::of(&book, &proposal);
+                assert_eq!(columns, sheet.columns, "{}", shape.name);
                 assert_eq!(
                     check(&book, &proposal),
                     by_columns(&sheet),
@@ -119,15 +126,17 @@ fn refusals_that_names_leave_possible() {
         amount: 1_000_000,
     };
     let refusal = |book: &[Holding], prices: &[u64], lines: &[Line]| {
-        check(&Book::new(book), &Proposal::new(prices, lines)).expect_err("a refusal")
+        check(&Book::new(VALUED, book), &Proposal::new(prices, lines)).expect_err("a refusal")
     };
     let pair = [COUPON, short];
     assert_eq!(refusal(&pair, &[8_760], &[line]), Refusal::ColumnsDiffer);
     let many = refusal(&[COUPON; 257], &[0; 257], &[]);
     assert_eq!(many, Refusal::TooManyHoldings);
-    let days = Holding { days: 0, ..COUPON };
-    let days = refusal(&[COUPON, days], &[0, 0], &[]);
-    assert_eq!(days, Refusal::DaysOutOfRange { holding: 1 });
+    for maturity in [Date::MIN, VALUED, Date::MAX] {
+        let matured = Holding { maturity, ..COUPON };
+        let matured = refusal(&[COUPON, matured], &[0, 0], &[]);
+        assert_eq!(matured, Refusal::MaturityOutOfRange { holding: 1 });
+    }
     let value = Holding {
         value: 100_000_000_001,
         ..COUPON
@@ -156,7 +165,7 @@ fn refusals_that_names_leave_possible() {
 
 #[test]
 fn a_bond_and_its_strip_in_a_foreign_currency() {
-    // At 2,000 days a bond asks 2 and a strip 3 per cent, so the pair asks 1, of a government of Group I.
+    // After three years a bond asks 2 and a strip 3 per cent, so the pair asks 1, of a government of Group I.
     let line = Line {
         long: 0,
         short: 1,
@@ -175,7 +184,7 @@ fn a_bond_and_its_strip_in_a_foreign_currency() {
                 kind: Kind::Bond,
                 ..strip
             };
-            let cents = check(&Book::new([strip, bond]), &proposal);
+            let cents = check(&Book::new(VALUED, [strip, bond]), &proposal);
             let cents = cents.map(|accepted| accepted.figures.cents);
             let wanted = match issuer {
                 Issuer::Canada | Issuer::UnitedStates | Issuer::UnitedKingdom => Ok(10_000),
@@ -187,12 +196,10 @@ fn a_bond_and_its_strip_in_a_foreign_currency() {
 }
 
 #[test]
-fn a_book_is_gathered_from_holdings() {
-    let book: Book = Side::ALL
-        .map(|side| Holding { side, ..COUPON })
-        .into_iter()
-        .collect();
-    assert_eq!(book, Book::new(vec![COUPON, book.holdings[1]]));
+fn a_book_is_made_from_holdings() {
+    let holdings = Side::ALL.map(|side| Holding { side, ..COUPON });
+    let book = Book::new(VALUED, holdings);
+    assert_eq!(book, Book::new(VALUED, holdings.to_vec()));
     let line = Line {
         long: 0,
         short: 1,
@@ -209,12 +216,12 @@ fn a_book_is_gathered_from_holdings() {
 
 #[test]
 fn columns_of_any_sort_are_checked_alike() {
-    let sheet = best_sheet(&holdings(&mut Random::new(0x0D02), &SHAPES[0], 30));
+    let Sheet { date, columns } = best_sheet(&book(&mut Random::new(0x0D02), &SHAPES[0], 30));
     let (mut remainder, mut ranking) = ([0; 30], [0; 30]);
-    let owned = check_columns(&sheet, &mut remainder, &mut ranking);
-    let slices = sheet.each_ref().map(Vec::as_slice);
-    let lent = check_columns(&slices, &mut remainder, &mut ranking);
-    let references = check_columns(&sheet.each_ref(), &mut remainder, &mut ranking);
+    let owned = check_columns(date, &columns, &mut remainder, &mut ranking);
+    let slices = columns.each_ref().map(Vec::as_slice);
+    let lent = check_columns(date, &slices, &mut remainder, &mut ranking);
+    let references = check_columns(date, &columns.each_ref(), &mut remainder, &mut ranking);
     assert!(owned.is_ok());
     assert_eq!((lent, references), (owned, owned));
 }
@@ -226,7 +233,7 @@ fn the_order_in_which_columns_are_lent() {
         side: 0,
         kind: 1,
         issuer: 2,
-        days: 3,
+        maturity: 3,
         value: 4,
         price: 5,
         currency: 6,

@@ -2,8 +2,8 @@
 
 mod support;
 
-use margin_calculator::samples::{Random, SHAPES, Shape, best_sheet, holdings};
-use margin_calculator::{Position, Row, Sheet, pair_rate};
+use margin_calculator::samples::{Random, SHAPES, Shape, best_sheet, book};
+use margin_calculator::{Sheet, pair_rate};
 use support::Run;
 
 /// Two holdings that may be paired, and their rate.
@@ -13,19 +13,12 @@ struct Pair {
     rate: u64,
 }
 
-fn pairs(book: &[Row]) -> Vec<Pair> {
+fn pairs(book: &Sheet) -> Vec<Pair> {
+    let of_side = |side| (0..book.side.len()).filter(move |number| book.side[*number] == side);
     let mut pairs = Vec::new();
-    for (long, one) in book
-        .iter()
-        .enumerate()
-        .filter(|(_, holding)| holding.side == 0)
-    {
-        for (short, other) in book
-            .iter()
-            .enumerate()
-            .filter(|(_, holding)| holding.side == 1)
-        {
-            if let Some(rate) = pair_rate(&Position::of(one), &Position::of(other)) {
+    for long in of_side(0) {
+        for short in of_side(1) {
+            if let Some(rate) = pair_rate(&book.position(long), &book.position(short)) {
                 pairs.push(Pair { long, short, rate });
             }
         }
@@ -54,10 +47,10 @@ fn least(rates: &[u64], left: &mut [u64], pairs: &[Pair]) -> u64 {
     best
 }
 
-fn small_book(random: &mut Random, shape: &Shape, size: usize, values: u64) -> Vec<Row> {
-    let mut book = holdings(random, shape, size);
-    for holding in &mut book {
-        holding.value = 1 + random.below(values);
+fn small_book(random: &mut Random, shape: &Shape, size: usize, values: u64) -> Sheet {
+    let mut book = book(random, shape, size);
+    for value in &mut book.value {
+        *value = 1 + random.below(values);
     }
     book
 }
@@ -73,12 +66,8 @@ fn paragraphs(sheet: &Sheet) -> [bool; 2] {
 /// with the least sum.
 fn least_is_found(run: &mut Run, shape: &Shape, size: usize, values: u64) -> Sheet {
     let book = small_book(&mut run.random, shape, size, values);
-    let rates: Vec<u64> = book
-        .iter()
-        .map(|holding| Position::of(holding).rate)
-        .collect();
-    let mut left: Vec<u64> = book.iter().map(|holding| holding.value).collect();
-    let found = least(&rates, &mut left, &pairs(&book));
+    let rates: Vec<u64> = (0..size).map(|number| book.position(number).rate).collect();
+    let found = least(&rates, &mut book.value.clone(), &pairs(&book));
     let best = best_sheet(&book);
     let units = run.units(&best, format_args!("{}", shape.name));
     assert_eq!(units, found, "{}\n{book:?}", shape.name);

@@ -2,10 +2,10 @@
 
 mod support;
 
-use margin_calculator::samples::{ANY, best_sheet, holdings};
-use margin_calculator::{Row, Rows, Sheet};
+use margin_calculator::samples::{ANY, best_sheet, book};
+use margin_calculator::{Row, Sheet, VALUED};
 use support::Run;
-use support::faults::{Fault, HOLDINGS, NUMBERS, PAIRS, plant, sound};
+use support::faults::{Fault, HOLDINGS, NUMBERS, PAIRS, VALUATION, plant, sound};
 use support::lent::{Lent, NAMES, OF_HOLDINGS};
 
 /// Margin units of the sound sheet: two bonds of 500 cents at 5 per cent.
@@ -116,11 +116,11 @@ fn lists_of_the_largest_book() {
         side: 0,
         kind: 0,
         issuer: 0,
-        days: 1,
+        maturity: 2025_01_02,
         value: 1,
         currency: 0,
     };
-    let mut lent = Lent::of(&Sheet::of_rows(&[bond; 256], 0));
+    let mut lent = Lent::of(&Sheet::of_rows(VALUED, &[bond; 256], 0));
     for short in [2_047, 2_040] {
         for (remainder, ranking) in [(short, 2_048), (2_048, short), (short, short)] {
             lent.lists(remainder, ranking);
@@ -171,6 +171,8 @@ fn short_lists_come_after_the_counts() {
         (16, 2),
         (17, 2),
         (23, 2),
+        (24, 2),
+        (VALUATION, 2),
     ] {
         for (remainder, ranking, answer) in [
             (0, 0, 0),
@@ -192,7 +194,7 @@ fn short_lists_come_after_the_counts() {
 fn lists_of_the_empty_book() {
     let mut run = Run::fixed("lists of the empty book");
     for length in 0..=24 {
-        let mut lent = Lent::of(&Sheet::default());
+        let mut lent = Lent::of(&Sheet::empty(VALUED));
         lent.lists(length, 24 - length);
         run.accepted(
             &lent,
@@ -207,7 +209,7 @@ fn longer_lists_of_random_books() {
     let mut run = Run::new("longer lists of random books", 0x0401);
     for _ in 0..400 {
         let size = run.random.place(40);
-        let sheet = best_sheet(&holdings(&mut run.random, &ANY, size));
+        let sheet = best_sheet(&book(&mut run.random, &ANY, size));
         let mut lent = Lent::of(&sheet);
         let more = [
             run.random.place(34),

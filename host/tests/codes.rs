@@ -1,10 +1,10 @@
-//! Sides, kinds, issuers and currencies: their texts and numbers.
+//! Sides, kinds, issuers, currencies and dates: their texts and numbers.
 
 use std::fmt::{Debug, Display};
 use std::str::FromStr;
 
 use margin_calculator::{CURRENCIES, ISSUERS, KINDS, SIDES};
-use margin_host::{Currency, Issuer, Kind, Side, UnknownCode};
+use margin_host::{Currency, Date, InvalidDate, Issuer, Kind, Side, UnknownCode};
 
 /// Texts that are no side, kind, issuer or currency.
 const UNKNOWN: [&str; 20] = [
@@ -110,6 +110,50 @@ fn the_calculator_has_the_same_texts() {
 fn texts_are_padded_as_asked() {
     let (side, issuer) = (Side::Long, Issuer::Ontario);
     assert_eq!(format!("{side:>3}|{issuer:<4}|"), "  L|ON  |");
+    assert_eq!(format!("{:>12}|", Date::MIN), "  1900-01-01|");
+}
+
+#[test]
+fn dates() {
+    // The tests of the calendar go through all of them.
+    let day = Date::new(2024, 2, 29).expect("a day");
+    assert_eq!((day.year(), day.month(), day.day()), (2024, 2, 29));
+    assert_eq!(
+        (day.number(), day.to_string()),
+        (2024_02_29, "2024-02-29".to_string())
+    );
+    for (year, month, date) in [
+        (1899, 12, 31),
+        (1900, 2, 29),
+        (2025, 0, 1),
+        (2025, 1, 0),
+        (2025, 2, 29),
+        (2025, 4, 31),
+        (2025, 13, 1),
+        (2100, 2, 29),
+        (2300, 1, 1),
+        (u16::MAX, u8::MAX, u8::MAX),
+    ] {
+        assert_eq!(Date::new(year, month, date), None, "{year} {month} {date}");
+    }
+    for text in [
+        "",
+        "20250101",
+        "2025-1-1",
+        "2025-01-1",
+        "02025-01-01",
+        "2025-02-29",
+        "1899-12-31",
+        "2300-01-01",
+        "2025/01/01",
+        " 2025-01-01",
+        "2025-01-01 ",
+        "+025-01-01",
+        "2025-01-\u{e9}",
+        "\"2025-01-01\"",
+    ] {
+        assert!(text.parse::<Date>().is_err(), "{text:?}");
+    }
 }
 
 #[test]
@@ -136,4 +180,12 @@ fn an_unknown_text_in_words() {
     let currency = "EUR".parse::<Currency>().map_err(words);
     let wanted = "unknown currency \"EUR\": it must be CAD, USD or GBP".to_string();
     assert_eq!(currency, Err(wanted));
+}
+
+#[test]
+fn an_invalid_date_in_words() {
+    let invalid: InvalidDate = "2025-02-29".parse::<Date>().expect_err("no day");
+    let error: &dyn std::error::Error = &invalid;
+    let words = "invalid date \"2025-02-29\": it must be a day from 1900-01-01 to 2299-12-31";
+    assert_eq!(error.to_string(), words);
 }

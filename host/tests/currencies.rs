@@ -3,7 +3,7 @@
 mod support;
 
 use margin_calculator::samples::best_sheet;
-use margin_calculator::{Row, Sheet};
+use margin_calculator::{Row, Sheet, VALUED};
 use support::faults::{HOLDINGS, sound};
 use support::lent::{Lent, NAMES, OF_HOLDINGS};
 use support::sheets::{
@@ -15,12 +15,12 @@ use support::{Run, column};
 /// Numbers that are no currency.
 const UNKNOWN: [u64; 8] = [3, 4, 255, 256, 1 << 32, 1 << 62, 1 << 63, u64::MAX];
 
-/// Every kind, issuer and currency, at this many days.
-fn every_leg(days: u64) -> Vec<Leg> {
+/// Every kind, issuer and currency, at this maturity.
+fn every_leg(maturity: u64) -> Vec<Leg> {
     let mut legs = Vec::new();
     for kind in [BOND, COUPON, RESIDUAL] {
         for issuer in 0..=12 {
-            legs.extend([CAD, USD, GBP].map(|currency| (kind, issuer, days, currency)));
+            legs.extend([CAD, USD, GBP].map(|currency| (kind, issuer, maturity, currency)));
         }
     }
     legs
@@ -32,58 +32,68 @@ fn pairs_of_paragraph_4() {
     // Long and short of one cent, the price of the long, and the pair's rate.
     let pairs = [
         (
-            (BOND, US, 2_000, USD),
-            (COUPON, US, 2_000, USD),
+            (BOND, US, 2030_06_24, USD),
+            (COUPON, US, 2030_06_24, USD),
             5_840,
             1_460,
         ),
         (
-            (RESIDUAL, US, 2_000, USD),
-            (BOND, US, 2_000, USD),
+            (RESIDUAL, US, 2030_06_24, USD),
+            (BOND, US, 2030_06_24, USD),
             5_840,
             1_460,
         ),
         (
-            (BOND, US, 8_000, USD),
-            (COUPON, US, 8_000, USD),
+            (BOND, US, 2046_11_27, USD),
+            (COUPON, US, 2046_11_27, USD),
             11_680,
             11_680,
         ),
         (
-            (BOND, US, 8_000, USD),
-            (COUPON, US, 5_000, USD),
+            (BOND, US, 2046_11_27, USD),
+            (COUPON, US, 2038_09_10, USD),
             11_680,
             2_920,
         ),
-        ((BOND, US, 100, USD), (COUPON, US, 300, USD), 800, 1_400),
         (
-            (BOND, GB, 2_000, GBP),
-            (COUPON, GB, 2_000, GBP),
+            (BOND, US, 2025_04_11, USD),
+            (COUPON, US, 2025_10_28, USD),
+            800,
+            1_400,
+        ),
+        (
+            (BOND, GB, 2030_06_24, GBP),
+            (COUPON, GB, 2030_06_24, GBP),
             5_840,
             1_460,
         ),
         (
-            (RESIDUAL, GB, 7_300, GBP),
-            (BOND, GB, 7_299, GBP),
+            (RESIDUAL, GB, 2045_01_01, GBP),
+            (BOND, GB, 2044_12_31, GBP),
             11_680,
             11_680,
         ),
         (
-            (BOND, CA, 2_000, USD),
-            (RESIDUAL, CA, 2_000, USD),
-            5_840,
-            1_460,
-        ),
-        ((COUPON, CA, 500, GBP), (BOND, CA, 1_000, GBP), 2_920, 730),
-        (
-            (BOND, US, 2_000, GBP),
-            (COUPON, US, 2_000, GBP),
+            (BOND, CA, 2030_06_24, USD),
+            (RESIDUAL, CA, 2030_06_24, USD),
             5_840,
             1_460,
         ),
         (
-            (BOND, GB, 2_000, USD),
-            (COUPON, GB, 2_000, USD),
+            (COUPON, CA, 2026_05_16, GBP),
+            (BOND, CA, 2027_09_28, GBP),
+            2_920,
+            730,
+        ),
+        (
+            (BOND, US, 2030_06_24, GBP),
+            (COUPON, US, 2030_06_24, GBP),
+            5_840,
+            1_460,
+        ),
+        (
+            (BOND, GB, 2030_06_24, USD),
+            (COUPON, GB, 2030_06_24, USD),
             5_840,
             1_460,
         ),
@@ -100,27 +110,33 @@ fn pairs_of_neither_paragraph() {
     let mut run = Run::fixed("pairs of neither paragraph");
     let pairs = [
         // Strip with strip and bond with bond.
-        ((COUPON, US, 2_000, USD), (RESIDUAL, US, 2_000, USD)),
-        ((COUPON, CA, 2_000, GBP), (COUPON, CA, 2_000, GBP)),
-        ((BOND, GB, 2_000, GBP), (BOND, GB, 2_000, GBP)),
+        (
+            (COUPON, US, 2030_06_24, USD),
+            (RESIDUAL, US, 2030_06_24, USD),
+        ),
+        ((COUPON, CA, 2030_06_24, GBP), (COUPON, CA, 2030_06_24, GBP)),
+        ((BOND, GB, 2030_06_24, GBP), (BOND, GB, 2030_06_24, GBP)),
         // Other governments.
-        ((BOND, US, 2_000, USD), (COUPON, GB, 2_000, USD)),
-        ((COUPON, CA, 2_000, USD), (BOND, US, 2_000, USD)),
-        ((BOND, CA, 2_000, CAD), (COUPON, US, 2_000, CAD)),
+        ((BOND, US, 2030_06_24, USD), (COUPON, GB, 2030_06_24, USD)),
+        ((COUPON, CA, 2030_06_24, USD), (BOND, US, 2030_06_24, USD)),
+        ((BOND, CA, 2030_06_24, CAD), (COUPON, US, 2030_06_24, CAD)),
         // Other currencies.
-        ((BOND, CA, 2_000, USD), (COUPON, CA, 2_000, CAD)),
-        ((COUPON, CA, 2_000, CAD), (BOND, CA, 2_000, GBP)),
-        ((BOND, US, 2_000, USD), (COUPON, US, 2_000, GBP)),
+        ((BOND, CA, 2030_06_24, USD), (COUPON, CA, 2030_06_24, CAD)),
+        ((COUPON, CA, 2030_06_24, CAD), (BOND, CA, 2030_06_24, GBP)),
+        ((BOND, US, 2030_06_24, USD), (COUPON, US, 2030_06_24, GBP)),
         // Provinces in foreign currencies, US and GB in CAD.
-        ((BOND, ON, 2_000, USD), (COUPON, ON, 2_000, USD)),
-        ((COUPON, ON, 2_000, GBP), (RESIDUAL, ON, 2_000, GBP)),
-        ((BOND, CA, 2_000, USD), (COUPON, ON, 2_000, USD)),
-        ((BOND, US, 2_000, CAD), (COUPON, US, 2_000, CAD)),
-        ((COUPON, GB, 2_000, CAD), (COUPON, GB, 2_000, CAD)),
-        ((COUPON, US, 2_000, CAD), (BOND, ON, 2_000, CAD)),
+        ((BOND, ON, 2030_06_24, USD), (COUPON, ON, 2030_06_24, USD)),
+        (
+            (COUPON, ON, 2030_06_24, GBP),
+            (RESIDUAL, ON, 2030_06_24, GBP),
+        ),
+        ((BOND, CA, 2030_06_24, USD), (COUPON, ON, 2030_06_24, USD)),
+        ((BOND, US, 2030_06_24, CAD), (COUPON, US, 2030_06_24, CAD)),
+        ((COUPON, GB, 2030_06_24, CAD), (COUPON, GB, 2030_06_24, CAD)),
+        ((COUPON, US, 2030_06_24, CAD), (BOND, ON, 2030_06_24, CAD)),
         // Other periods.
-        ((BOND, US, 4_015, USD), (COUPON, US, 4_016, USD)),
-        ((COUPON, GB, 365, GBP), (BOND, GB, 366, GBP)),
+        ((BOND, US, 2036_01_01, USD), (COUPON, US, 2036_01_02, USD)),
+        ((COUPON, GB, 2026_01_01, GBP), (BOND, GB, 2026_01_02, GBP)),
     ];
     for (long, short) in pairs {
         let what = format_args!("{long:?} with {short:?}");
@@ -130,7 +146,8 @@ fn pairs_of_neither_paragraph() {
             &[(one_cent(LONG, long), 0), (one_cent(SHORT, short), 0)],
             &[],
         );
-        let rates = [long, short].map(|(kind, issuer, days, _)| paper_rate(kind, issuer, days));
+        let rates =
+            [long, short].map(|(kind, issuer, maturity, _)| paper_rate(kind, issuer, maturity));
         run.accepted(&Lent::of(&alone), rates.iter().sum(), what);
     }
 }
@@ -138,7 +155,10 @@ fn pairs_of_neither_paragraph() {
 #[test]
 fn every_pair_of_every_issuer_and_currency() {
     let mut run = Run::fixed("every issuer and currency");
-    let legs: Vec<Leg> = [5_000, 8_000].into_iter().flat_map(every_leg).collect();
+    let legs: Vec<Leg> = [2038_09_10, 2046_11_27]
+        .into_iter()
+        .flat_map(every_leg)
+        .collect();
     for &long in &legs {
         for &short in &legs {
             one_pair(&mut run, long, short);
@@ -150,12 +170,13 @@ fn every_pair_of_every_issuer_and_currency() {
 fn every_pair_of_paragraph_4_at_the_ends_of_periods() {
     let mut run = Run::fixed("paragraph 4 at the ends of periods");
     let mut legs = Vec::new();
-    for days in [
-        1, 365, 366, 1_095, 1_096, 2_555, 2_556, 4_015, 4_016, 7_299, 7_300, 36_500,
+    for maturity in [
+        2025_01_02, 2026_01_01, 2026_01_02, 2028_01_01, 2028_01_02, 2032_01_01, 2032_01_02,
+        2036_01_01, 2036_01_02, 2044_12_31, 2045_01_01, 2125_01_01,
     ] {
         for kind in [BOND, COUPON, RESIDUAL] {
             for issuer in [CA, ON, US, GB] {
-                legs.extend([USD, GBP].map(|currency| (kind, issuer, days, currency)));
+                legs.extend([USD, GBP].map(|currency| (kind, issuer, maturity, currency)));
             }
         }
     }
@@ -169,19 +190,22 @@ fn every_pair_of_paragraph_4_at_the_ends_of_periods() {
 #[test]
 fn a_rate_does_not_depend_on_the_currency() {
     let mut run = Run::fixed("rates in every currency");
-    for days in [1, 200, 365, 366, 1_096, 2_556, 4_016, 7_299, 7_300, 36_500] {
-        for leg in every_leg(days) {
+    for maturity in [
+        2025_01_02, 2025_07_20, 2026_01_01, 2026_01_02, 2028_01_02, 2032_01_02, 2036_01_02,
+        2044_12_31, 2045_01_01, 2125_01_01,
+    ] {
+        for leg in every_leg(maturity) {
             let (kind, issuer, _, _) = leg;
-            let one = sheet(&[(one_cent(days % 2, leg), 0)], &[]);
-            let rate = paper_rate(kind, issuer, days);
+            let one = sheet(&[(one_cent(maturity % 2, leg), 0)], &[]);
+            let rate = paper_rate(kind, issuer, maturity);
             run.accepted(&Lent::of(&one), rate, format_args!("{leg:?}"));
         }
     }
 }
 
 /// All legs of one period, long and then short, each of one cent.
-fn every_holding(days: u64) -> Vec<Row> {
-    let legs = every_leg(days);
+fn every_holding(maturity: u64) -> Vec<Row> {
+    let legs = every_leg(maturity);
     let longs = legs.iter().map(|leg| one_cent(LONG, *leg));
     longs
         .chain(legs.iter().map(|leg| one_cent(SHORT, *leg)))
@@ -191,24 +215,26 @@ fn every_holding(days: u64) -> Vec<Row> {
 #[test]
 fn the_least_margin_is_over_both_paragraphs() {
     let mut run = Run::fixed("both paragraphs together");
-    for days in [100, 500, 2_000, 3_000, 5_000, 8_000] {
+    for maturity in [
+        2025_04_11, 2026_05_16, 2030_06_24, 2033_03_20, 2038_09_10, 2046_11_27,
+    ] {
         // In CAD each long is paired with a short alike, at 0, or a bond with a strip and a strip with a
         // bond, and so is each government abroad; the rest stands alone.
-        let book = best_sheet(&every_holding(days));
-        let units = run.units(&book, format_args!("{days} days"));
+        let book = best_sheet(&Sheet::of_rows(VALUED, &every_holding(maturity), 0));
+        let units = run.units(&book, format_args!("{maturity}"));
         let lines: Vec<(Leg, Leg)> = paired(&book).collect();
         for currency in [CAD, USD, GBP] {
             let of_currency = |(long, short): &&(Leg, Leg)| [long.3, short.3] == [currency; 2];
             assert!(
                 lines.iter().filter(of_currency).count() >= 6,
-                "{days} days: {lines:?}"
+                "{maturity}: {lines:?}"
             );
         }
         // One unit less on any price, and a pair is not covered; one more, and the totals differ.
         for holding in 0..book.side.len() {
             let mut dear = book.clone();
             dear.price[holding] += 1;
-            let what = format_args!("{days} days, {units} units, price of {holding}");
+            let what = format_args!("{maturity}, {units} units, price of {holding}");
             run.refused(&Lent::of(&dear), (17, 0, 0), what);
             if book.price[holding] > 0 {
                 let mut cheap = book.clone();
@@ -226,7 +252,7 @@ fn paired(sheet: &Sheet) -> impl Iterator<Item = (Leg, Leg)> + '_ {
         (
             sheet.kind[at],
             sheet.issuer[at],
-            sheet.days[at],
+            sheet.maturity[at],
             sheet.currency[at],
         )
     };
@@ -238,12 +264,14 @@ fn paired(sheet: &Sheet) -> impl Iterator<Item = (Leg, Leg)> + '_ {
 fn the_lowest_uncovered_short_of_every_leg() {
     // Every price covers everything but that of one long: the lowest short that it saves with is named.
     let mut run = Run::fixed("the lowest uncovered short");
-    for days in [100, 500, 2_000, 3_000, 5_000, 8_000] {
-        let legs = every_leg(days);
+    for maturity in [
+        2025_04_11, 2026_05_16, 2030_06_24, 2033_03_20, 2038_09_10, 2046_11_27,
+    ] {
+        let legs = every_leg(maturity);
         let mut prices = vec![43_800; legs.len()];
         prices.resize(2 * legs.len(), 0);
         for (number, long) in legs.iter().enumerate() {
-            let mut priced: Vec<(Row, u64)> = every_holding(days)
+            let mut priced: Vec<(Row, u64)> = every_holding(maturity)
                 .into_iter()
                 .zip(prices.iter().copied())
                 .collect();
@@ -277,13 +305,14 @@ fn a_currency_outside_the_three() {
 #[test]
 fn the_turn_of_23() {
     // The column, the number there and the refusal of another fault: of one holding 23 comes after 4 to 8 and
-    // before 10, each holding is finished before the next, and all come before the first line.
+    // 24, and before 10, each holding is finished before the next, and all come before the first line.
     let mut run = Run::fixed("the turn of 23");
     let faults = [
         (0, 2, 4),
         (1, 3, 5),
         (2, 13, 6),
-        (3, 0, 7),
+        (3, 2025_02_29, 24),
+        (3, 2025_01_01, 7),
         (4, 100_000_000_001, 8),
         (5, 43_801, 10),
     ];

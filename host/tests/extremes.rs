@@ -2,10 +2,11 @@
 
 mod support;
 
+use std::ops::RangeInclusive;
 use std::thread;
 
-use margin_calculator::samples::{ANY, SHAPES, Shape, best_sheet, holdings, split_lines};
-use margin_calculator::{Row, Rows, Sheet};
+use margin_calculator::samples::{ANY, SHAPES, Shape, best_sheet, book, holdings, split_lines};
+use margin_calculator::{Row, Sheet, VALUED, calendar};
 use margin_host::{Figures, Line, check_columns};
 use support::faults::{PAIRS, sound};
 use support::lent::{Left, Lent, NAMES};
@@ -24,36 +25,37 @@ fn large() -> Vec<u64> {
     numbers
 }
 
-/// The limit of each column of the sound sheet, and the number of the refusal above it.
-const LIMITS: [(u64, u64); NAMES.len()] = [
-    (1, 4),
-    (2, 5),
-    (12, 6),
-    (36_500, 7),
-    (100_000_000_000, 8),
-    (43_800, 10),
-    (2, 23),
-    (13, 11),
-    (13, 11),
-    (1_000, 15),
+/// The range of each column of the sound sheet, and the number of the refusal outside it.
+const RANGES: [(RangeInclusive<u64>, u64); NAMES.len()] = [
+    (0..=1, 4),
+    (0..=2, 5),
+    (0..=12, 6),
+    (1900_01_01..=2299_12_31, 24),
+    (1..=100_000_000_000, 8),
+    (0..=43_800, 10),
+    (0..=2, 23),
+    (0..=13, 11),
+    (0..=13, 11),
+    (1..=1_000, 15),
 ];
 
 #[test]
 fn large_numbers_in_every_column() {
     let mut run = Run::fixed("large numbers in every column");
     let sound = sound();
-    for (at, (limit, refusal)) in LIMITS.into_iter().enumerate() {
+    for (at, (range, refusal)) in RANGES.into_iter().enumerate() {
         let length = column(&mut sound.clone(), at).len();
+        let last = *range.end();
         for entry in [0, length / 2, length - 1] {
-            for number in large().into_iter().chain([1, limit - 1, limit, limit + 1]) {
+            for number in large().into_iter().chain([1, last - 1, last, last + 1]) {
                 let mut sheet = sound.clone();
                 column(&mut sheet, at)[entry] = number;
                 let what = format_args!("{number} in {} {entry}", NAMES[at]);
-                if number > limit {
-                    run.refused(&Lent::of(&sheet), (refusal, entry as u64, 0), what);
-                } else {
+                if range.contains(&number) {
                     let left = run.compare(&Lent::of(&sheet), what);
                     assert_ne!(left.number, refusal, "{what}");
+                } else {
+                    run.refused(&Lent::of(&sheet), (refusal, entry as u64, 0), what);
                 }
             }
         }
@@ -61,9 +63,20 @@ fn large_numbers_in_every_column() {
 }
 
 #[test]
+fn large_numbers_as_the_valuation_date() {
+    let mut run = Run::fixed("large numbers as the valuation date");
+    for number in large().into_iter().chain([0, 1, 1899_12_31, 2300_01_01]) {
+        let mut sheet = sound();
+        sheet.date = number;
+        let what = format_args!("valued on {number}");
+        run.refused(&Lent::of(&sheet), (24, 0, 0), what);
+    }
+}
+
+#[test]
 fn zero_where_the_least_is_one() {
     let mut run = Run::fixed("zero where the least is one");
-    for (at, refusal) in [(3, 7), (4, 8), (9, 14)] {
+    for (at, refusal) in [(3, 24), (4, 8), (9, 14)] {
         let length = column(&mut sound(), at).len();
         for entry in 0..length {
             let mut sheet = sound();
@@ -166,17 +179,17 @@ fn amounts_that_would_wrap_around() {
 
 /// A book with lines, of the largest size, that splits into 512 lines.
 fn largest(run: &mut Run, shape: &Shape) -> Sheet {
-    let mut book = holdings(&mut run.random, shape, 254);
+    let mut book = book(&mut run.random, shape, 254);
     for side in [0, 1] {
-        let (kind, issuer, days, value, currency) = (1, 0, 100, 50_000, 0);
-        book.push(Row {
+        let holding = Row {
             side,
-            kind,
-            issuer,
-            days,
-            value,
-            currency,
-        });
+            kind: 1,
+            issuer: 0,
+            maturity: calendar::days_after(book.date, 100),
+            value: 50_000,
+            currency: 0,
+        };
+        book.add_holding(holding, 0);
     }
     let mut sheet = best_sheet(&book);
     split_lines(&mut sheet, 512);
@@ -203,7 +216,7 @@ fn largest_and_one_more() {
             amount: 0,
         });
         run.refused(&Lent::of(&more), (9, 0, 0), format_args!("{}", shape.name));
-        let last = holdings(&mut run.random, shape, 1)[0];
+        let last = holdings(&mut run.random, shape, sheet.date, 1)[0];
         more.add_holding(last, 0);
         run.refused(&Lent::of(&more), (3, 0, 0), format_args!("{}", shape.name));
         let mut more = sheet;
@@ -219,7 +232,7 @@ fn a_stack_of_40_kib_is_enough() {
     let units = run.units(&sheet, format_args!("on the test's own stack"));
     let call = move || {
         let (mut remainder, mut ranking) = (vec![0; 256], vec![0; 256]);
-        check_columns(&sheet, &mut remainder, &mut ranking)
+        check_columns(sheet.date, &sheet.columns, &mut remainder, &mut ranking)
     };
     let small = thread::Builder::new().stack_size(40 * 1_024);
     let answer = small.spawn(call).expect("a thread").join();
@@ -231,7 +244,7 @@ fn a_stack_of_40_kib_is_enough() {
 fn faults_of_the_largest() {
     let mut run = Run::new("faults of the largest", 0x0502);
     let sheet = largest(&mut run, &ANY);
-    for (at, (_, refusal)) in LIMITS.into_iter().enumerate() {
+    for (at, (_, refusal)) in RANGES.into_iter().enumerate() {
         let length = column(&mut sheet.clone(), at).len();
         for entry in [0, 1, length / 2, length - 2, length - 1] {
             let mut faulty = sheet.clone();
@@ -246,28 +259,29 @@ fn faults_of_the_largest() {
 fn the_largest_totals() {
     // 256 holdings of the highest value and the highest rate: all long, all short, and half with half.
     let mut run = Run::fixed("the largest totals");
-    let (kind, issuer, days, value, currency) = (2, 10, 36_500, 100_000_000_000, 0);
+    let (kind, issuer, maturity) = (2, 10, 2125_01_01);
+    let (value, currency) = (100_000_000_000, 0);
     let residual = |side| Row {
         side,
         kind,
         issuer,
-        days,
+        maturity,
         value,
         currency,
     };
-    let longs = Sheet::of_rows(&[residual(0); 256], 0);
+    let longs = Sheet::of_rows(VALUED, &[residual(0); 256], 0);
     run.accepted(
         &Lent::of(&longs),
         256 * value * 21_900,
         format_args!("all long"),
     );
-    let dear = Sheet::of_rows(&[residual(1); 256], 43_800);
+    let dear = Sheet::of_rows(VALUED, &[residual(1); 256], 43_800);
     run.refused(
         &Lent::of(&dear),
         (17, 0, 0),
         format_args!("all short at the highest price"),
     );
-    let mut sheet = Sheet::of_rows(&[residual(0); 128], 43_800);
+    let mut sheet = Sheet::of_rows(VALUED, &[residual(0); 128], 43_800);
     for long in 0..128 {
         sheet.add_holding(residual(1), 0);
         sheet.add_line(Line {
@@ -287,13 +301,13 @@ fn one_uncovered_pair_among_all() {
         side,
         kind: 2,
         issuer: 0,
-        days: 9_000,
+        maturity: 2049_08_23,
         value: 1,
         currency: 0,
     };
     for long in [0, 1, 64, 126, 127] {
         for short in [128, 129, 200, 254, 255] {
-            let mut sheet = Sheet::of_rows(&[residual(0); 128], 17_520);
+            let mut sheet = Sheet::of_rows(VALUED, &[residual(0); 128], 17_520);
             for number in 128..256 {
                 sheet.add_holding(residual(1), if number == short { 17_520 } else { 17_521 });
             }
@@ -314,7 +328,7 @@ fn ties_go_to_the_lower_number() {
         side,
         kind,
         issuer,
-        days,
+        maturity: calendar::days_after(VALUED, days),
         value,
         currency,
     };
@@ -327,14 +341,14 @@ fn ties_go_to_the_lower_number() {
         holding(0, 30),
     ];
     let left = run.compare(
-        &Lent::of(&Sheet::of_rows(&book, 0)),
+        &Lent::of(&Sheet::of_rows(VALUED, &book, 0)),
         format_args!("five longs"),
     );
     assert_eq!(left.number, 0);
     assert_eq!(Left::entries(&left.ranking), [2, 0, 1, 3, 4]);
     let many = [holding(1, 7); 256];
     let left = run.compare(
-        &Lent::of(&Sheet::of_rows(&many, 0)),
+        &Lent::of(&Sheet::of_rows(VALUED, &many, 0)),
         format_args!("256 alike"),
     );
     assert!(Left::entries(&left.ranking).into_iter().eq(0..256));

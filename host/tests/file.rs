@@ -2,39 +2,44 @@
 
 mod support;
 
-use margin_calculator::texts::{PRINTED, holding, holding_in, joined, of_width, quoted, quoted_at};
-use margin_calculator::{FIELDS, Row, Rows, Sheet};
-use margin_host::Line;
+use margin_calculator::texts::{
+    PRINTED, dated, holding, holding_in, joined, of_width, quoted, quoted_at,
+};
+use margin_calculator::{FIELDS, Row, Sheet, VALUED};
+use margin_host::{Columns, Line};
 use support::column;
-use support::file::{File, Files, with_field};
+use support::file::{File, Files, after_date, with_field};
 use support::lent::OF_HOLDINGS;
 
 fn printed() -> Sheet {
     Sheet {
-        side: vec![0, 1, 1],
-        kind: vec![1, 0, 2],
-        issuer: vec![0, 0, 7],
-        days: vec![2_000, 2_000, 2_000],
-        value: vec![1_000_000, 600_000, 300_000],
-        price: vec![0, 5_840, 6_570],
-        currency: vec![0, 0, 0],
-        long: vec![0, 0],
-        short: vec![1, 2],
-        amount: vec![600_000, 300_000],
+        date: 2025_01_01,
+        columns: Columns {
+            side: vec![0, 1, 1],
+            kind: vec![1, 0, 2],
+            issuer: vec![0, 0, 7],
+            maturity: vec![2030_06_24, 2030_06_24, 2030_06_24],
+            value: vec![1_000_000, 600_000, 300_000],
+            price: vec![0, 5_840, 6_570],
+            currency: vec![0, 0, 0],
+            long: vec![0, 0],
+            short: vec![1, 2],
+            amount: vec![600_000, 300_000],
+        },
     }
 }
 
 fn one_holding(side: u64, kind: u64, issuer: u64, currency: u64) -> Sheet {
-    let (days, value) = (2_000, 1_000);
+    let (maturity, value) = (2030_06_24, 1_000);
     let holding = Row {
         side,
         kind,
         issuer,
-        days,
+        maturity,
         value,
         currency,
     };
-    Sheet::of_rows(&[holding], 0)
+    Sheet::of_rows(VALUED, &[holding], 0)
 }
 
 #[test]
@@ -70,16 +75,8 @@ fn the_printed_file() {
 #[test]
 fn files_without_a_field() {
     let mut files = Files::fixed("files without a field");
-    files.accepted(
-        &File::exact(b"", 0, 0),
-        &Sheet::default(),
-        format_args!("empty"),
-    );
-    files.accepted(
-        &File::of(b""),
-        &Sheet::default(),
-        format_args!("empty, long lists"),
-    );
+    files.refused(&File::exact(b"", 0, 0), (22, 0), format_args!("empty"));
+    files.refused(&File::of(b""), (22, 0), format_args!("empty, long lists"));
     files.refused(&File::of(b"\r\n"), (20, 0), format_args!("a lone CRLF"));
     files.refused(&File::of(b"\r\n\r\n"), (20, 0), format_args!("two CRLFs"));
     files.refused(&File::of(b"\"\""), (20, 0), format_args!("two quotes"));
@@ -123,11 +120,11 @@ fn every_letter_and_code() {
         for (kind, kind_number) in [("B", 0), ("C", 1), ("R", 2)] {
             for (issuer, issuer_number) in issuers {
                 for (currency, currency_number) in currencies {
-                    let fields = format!("{side},{kind},{issuer},2000,1000,0");
+                    let fields = format!("{side},{kind},{issuer},2030-06-24,1000,0");
                     let record = holding_in(currency, &fields);
                     let sheet =
                         one_holding(side_number, kind_number, issuer_number, currency_number);
-                    for text in [joined(&[&record]), joined(&[quoted(&record)])] {
+                    for text in [dated(&[&record]), dated(&[quoted(&record)])] {
                         files.accepted(&File::exact(&text, 1, 0), &sheet, format_args!("{record}"));
                     }
                 }
@@ -140,7 +137,10 @@ fn every_letter_and_code() {
 fn texts_that_are_no_letter_or_code() {
     let mut files = Files::fixed("no letter or code");
     let texts = [
-        (0, &["", "h", "p", "HH", " H", "H ", "P", "M", "X", "R"][..]),
+        (
+            0,
+            &["", "h", "p", "HH", " H", "H ", "D", "P", "M", "X", "R"][..],
+        ),
         (1, &["", "l", "s", "LS", "0", "1", " L", "S ", "B"]),
         (2, &["", "b", "c", "r", "BC", "0", "2", " C", "L"]),
         (
@@ -161,32 +161,39 @@ fn texts_that_are_no_letter_or_code() {
     ];
     for (at, texts) in texts {
         for text in texts {
-            let record = with_field(PRINTED[0], at, text.as_bytes());
+            let record = with_field(PRINTED[1], at, text.as_bytes());
             files.refused(
-                &File::of(&record),
-                (21, 0),
+                &File::of(&after_date(record)),
+                (21, 1),
                 format_args!("{text:?} as field {at}"),
             );
         }
     }
-    for letter in ["", "p", "PP", "H", " P", "L"] {
-        let record = with_field(PRINTED[3], 0, letter.as_bytes());
+    for letter in ["", "p", "PP", "H", "D", " P", "L"] {
+        let record = with_field(PRINTED[4], 0, letter.as_bytes());
+        files.refused(
+            &File::of(&after_date(record)),
+            (21, 1),
+            format_args!("{letter:?} before a line"),
+        );
+    }
+    for letter in ["", "d", "DD", "H", "P", " D", "D "] {
+        let record = with_field(PRINTED[0], 0, letter.as_bytes());
         files.refused(
             &File::of(&record),
             (21, 0),
-            format_args!("{letter:?} before a line"),
+            format_args!("{letter:?} before a date"),
         );
     }
 }
 
 /// Record, field, the column that it goes to, and the most digits that it may have.
-const NUMERALS: [(&str, usize, usize, usize); 6] = [
-    (PRINTED[0], 4, 3, 6),
-    (PRINTED[0], 5, 4, 12),
-    (PRINTED[0], 6, 5, 6),
-    (PRINTED[3], 1, 7, 6),
-    (PRINTED[3], 2, 8, 6),
-    (PRINTED[3], 3, 9, 12),
+const NUMERALS: [(&str, usize, usize, usize); 5] = [
+    (PRINTED[1], 5, 4, 12),
+    (PRINTED[1], 6, 5, 6),
+    (PRINTED[4], 1, 7, 6),
+    (PRINTED[4], 2, 8, 6),
+    (PRINTED[4], 3, 9, 12),
 ];
 
 #[test]
@@ -202,7 +209,7 @@ fn numerals() {
         for text in texts {
             let of_holding = at < OF_HOLDINGS;
             let (holdings, lines) = if of_holding { (1, 0) } else { (0, 1) };
-            let mut sheet = Sheet::default();
+            let mut sheet = Sheet::empty(VALUED);
             if of_holding {
                 sheet = one_holding(0, 1, 0, 0);
                 sheet.value[0] = 1_000_000;
@@ -217,7 +224,7 @@ fn numerals() {
             column(&mut sheet, at)[0] = text.parse().expect("a number");
             for field_text in [text.clone(), format!("\"{text}\"")] {
                 let bytes = with_field(record, field, field_text.as_bytes());
-                let file = File::exact(&bytes, holdings, lines);
+                let file = File::exact(&after_date(bytes), holdings, lines);
                 files.accepted(&file, &sheet, format_args!("{field_text} as field {field}"));
             }
         }
@@ -245,10 +252,64 @@ fn texts_that_are_no_numerals() {
         texts.push("1".repeat(60_000));
         for text in texts {
             let what = format_args!("{} bytes as field {field}: {:.30}", text.len(), text);
-            let bare = with_field(record, field, text.as_bytes());
-            files.refused(&File::of(&bare), (21, 0), what);
-            let inside = with_field(record, field, format!("\"{text}\"").as_bytes());
-            files.refused(&File::of(&inside), (21, 0), what);
+            for field_text in [text.clone(), format!("\"{text}\"")] {
+                let record = with_field(record, field, field_text.as_bytes());
+                files.refused(&File::of(&after_date(record)), (21, 1), what);
+            }
+        }
+    }
+}
+
+#[test]
+fn dates() {
+    // Any eight digits in the form: whether they are a date is the check's to judge.
+    let mut files = Files::fixed("dates");
+    for (text, number) in [
+        ("2025-01-01", 2025_01_01),
+        ("1900-01-01", 1900_01_01),
+        ("2299-12-31", 2299_12_31),
+        ("2024-02-29", 2024_02_29),
+        ("2025-02-29", 2025_02_29),
+        ("2025-02-30", 2025_02_30),
+        ("1899-12-31", 1899_12_31),
+        ("2300-01-01", 2300_01_01),
+        ("0000-00-00", 0),
+        ("0000-00-01", 1),
+        ("0001-00-00", 1_00_00),
+        ("9999-99-99", 9999_99_99),
+        ("1234-56-78", 1234_56_78),
+    ] {
+        for field in [text.to_string(), format!("\"{text}\"")] {
+            let what = format_args!("{field}");
+            let date = with_field(PRINTED[0], 1, field.as_bytes());
+            files.accepted(&File::exact(&date, 0, 0), &Sheet::empty(number), what);
+            let mut sheet = one_holding(0, 1, 0, 0);
+            (sheet.value[0], sheet.maturity[0]) = (1_000_000, number);
+            let maturity = after_date(with_field(PRINTED[1], 4, field.as_bytes()));
+            files.accepted(&File::exact(&maturity, 1, 0), &sheet, what);
+        }
+    }
+}
+
+#[test]
+fn texts_that_are_no_dates() {
+    let mut files = Files::fixed("no dates");
+    #[rustfmt::skip]
+    let texts = [
+        "", "0", "2000", "20250101", "2025-0101", "202501-01", "2025-1-01", "2025-01-1", "25-01-01",
+        "025-01-01", "02025-01-01", "2025-001-01", "2025-01-001", "2025/01/01", "2025.01.01",
+        "2025 01 01", "2025-01/01", "2025_01_01", "2025-01-01 ", " 2025-01-01", "2025-01-01-",
+        "-2025-01-01", "+025-01-01", "-025-01-01", "2025--1-01", "2025-01--1", "2025-+1-01", "202x-01-01",
+        "2025-0x-01", "2025-01-x1", "2025-01-0:", "/025-01-01", "2025:01:01", "01-01-2025", "2025-01",
+        "2025-01-", "2025-Jan-01", "2025-01-01T00:00", "----------", "1e10-01-01", "YYYY-MM-DD",
+    ];
+    for text in texts {
+        for field in [text.to_string(), format!("\"{text}\"")] {
+            let what = format_args!("{field}");
+            let date = with_field(PRINTED[0], 1, field.as_bytes());
+            files.refused(&File::of(&date), (21, 0), what);
+            let maturity = after_date(with_field(PRINTED[1], 4, field.as_bytes()));
+            files.refused(&File::of(&maturity), (21, 1), what);
         }
     }
 }
@@ -257,26 +318,37 @@ fn texts_that_are_no_numerals() {
 fn fields_that_must_be_empty() {
     let mut files = Files::fixed("fields that must be empty");
     for at in 4..FIELDS {
-        let record = with_field(PRINTED[3], at, b"\"\"");
-        let read = files.compare(&File::exact(&record, 0, 1), format_args!("quotes {at}"));
-        assert_eq!(read.number, 0);
-        for text in [
-            "0", " ", "\"0\"", "\" \"", "\"\"\"\"", "\",\"", "\"\r\n\"", "P",
-        ] {
-            let record = with_field(PRINTED[3], at, text.as_bytes());
-            files.refused(
-                &File::of(&record),
-                (21, 0),
-                format_args!("{text:?} as field {at}"),
-            );
-        }
+        must_be_empty(&mut files, PRINTED[4], at, 1);
+    }
+    for at in 2..FIELDS {
+        must_be_empty(&mut files, PRINTED[0], at, 0);
+    }
+}
+
+/// A field of a record that is a file of its own, or the last of one.
+fn must_be_empty(files: &mut Files, record: &str, at: usize, number: usize) {
+    let file = |field: &str| {
+        let record = with_field(record, at, field.as_bytes());
+        let text = match number {
+            0 => record,
+            _ => after_date(record),
+        };
+        File::exact(&text, 0, number)
+    };
+    let read = files.compare(&file("\"\""), format_args!("quotes {at}"));
+    assert_eq!(read.number, 0);
+    for text in [
+        "0", " ", "\"0\"", "\" \"", "\"\"\"\"", "\",\"", "\"\r\n\"", "P",
+    ] {
+        let what = format_args!("{text:?} as field {at}");
+        files.refused(&file(text), (21, number as u64), what);
     }
 }
 
 #[test]
 fn a_doubled_quote_is_never_a_value() {
     let mut files = Files::fixed("doubled quotes");
-    for record in [PRINTED[0], PRINTED[3]] {
+    for record in [PRINTED[1], PRINTED[4]] {
         for at in 0..FIELDS {
             let field = record.split(',').nth(at).expect("all fields");
             for text in [
@@ -287,8 +359,8 @@ fn a_doubled_quote_is_never_a_value() {
             ] {
                 let text = with_field(record, at, text.as_bytes());
                 files.refused(
-                    &File::of(&text),
-                    (21, 0),
+                    &File::of(&after_date(text)),
+                    (21, 1),
                     format_args!("{record}, field {at}"),
                 );
             }
@@ -302,8 +374,8 @@ fn a_doubled_quote_is_never_a_value() {
             ] {
                 let text = with_field(record, at, text.as_bytes());
                 files.refused(
-                    &File::of(&text),
-                    (19, 0),
+                    &File::of(&after_date(text)),
+                    (19, 1),
                     format_args!("{record}, field {at}"),
                 );
             }
@@ -314,24 +386,20 @@ fn a_doubled_quote_is_never_a_value() {
 #[test]
 fn a_line_end_in_quotes_ends_no_record() {
     let mut files = Files::fixed("line ends in quotes");
-    for (at, number) in [(0, 21), (3, 21)] {
-        let mut records = PRINTED.map(str::to_string).to_vec();
-        records[at] = records[at].replacen(",0", ",\"0\r\n\"", 1);
+    for (at, field) in [(0, "2025-01-01"), (1, "2030-06-24"), (4, "600000")] {
+        let mut records = PRINTED.map(str::to_string);
+        records[at] = records[at].replace(field, &format!("\"{field}\r\n\""));
         let text = joined(&records);
-        files.refused(
-            &File::of(&text),
-            (number, at as u64),
-            format_args!("at {at}"),
-        );
+        files.refused(&File::of(&text), (21, at as u64), format_args!("at {at}"));
     }
     // A later fault is counted in records and not in lines.
     let many = of_width("\"\r\n\r\n\r\n\",1,2,3,4,5,6,7", FIELDS);
     files.refused(
-        &File::of(&joined(&[&many, PRINTED[0]])),
+        &File::of(&joined(&[&many, PRINTED[1]])),
         (21, 0),
         format_args!("three line ends"),
     );
-    let second = quoted_at(&holding("L,C,CA,2000,1,0"), &[0, 1]);
+    let second = quoted_at(&holding("L,C,CA,2030-06-24,1,0"), &[0, 1]);
     files.refused(
         &File::of(&joined(&[PRINTED[0], &second, "\"a\r\nb\""])),
         (20, 2),

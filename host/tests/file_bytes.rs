@@ -1,15 +1,15 @@
-//! Lengths in bytes: the lists that the reader fills, and its answer slice.
+//! Lengths in bytes: the head and the lists that the reader fills, and its answer slice.
 
 mod support;
 
-use margin_calculator::samples::{ANY, best_sheet, holdings};
-use margin_calculator::texts::{PRINTED, holding, joined, line, text_of};
-use margin_calculator::{Row, Rows, Sheet};
+use margin_calculator::samples::{ANY, best_sheet, book};
+use margin_calculator::texts::{PRINTED, dated, holding, joined, line, text_of};
+use margin_calculator::{Row, Sheet, VALUED};
 use margin_host::Line;
 use support::file::{File, Files, LISTS};
 use support::lent::NAMES;
 
-/// Three holdings and two lines.
+/// A date, three holdings and two lines.
 fn exact() -> File {
     File::exact(&joined(&PRINTED), 3, 2)
 }
@@ -27,6 +27,37 @@ fn one_list_of_every_length() {
                 files.refused(&file, (2, 0), what);
             } else {
                 assert_eq!(files.compare(&file, what).number, 0, "{what}");
+            }
+        }
+    }
+}
+
+#[test]
+fn heads_of_every_length() {
+    // The head is asked for its one entry after all records, whatever else is short.
+    let mut files = Files::fixed("heads of every length");
+    let (late, empty) = ([PRINTED[0]; 2], PRINTED[..1].to_vec());
+    for length in 0..=33 {
+        let what = format_args!("head of {length} bytes");
+        for (text, holdings, lines, wanted) in [
+            (joined(&PRINTED), 3, 2, (0, 0)),
+            (joined(&empty), 0, 0, (0, 0)),
+            (joined(&late), 0, 0, (22, 1)),
+            (Vec::new(), 0, 0, (22, 0)),
+            (joined(&PRINTED[1..]), 3, 2, (22, 0)),
+        ] {
+            let mut file = File::exact(&text, holdings, lines);
+            file.head = length;
+            if wanted.0 > 0 {
+                files.refused(&file, wanted, what);
+            } else if length < 8 {
+                files.refused(&file, (2, 0), what);
+                file.lists = [0; LISTS];
+                file.answer = 7;
+                files.refused(&file, (2, 0), what);
+            } else {
+                let read = files.compare(&file, what);
+                assert_eq!((read.number, read.sheet().date), (0, 2025_01_01), "{what}");
             }
         }
     }
@@ -54,18 +85,19 @@ fn two_lists_of_other_lengths() {
 #[test]
 fn answers_of_every_length() {
     let mut files = Files::fixed("answers of every length");
-    let (one, unknown) = (&holding("L,C,CA,1,1,0"), &holding("L,C,YT,1,1,0"));
-    let open = |records: [&str; 2]| records.join("\r\n").into_bytes();
-    let texts: [(Vec<u8>, (u64, u64)); 9] = [
+    let one = &holding("L,C,CA,2025-01-02,1,0");
+    let unknown = &holding("L,C,YT,2025-01-02,1,0");
+    let texts: [(Vec<u8>, (u64, u64)); 10] = [
         (joined(&PRINTED), (0, 3)),
-        (Vec::new(), (0, 0)),
-        (joined(&[PRINTED[0]; 257]), (3, 0)),
-        (joined(&[PRINTED[3]; 513]), (9, 0)),
+        (joined(&PRINTED[..1]), (0, 0)),
+        (dated(&[PRINTED[1]; 257]), (3, 0)),
+        (dated(&[PRINTED[4]; 513]), (9, 0)),
         (vec![b','; 65_537], (18, 0)),
         (b"\r\n".to_vec(), (20, 0)),
-        (open([one, "\t"]), (19, 1)),
-        (open([one, unknown]), (21, 1)),
-        (open([&line("0,1,1"), one]), (22, 1)),
+        (Vec::new(), (22, 0)),
+        (dated(&[one, "\t"]), (19, 2)),
+        (dated(&[one, unknown]), (21, 2)),
+        (dated(&[&line("0,1,1"), one]), (22, 2)),
     ];
     for length in 0..=24 {
         for (text, (number, place)) in &texts {
@@ -87,24 +119,23 @@ fn answers_of_every_length() {
 }
 
 #[test]
-fn lists_of_the_empty_file() {
-    let mut files = Files::fixed("lists of the empty file");
+fn lists_of_the_empty_book() {
+    let mut files = Files::fixed("lists of the empty book");
     for length in 0..=24 {
         let mut file = exact();
-        file.text.clear();
+        file.text = joined(&PRINTED[..1]);
         file.lists = [length; LISTS];
         let what = format_args!("lists of {length} bytes");
-        files.accepted(&file, &Sheet::default(), what);
+        files.accepted(&file, &Sheet::empty(VALUED), what);
     }
 }
 
 #[test]
 fn lists_of_holdings_alone_and_lines_alone() {
     let mut files = Files::fixed("holdings alone and lines alone");
-    let holdings = ["L,C,CA,1,1,0", "S,C,CA,1,1,0"].map(holding).join("\r\n");
-    let holdings = File::exact(holdings.as_bytes(), 2, 0);
-    let lines = ["0,1,1"; 3].map(line).join("\r\n");
-    let lines = File::exact(lines.as_bytes(), 0, 3);
+    let holdings = ["L,C,CA,2025-01-02,1,0", "S,C,CA,2025-01-02,1,0"].map(holding);
+    let holdings = File::exact(&dated(&holdings), 2, 0);
+    let lines = File::exact(&dated(&["0,1,1"; 3].map(line)), 0, 3);
     for file in [holdings, lines] {
         assert_eq!(files.compare(&file, format_args!("exact")).number, 0);
         for (at, name) in NAMES.iter().enumerate() {
@@ -128,11 +159,11 @@ fn lists_of_the_largest_file() {
         side: 0,
         kind: 0,
         issuer: 0,
-        days: 1,
+        maturity: 2025_01_02,
         value: 1,
         currency: 2,
     };
-    let mut sheet = Sheet::of_rows(&[holding; 256], 0);
+    let mut sheet = Sheet::of_rows(VALUED, &[holding; 256], 0);
     for line in 0..512 {
         sheet.add_line(Line {
             long: line,
@@ -159,13 +190,16 @@ fn lists_of_random_lengths() {
     let mut files = Files::new("lists of random lengths", 0x0902);
     for _ in 0..20_000 {
         let size = files.random.place(12);
-        let sheet = best_sheet(&holdings(&mut files.random, &ANY, size));
+        let sheet = best_sheet(&book(&mut files.random, &ANY, size));
         let mut file = File::exact(&text_of(&sheet), size, sheet.long.len());
         for length in &mut file.lists {
             *length += files.random.place(3) * files.random.place(12);
             if files.random.below(12) == 0 {
                 *length = length.saturating_sub(1 + files.random.place(20));
             }
+        }
+        if files.random.below(12) == 0 {
+            file.head = files.random.place(17);
         }
         file.answer = 14 + files.random.place(3) * files.random.place(5) + files.random.place(3);
         files.compare(&file, format_args!("{size} holdings"));

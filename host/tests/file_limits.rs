@@ -3,7 +3,7 @@
 mod support;
 
 use margin_calculator::texts::{PRINTED, holding, joined, of_width, quoted, records};
-use margin_calculator::{FIELDS, Row, Rows, Sheet};
+use margin_calculator::{FIELDS, Row, Sheet};
 use margin_host::Line;
 use support::file::{File, Files};
 
@@ -20,7 +20,7 @@ fn files_of_the_greatest_length() {
         File::of(&text)
     };
     let (book, empty) = (joined(&PRINTED), of_width("", FIELDS));
-    let price = holding("L,C,CA,2000,1,#") + "\r\n";
+    let price = holding("L,C,CA,2030-06-24,1,#") + "\r\n";
     let (before, after) = price.split_once('#').expect("the mark of the digits");
     let texts: [Long<'_>; 12] = [
         (b"", b',', b"", (20, 0)),
@@ -30,10 +30,10 @@ fn files_of_the_greatest_length() {
         (b"\"", b',', b"", (19, 0)),
         (b"", b'"', b"", (20, 0)),
         (b"", b',', b"\0", (19, 0)),
-        (&book, b'x', b"", (20, 5)),
-        (&book, b'1', empty.as_bytes(), (21, 5)),
-        (&book, b',', b"\r\n", (20, 5)),
-        (&book, b',', b"\n", (19, 5)),
+        (&book, b'x', b"", (20, 6)),
+        (&book, b'1', empty.as_bytes(), (21, 6)),
+        (&book, b',', b"\r\n", (20, 6)),
+        (&book, b',', b"\n", (19, 6)),
         (before.as_bytes(), b'1', after.as_bytes(), (21, 0)),
     ];
     for (first, fill, last, wanted) in texts {
@@ -62,8 +62,9 @@ fn as_many_records_as_there_may_be() {
         (256, 513, 9),
         (1, 600, 9),
     ] {
-        let mut records = vec![PRINTED[0]; holdings];
-        records.resize(holdings + lines, PRINTED[3]);
+        let mut records = vec![PRINTED[0]];
+        records.resize(1 + holdings, PRINTED[1]);
+        records.resize(1 + holdings + lines, PRINTED[4]);
         let in_quotes: Vec<String> = records.iter().map(|record| quoted(record)).collect();
         for text in [joined(&records), joined(&in_quotes)] {
             let what = format_args!("{holdings} holdings and {lines} lines");
@@ -83,17 +84,17 @@ fn as_many_records_as_there_may_be() {
 
 #[test]
 fn the_longest_file_that_is_read() {
-    // Every numeral has all the digits that it may have, and every field is in quotes.
+    // Every numeral has all the digits that it may have, the dates are none, and every field is in quotes.
     let mut files = Files::fixed("the longest file that is read");
     let holding = Row {
         side: 1,
         kind: 2,
         issuer: 10,
-        days: 999_999,
+        maturity: 9999_99_99,
         value: 999_999_999_999,
         currency: 2,
     };
-    let mut sheet = Sheet::of_rows(&[holding; 256], 999_999);
+    let mut sheet = Sheet::of_rows(9999_99_99, &[holding; 256], 999_999);
     for _ in 0..512 {
         sheet.add_line(Line {
             long: 999_999,
@@ -106,7 +107,7 @@ fn the_longest_file_that_is_read() {
         .map(|record| quoted(record))
         .collect();
     let text = joined(&all);
-    assert_eq!(text.len(), 40_192);
+    assert_eq!(text.len(), 41_252);
     files.accepted(
         &File::exact(&text, 256, 512),
         &sheet,

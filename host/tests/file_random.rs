@@ -2,22 +2,24 @@
 
 mod support;
 
-use margin_calculator::samples::Random;
+use margin_calculator::samples::{Random, valuation_date};
 use margin_calculator::{CURRENCIES, FIELDS, ISSUERS, KINDS, SIDES, texts};
-use support::file::{File, Files, LISTS};
+use support::file::{File, Files, LISTS, after_date};
 
 /// Fields at which something changes in the paper, and some that are none.
 #[rustfmt::skip]
-const PROBES: [&str; 54] = [
+const PROBES: [&str; 66] = [
     "", "0", "00", "007", "+1", "-1", " 1", "1 ", "1", "9", "12", "255", "256", "365", "36500", "43801",
+    "2025-01-01", "2030-06-24", "2299-12-31", "2025-02-30", "0000-00-00", "9999-99-99", "20250101", "2025-1-01",
+    "2025-01-1", "2025/01/01", "02025-01-01",
     "999999", "1000000", "0000000", "999999999999", "1000000000000", "18446744073709551616",
-    "H", "P", "h", "p", "L", "S", "l", "B", "C", "R", "CA", "ON", "SK", "YT", "NU", "on",
+    "D", "H", "P", "h", "p", "L", "S", "l", "B", "C", "R", "CA", "ON", "SK", "YT", "NU", "on",
     "US", "GB", "UK", "CAD", "USD", "GBP", "EUR", "usd",
     "\"\"", "x\"\"y", "\r\n", "a,b", "\t", "\u{7F}", "\u{80}", "\"",
 ];
 
 /// Bytes at which something changes in the grammar.
-const BYTES: &[u8] = b"\"\"\"\",,,,\r\n\r\n\r\n01 9HPLSCAD\t\x00\x1F\x7E\x7F\x80\xFF\xEF!#+-";
+const BYTES: &[u8] = b"\"\"\"\",,,,\r\n\r\n\r\n01- 9HPLSCAD\t\x00\x1F\x7E\x7F\x80\xFF\xEF!#+-";
 
 /// A file as records of fields.
 type Records = Vec<Vec<String>>;
@@ -32,13 +34,28 @@ fn numeral(random: &mut Random, most: u32) -> String {
     }
 }
 
+/// A date, or now and then any other text of its form.
+fn date(random: &mut Random) -> String {
+    let number = match random.below(8) {
+        0 => random.below(100_000_000),
+        _ => valuation_date(random),
+    };
+    texts::date_text(number)
+}
+
+fn valuation(random: &mut Random) -> Vec<String> {
+    let mut fields = vec!["D".to_string(), date(random)];
+    fields.resize(FIELDS, String::new());
+    fields
+}
+
 fn holding(random: &mut Random) -> Vec<String> {
     let mut fields = vec![
         "H".to_string(),
         random.pick(&SIDES).to_string(),
         random.pick(&KINDS).to_string(),
         random.pick(&ISSUERS).to_string(),
-        numeral(random, 6),
+        date(random),
         numeral(random, 12),
         numeral(random, 6),
         random.pick(&CURRENCIES).to_string(),
@@ -55,7 +72,8 @@ fn line(random: &mut Random) -> Vec<String> {
 }
 
 fn random_records(random: &mut Random, holdings: usize, lines: usize) -> Records {
-    let mut records: Records = (0..holdings).map(|_| holding(random)).collect();
+    let mut records = vec![valuation(random)];
+    records.extend((0..holdings).map(|_| holding(random)));
     records.extend((0..lines).map(|_| line(random)));
     records
 }
@@ -80,10 +98,10 @@ fn change(random: &mut Random, records: &mut Records) {
         6 => records.swap(at, other),
         7 => records.insert(at, records[other].clone()),
         8 => {
-            let record = if random.below(2) == 0 {
-                holding(random)
-            } else {
-                line(random)
+            let record = match random.below(3) {
+                0 => holding(random),
+                1 => line(random),
+                _ => valuation(random),
             };
             records.insert(at, record);
         }
@@ -155,6 +173,9 @@ fn lend(random: &mut Random, text: &[u8], records: &Records) -> File {
         let at = random.place(LISTS);
         file.lists[at] = random.place(file.lists[at] + 1);
     }
+    if random.below(12) == 0 {
+        file.head = random.place(20);
+    }
     file.answer = match random.below(12) {
         0 => random.place(21),
         _ => 16,
@@ -176,7 +197,7 @@ fn random_files() {
             let read = files.compare(&roomy, format_args!("round {round}"));
             assert_eq!(read.number, 0, "every random file is read");
             let counted = read.figures().map(|(holdings, lines)| holdings + lines);
-            assert_eq!(counted, Some(records.len() as u64));
+            assert_eq!(counted, Some(records.len() as u64 - 1));
         }
     }
     files.has_seen(&[0], 15_000);
@@ -255,7 +276,7 @@ fn random_bytes() {
         BYTES,
         b"\",\r\n0",
         b",,,,,,,,,,,,,,,,,,\r\n\"0HP",
-        b"HPLSBCRONUSD,,,,,,,,0123456789",
+        b"DHPLSBCRONUSD,,,,,,,,-0123456789",
         b",\"",
     ];
     for round in 0..80_000 {
@@ -271,6 +292,9 @@ fn random_bytes() {
                 random.pick(alphabet)
             });
         }
+        if round % 2 == 0 {
+            text = after_date(text);
+        }
         files.compare(&File::exact(&text, 0, 0), format_args!("round {round}"));
     }
     files.has_seen(&[19, 20, 21], 200);
@@ -279,7 +303,10 @@ fn random_bytes() {
 #[test]
 fn long_random_texts() {
     let mut files = Files::new("long random texts", 0x0A05);
-    let records = [texts::line("0,1,1"), texts::holding("L,C,CA,1,1,0")];
+    let records = [
+        texts::line("0,1,1"),
+        texts::holding("L,C,CA,2025-01-02,1,0"),
+    ];
     let [line, holding] = records.map(|record| record + "\r\n");
     for round in 0..600 {
         let random = &mut files.random;

@@ -3,19 +3,19 @@
 mod support;
 
 use margin_calculator::FIELDS;
-use margin_calculator::texts::{holding, holding_in, joined, line, of_width};
+use margin_calculator::texts::{PRINTED, dated, holding, holding_in, joined, line, of_width};
 use support::file::{File, Files};
 
 /// A holding and a line, by their fields.
-const HOLDING: &str = "L,C,ON,2000,1000,8760";
+const HOLDING: &str = "L,C,ON,2030-06-24,1000,8760";
 const LINE: &str = "0,3,1000";
 /// Faults of one record, from the first in the reader's order.
 const OF_A_RECORD: [u64; 4] = [19, 20, 21, 22];
 /// Where 3, 9 and 2 stand among the faults of a record: after all of its own.
 const LAST: u64 = u64::MAX;
 
-/// A file to be made: holdings, lines, faults of records by number and record, the number of bytes to
-/// which it is filled up, and whether a list is too short.
+/// A file to be made: holdings and lines after a date, faults of records by number and record, the number of
+/// bytes to which it is filled up, and whether a list is too short.
 #[derive(Clone, Debug, Default)]
 struct Plan {
     holdings: usize,
@@ -27,13 +27,14 @@ struct Plan {
 
 impl Plan {
     fn records(&self) -> Vec<String> {
-        let mut records = vec![holding(HOLDING); self.holdings];
-        records.resize(self.holdings + self.lines, line(LINE));
+        let mut records = vec![PRINTED[0].to_string()];
+        records.resize(1 + self.holdings, holding(HOLDING));
+        records.resize(1 + self.holdings + self.lines, line(LINE));
         // From the last in order to the first: each leaves room for those before it.
         for number in OF_A_RECORD.into_iter().rev() {
             for (_, at) in self.faults.iter().filter(|fault| fault.0 == number) {
                 match number {
-                    22 => records[*at] = holding(HOLDING),
+                    22 => records[*at] = self.out_of_order(*at),
                     21 => records[*at].insert(2, 'x'),
                     20 => records[*at].push(','),
                     _ => records[*at].push('\t'),
@@ -41,6 +42,17 @@ impl Plan {
             }
         }
         records
+    }
+
+    /// A holding instead of the date, and in the place of every second line after the first; otherwise another
+    /// date.
+    fn out_of_order(&self, at: usize) -> String {
+        let after_line = at > 1 + self.holdings;
+        if at == 0 || after_line && at.is_multiple_of(2) {
+            holding(HOLDING)
+        } else {
+            PRINTED[0].to_string()
+        }
     }
 
     fn file(&self) -> File {
@@ -65,10 +77,10 @@ impl Plan {
             events.push((at, number, (number, at as u64)));
         }
         if self.holdings > 256 {
-            events.push((256, LAST, (3, 0)));
+            events.push((1 + 256, LAST, (3, 0)));
         }
         if self.lines > 512 {
-            events.push((self.holdings + 512, LAST, (9, 0)));
+            events.push((1 + self.holdings + 512, LAST, (9, 0)));
         }
         if self.short_list {
             events.push((usize::MAX, LAST, (2, 0)));
@@ -90,21 +102,13 @@ fn plan(holdings: usize, lines: usize, faults: &[(u64, usize)]) -> Plan {
     }
 }
 
-/// The places of a fault in a file of this many holdings and lines: a holding after a line needs one.
-fn places(number: u64, holdings: usize, lines: usize) -> std::ops::Range<usize> {
-    match number {
-        22 => holdings + 1..holdings + lines,
-        _ => 0..holdings + lines,
-    }
-}
-
 #[test]
 fn each_refusal_at_each_record() {
     let mut files = Files::fixed("each refusal at each record");
     for number in OF_A_RECORD {
-        for (holdings, lines) in [(4, 4), (0, 2), (5, 3), (256, 512)] {
-            for at in places(number, holdings, lines) {
-                if at < 20 || at % 17 == 0 || (250..260).contains(&at) || at == 767 {
+        for (holdings, lines) in [(4, 4), (0, 2), (5, 3), (0, 0), (256, 512)] {
+            for at in 0..1 + holdings + lines {
+                if at < 20 || at % 17 == 0 || (250..260).contains(&at) || at == 768 {
                     plan(holdings, lines, &[(number, at)]).refused(&mut files);
                 }
             }
@@ -117,8 +121,8 @@ fn every_two_refusals() {
     let mut files = Files::fixed("every two refusals");
     for one in OF_A_RECORD {
         for other in OF_A_RECORD {
-            for at in places(one, 5, 6) {
-                for second in places(other, 5, 6) {
+            for at in 0..12 {
+                for second in 0..12 {
                     plan(5, 6, &[(one, at), (other, second)]).refused(&mut files);
                 }
             }
@@ -130,19 +134,13 @@ fn every_two_refusals() {
 fn one_record_too_many_and_another_fault() {
     let mut files = Files::fixed("one record too many");
     for number in OF_A_RECORD {
-        for at in [0, 1, 128, 255, 256, 257, 300, 500, 768, 769] {
-            if number != 22 || at > 257 {
-                plan(257, 513, &[(number, at)]).refused(&mut files);
-            }
-            if number != 22 || at > 256 {
-                plan(256, 514, &[(number, at)]).refused(&mut files);
-            }
-            if number != 22 || at > 3 {
-                plan(3, 800, &[(number, at)]).refused(&mut files);
-                plan(3, 800, &[(number, 514)]).refused(&mut files);
-                plan(3, 800, &[(number, 515)]).refused(&mut files);
-                plan(3, 800, &[(number, 516)]).refused(&mut files);
-            }
+        for at in [0, 1, 2, 129, 256, 257, 258, 301, 501, 769, 770] {
+            plan(257, 513, &[(number, at)]).refused(&mut files);
+            plan(256, 514, &[(number, at)]).refused(&mut files);
+            plan(3, 800, &[(number, at)]).refused(&mut files);
+        }
+        for at in [515, 516, 517] {
+            plan(3, 800, &[(number, at)]).refused(&mut files);
         }
     }
     files.has_seen(&[3, 9], 10);
@@ -152,7 +150,7 @@ fn one_record_too_many_and_another_fault() {
         records.resize(770, line(LINE));
         records[at] = holding(HOLDING);
         let what = format_args!("a 257th holding at {at}");
-        files.refused(&File::of(&joined(&records)), (22, at as u64), what);
+        files.refused(&File::of(&dated(&records)), (22, 1 + at as u64), what);
     }
 }
 
@@ -161,12 +159,10 @@ fn a_file_that_is_too_long_and_another_fault() {
     let mut files = Files::fixed("too long and another fault");
     for bytes in [65_536, 65_537, 70_000] {
         for number in OF_A_RECORD {
-            for at in [0, 6, 10] {
-                if number != 22 || at > 5 {
-                    let mut plan = plan(5, 6, &[(number, at)]);
-                    plan.bytes = bytes;
-                    plan.refused(&mut files);
-                }
+            for at in [0, 1, 7, 11] {
+                let mut plan = plan(5, 6, &[(number, at)]);
+                plan.bytes = bytes;
+                plan.refused(&mut files);
             }
         }
         for (holdings, lines) in [(257, 1), (1, 513)] {
@@ -187,7 +183,7 @@ fn a_short_list_comes_last() {
         short.short_list = true;
         short.refused(&mut files);
         for number in OF_A_RECORD {
-            for at in places(number, holdings, lines) {
+            for at in 0..1 + holdings + lines {
                 if at < 20 || at % 97 == 0 {
                     short.faults = vec![(number, at)];
                     short.refused(&mut files);
@@ -208,6 +204,7 @@ fn the_grammar_is_judged_on_the_whole_record() {
     let mut files = Files::fixed("the whole record");
     let good = &holding(HOLDING);
     for record in [
+        "D,2025-01-01,,,,,,,\t",
         "H,L,C,CA,1,1,0,CAD,,\t",
         "x,\u{7F}",
         "a,b,c,\"d\"e",
@@ -220,16 +217,16 @@ fn the_grammar_is_judged_on_the_whole_record() {
             let mut records = vec![good.as_str(); before];
             records.extend([record, good]);
             let what = format_args!("{record:?} after {before}");
-            files.refused(&File::of(&joined(&records)), (19, before as u64), what);
+            files.refused(&File::of(&dated(&records)), (19, 1 + before as u64), what);
         }
     }
     // A record is finished before the next is looked at.
     let unknown = &of_width("h", FIELDS);
     for (record, number) in [(good.as_str(), 19), ("H", 20), ("", 20), (unknown, 21)] {
         let records = [record, "\"", "\t"];
-        let at = u64::from(number == 19);
+        let at = 1 + u64::from(number == 19);
         let what = format_args!("{record:?} before an ill-formed record");
-        files.refused(&File::of(&joined(&records)), (number, at), what);
+        files.refused(&File::of(&dated(&records)), (number, at), what);
     }
 }
 
@@ -238,14 +235,18 @@ fn records_of_other_widths() {
     let mut files = Files::fixed("records of other widths");
     for record in [holding(HOLDING), line(LINE)] {
         for count in 1..=20 {
-            let text = joined(&[of_width(&record, count)]);
+            let text = dated(&[of_width(&record, count)]);
             if count == FIELDS {
                 let read = files.compare(&File::of(&text), format_args!("as many as it has"));
                 assert_eq!(read.number, 0);
             } else {
-                files.refused(&File::of(&text), (20, 0), format_args!("{count} fields"));
+                files.refused(&File::of(&text), (20, 1), format_args!("{count} fields"));
             }
         }
+    }
+    for count in (1..=20).filter(|count| *count != FIELDS) {
+        let text = joined(&[of_width(PRINTED[0], count)]);
+        files.refused(&File::of(&text), (20, 0), format_args!("{count} fields"));
     }
 }
 
@@ -253,9 +254,11 @@ fn records_of_other_widths() {
 fn seven_and_nine_fields() {
     let mut files = Files::fixed("seven and nine fields");
     for record in [
-        "H,L,C,ON,2000,1000,8760",
-        "H,L,C,ON,2000,1000,8760,CAD,",
-        "H,L,C,ON,2000,1000,8760,,",
+        "D,2025-01-01,,,,,",
+        "D,2025-01-01,,,,,,,",
+        "H,L,C,ON,2030-06-24,1000,8760",
+        "H,L,C,ON,2030-06-24,1000,8760,CAD,",
+        "H,L,C,ON,2030-06-24,1000,8760,,",
         "P,0,3,1000,,,",
         "P,0,3,1000,,,,,",
     ] {
@@ -263,7 +266,7 @@ fn seven_and_nine_fields() {
             let mut records = vec![holding(HOLDING); before];
             records.push(record.to_string());
             let what = format_args!("{record} after {before}");
-            files.refused(&File::of(&joined(&records)), (20, before as u64), what);
+            files.refused(&File::of(&dated(&records)), (20, 1 + before as u64), what);
         }
     }
 }
@@ -278,15 +281,51 @@ fn a_currency_that_is_none_in_its_turn() {
             // The 257th holding comes after what is wrong with it.
             let mut records = vec![holding(HOLDING); 257];
             records[at] = bad.clone();
-            files.refused(&File::of(&joined(&records)), (21, at as u64), what);
+            files.refused(&File::of(&dated(&records)), (21, 1 + at as u64), what);
         }
-        let late = joined(&[holding(HOLDING), line(LINE), bad.clone()]);
-        files.refused(&File::of(&late), (21, 2), what);
-        let wide = joined(&[bad.clone() + ","]);
-        files.refused(&File::of(&wide), (20, 0), what);
-        let quote = joined(&[bad + "\""]);
-        files.refused(&File::of(&quote), (19, 0), what);
+        let late = dated(&[holding(HOLDING), line(LINE), bad.clone()]);
+        files.refused(&File::of(&late), (21, 3), what);
+        let wide = dated(&[bad.clone() + ","]);
+        files.refused(&File::of(&wide), (20, 1), what);
+        let quote = dated(&[bad + "\""]);
+        files.refused(&File::of(&quote), (19, 1), what);
     }
+}
+
+#[test]
+fn a_date_in_its_place_alone() {
+    let mut files = Files::fixed("a date in its place alone");
+    let sound = [PRINTED[0], PRINTED[1], PRINTED[2], PRINTED[4]];
+    for (records, wanted) in [
+        // None, in another place, twice.
+        (&sound[1..], (22, 0)),
+        (&sound[3..], (22, 0)),
+        (&[sound[1], sound[0]], (22, 0)),
+        (&[sound[0]; 2], (22, 1)),
+        (&[sound[0]; 9], (22, 1)),
+        (&[sound[0], sound[1], sound[0], sound[2]], (22, 2)),
+        (&[sound[0], sound[1], sound[3], sound[0]], (22, 3)),
+        (&[sound[0], sound[3], sound[0], sound[1]], (22, 2)),
+        // A first record that is none has its own faults first, and so has a second date.
+        (&["H,L\t", sound[0]], (19, 0)),
+        (&["H,L", sound[0]], (20, 0)),
+        (&["H,,,,,,,", sound[0]], (21, 0)),
+        (&[sound[0], "D,2025-01-01,,,,,,\t"], (19, 1)),
+        (&[sound[0], "D,2025-01-01,,,,,"], (20, 1)),
+        (&[sound[0], "D,2025-1-1,,,,,,"], (21, 1)),
+        (&[sound[0], "D,2025-01-01,,,,,,0"], (21, 1)),
+        // 22 whatever the date is.
+        (&[sound[0], "D,9999-99-99,,,,,,"], (22, 1)),
+        // A record that is out of order comes before faults of later ones.
+        (&[sound[1], "\""], (22, 0)),
+        (&[sound[0], sound[0], "\""], (22, 1)),
+    ] {
+        let what = format_args!("{records:?}");
+        let text = joined(records);
+        files.refused(&File::of(&text), wanted, what);
+        files.refused(&File::of(&text[..text.len() - 2]), wanted, what);
+    }
+    files.refused(&File::of(b""), (22, 0), format_args!("no record"));
 }
 
 #[test]
@@ -301,17 +340,14 @@ fn random_plans() {
         let mut plan = plan(holdings, lines, &[]);
         for _ in 0..random.below(4) {
             let number = random.pick(&OF_A_RECORD);
-            let places = places(number, holdings, lines);
-            if !places.is_empty() {
-                let at = places.start + random.place(places.len());
-                plan.faults.push((number, at));
-            }
+            let at = random.place(1 + holdings + lines);
+            plan.faults.push((number, at));
         }
         plan.short_list = random.below(3) == 0 && holdings + lines > 0;
         if random.below(200) == 0 {
             plan.bytes = 65_535 + random.place(4);
             // What fills the file up is a record of one field.
-            let filled = holdings + lines;
+            let filled = 1 + holdings + lines;
             plan.faults.push((20, filled));
             let (mut file, wanted) = (plan.clone(), plan.first());
             file.faults.pop();

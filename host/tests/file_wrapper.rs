@@ -1,13 +1,17 @@
 //! The wrapper on files: what it reads, what it refuses, and reading and checking in one call.
 
 use margin_calculator::cases::all;
-use margin_calculator::samples::{Random, SHAPES, best_sheet, holdings};
-use margin_calculator::texts::{PRINTED, holding, joined, line, of_width, text_of};
-use margin_calculator::{self as calculator, FIELDS, Position, Rows, Sheet, print};
+use margin_calculator::samples::{Random, SHAPES, best_sheet, book};
+use margin_calculator::texts::{PRINTED, dated, holding, joined, line, of_width, text_of, valued};
+use margin_calculator::{self as calculator, FIELDS, Sheet, print};
 use margin_host::{
-    Accepted, Book, Columns, Currency, Figures, Holding, Issuer, Kind, Line, Proposal, Refusal,
-    Side, check, check_file, read,
+    Accepted, Book, Columns, Currency, Date, Figures, Holding, Issuer, Kind, Line, Proposal,
+    Refusal, Side, check, check_file, read, read_columns,
 };
+
+const VALUED: Date = Date::new(2025, 1, 1).expect("a day");
+const SHORTER: Date = Date::new(2038, 9, 10).expect("a day");
+const LONGER: Date = Date::new(2046, 11, 27).expect("a day");
 
 /// The printed file with another record at one place.
 fn with(at: usize, record: &str) -> Vec<u8> {
@@ -16,18 +20,22 @@ fn with(at: usize, record: &str) -> Vec<u8> {
     joined(&records)
 }
 
-/// What a file holds, as columns.
-fn read_columns(text: &[u8]) -> Result<Sheet, Refusal> {
-    read(text).map(|(book, proposal)| Columns::of(&book, &proposal))
+/// What a file holds, as a sheet.
+fn read_sheet(text: &[u8]) -> Result<Sheet, Refusal> {
+    read_columns(text).map(|(date, columns)| Sheet { date, columns })
 }
 
 #[test]
 fn the_printed_file() {
-    let sheet = read_columns(&joined(&PRINTED)).expect("it is read");
+    let Sheet {
+        date,
+        columns: sheet,
+    } = read_sheet(&joined(&PRINTED)).expect("it is read");
+    assert_eq!(date, 2025_01_01);
     assert_eq!(sheet.side, [0, 1, 1]);
     assert_eq!(sheet.kind, [1, 0, 2]);
     assert_eq!(sheet.issuer, [0, 0, 7]);
-    assert_eq!(sheet.days, [2_000; 3]);
+    assert_eq!(sheet.maturity, [2030_06_24; 3]);
     assert_eq!(sheet.value, [1_000_000, 600_000, 300_000]);
     assert_eq!(sheet.price, [0, 5_840, 6_570]);
     assert_eq!(sheet.currency, [0; 3]);
@@ -50,15 +58,16 @@ fn the_printed_file_by_its_names() {
         side,
         kind,
         issuer,
-        days: 2_000,
+        maturity: Date::new(2030, 6, 24).expect("a day"),
         value,
         currency: Currency::Cad,
     };
-    let book = Book::new([
+    let holdings = [
         holding(Side::Long, Kind::Coupon, Issuer::Canada, 1_000_000),
         holding(Side::Short, Kind::Bond, Issuer::Canada, 600_000),
         holding(Side::Short, Kind::Residual, Issuer::Ontario, 300_000),
-    ]);
+    ];
+    let book = Book::new(VALUED, holdings);
     let line = |short, amount| Line {
         long: 0,
         short,
@@ -76,14 +85,14 @@ fn both_paragraphs_by_their_names() {
         side: Side::Long,
         kind: Kind::Coupon,
         issuer: Issuer::UnitedStates,
-        days: 8_000,
+        maturity: LONGER,
         value: 1_000,
         currency: Currency::Usd,
     };
     let bond = Holding {
         side: Side::Short,
         kind: Kind::Bond,
-        days: 5_000,
+        maturity: SHORTER,
         ..coupon
     };
     let sterling = [coupon, bond].map(|holding| Holding {
@@ -98,19 +107,20 @@ fn both_paragraphs_by_their_names() {
         currency: Currency::Cad,
         ..coupon
     });
-    let book = Book::new([[coupon, bond], sterling, residuals].concat());
+    let book = Book::new(VALUED, [[coupon, bond], sterling, residuals].concat());
     let line = |long| Line {
         long,
         short: long + 1,
         amount: 1_000,
     };
     let proposal = Proposal::new([11_680, 0, 11_680, 0, 43_800, 0], [0, 2, 4].map(line));
-    let text = "H,L,C,US,8000,1000,11680,USD\r\n\
-                H,S,B,US,5000,1000,0,USD\r\n\
-                H,L,C,GB,8000,1000,11680,GBP\r\n\
-                H,S,B,GB,5000,1000,0,GBP\r\n\
-                H,L,R,QC,8000,1000,43800,CAD\r\n\
-                H,S,R,QC,8000,1000,0,CAD\r\n\
+    let text = "D,2025-01-01,,,,,,\r\n\
+                H,L,C,US,2046-11-27,1000,11680,USD\r\n\
+                H,S,B,US,2038-09-10,1000,0,USD\r\n\
+                H,L,C,GB,2046-11-27,1000,11680,GBP\r\n\
+                H,S,B,GB,2038-09-10,1000,0,GBP\r\n\
+                H,L,R,QC,2046-11-27,1000,43800,CAD\r\n\
+                H,S,R,QC,2046-11-27,1000,0,CAD\r\n\
                 P,0,1,1000,,,,\r\n\
                 P,2,3,1000,,,,\r\n\
                 P,4,5,1000,,,,\r\n";
@@ -126,7 +136,7 @@ fn both_paragraphs_by_their_names() {
 
 #[test]
 fn a_currency_that_is_none() {
-    for (at, currency) in [(0, "EUR"), (1, ""), (2, "cad")] {
+    for (at, currency) in [(1, "EUR"), (2, ""), (3, "cad")] {
         let record = at as u64;
         let refusal = Err(Refusal::FieldNotOfItsSort { record });
         let printed = PRINTED[at].replace("CAD", currency);
@@ -135,16 +145,44 @@ fn a_currency_that_is_none() {
 }
 
 #[test]
-fn the_empty_file() {
-    assert_eq!(read(b""), Ok((Book::default(), Proposal::default())));
-    assert_eq!(check_file(b""), Ok(Accepted::default()));
+fn files_without_a_holding() {
+    let refusal = Refusal::RecordOutOfOrder { record: 0 };
+    assert_eq!(read(b""), Err(refusal));
+    assert_eq!(check_file(b""), Err(refusal));
+    let date = joined(&PRINTED[..1]);
+    let book = Book::new(VALUED, []);
+    assert_eq!(read(&date), Ok((book, Proposal::default())));
+    assert_eq!(check_file(&date), Ok(Accepted::default()));
+}
+
+#[test]
+fn dates_that_are_none() {
+    // A book has no room for them: the date first, then the first maturity, whatever else is wrong.
+    let invalid = |holding| Refusal::DateInvalid { holding };
+    let date = with(0, &valued("2025-02-29"));
+    assert_eq!(read(&date), Err(invalid(0)));
+    assert_eq!(check_file(&date), Err(invalid(0)));
+    assert_eq!(read_sheet(&date).map(|sheet| sheet.date), Ok(2025_02_29));
+    let mut records = PRINTED.map(str::to_string);
+    records[1] = holding("L,C,CA,2030-06-24,0,0");
+    for record in &mut records[2..4] {
+        *record = record.replace("06-24", "06-31");
+    }
+    let maturities = joined(&records);
+    assert_eq!(read(&maturities), Err(invalid(1)));
+    assert_eq!(
+        check_file(&maturities),
+        Err(Refusal::ValueOutOfRange { holding: 0 })
+    );
+    let sheet = read_sheet(&maturities).map(|sheet| sheet.columns.maturity);
+    assert_eq!(sheet, Ok(vec![2030_06_24, 2030_06_31, 2030_06_31]));
 }
 
 #[test]
 fn every_refusal_of_a_file() {
     let too_long = vec![b','; 65_537];
     assert_eq!(read(&too_long), Err(Refusal::FileTooLong));
-    for at in 0..5 {
+    for at in 0..PRINTED.len() {
         let record = at as u64;
         let refusal = Err(Refusal::RecordIllFormed { record });
         assert_eq!(read(&with(at, "\"")), refusal);
@@ -153,55 +191,65 @@ fn every_refusal_of_a_file() {
         let refusal = Err(Refusal::FieldNotOfItsSort { record });
         assert_eq!(read(&with(at, &of_width("h", FIELDS))), refusal);
     }
-    let refusal = Err(Refusal::HoldingAfterLine { record: 4 });
-    assert_eq!(read(&with(4, PRINTED[0])), refusal);
-    let holdings = joined(&[PRINTED[0]; 257]);
+    for (at, other) in [(0, 1), (0, 4), (1, 0), (3, 0), (5, 0), (5, 1)] {
+        let record = at as u64;
+        let refusal = Err(Refusal::RecordOutOfOrder { record });
+        assert_eq!(read(&with(at, PRINTED[other])), refusal);
+    }
+    let holdings = dated(&[PRINTED[1]; 257]);
     assert_eq!(read(&holdings), Err(Refusal::TooManyHoldings));
-    let lines = joined(&[PRINTED[3]; 513]);
+    let lines = dated(&[PRINTED[4]; 513]);
     assert_eq!(read(&lines), Err(Refusal::TooManyLines));
 }
 
 #[test]
 fn ranges_are_left_to_the_check() {
-    let long = with(0, &holding("L,C,CA,36501,1000000,0"));
-    assert_eq!(read_columns(&long).map(|sheet| sheet.days[0]), Ok(36_501));
-    let refusal = Err(Refusal::DaysOutOfRange { holding: 0 });
-    assert_eq!(check_file(&long), refusal);
-    let large = with(2, &holding("S,R,ON,2000,999999999999,6570"));
+    let columns = |text: &[u8]| {
+        let (book, proposal) = read(text)?;
+        Ok::<_, Refusal>(Columns::of(&book, &proposal))
+    };
+    let long = with(1, &holding("L,C,CA,2125-01-02,1000000,0"));
     assert_eq!(
-        read_columns(&large).map(|sheet| sheet.value[2]),
+        columns(&long).map(|columns| columns.maturity[0]),
+        Ok(2125_01_02)
+    );
+    let refusal = Err(Refusal::MaturityOutOfRange { holding: 0 });
+    assert_eq!(check_file(&long), refusal);
+    let large = with(3, &holding("S,R,ON,2030-06-24,999999999999,6570"));
+    assert_eq!(
+        columns(&large).map(|columns| columns.value[2]),
         Ok(999_999_999_999)
     );
     let refusal = Err(Refusal::ValueOutOfRange { holding: 2 });
     assert_eq!(check_file(&large), refusal);
-    let far = with(4, &line("0,999999,300000"));
-    assert_eq!(read_columns(&far).map(|sheet| sheet.short[1]), Ok(999_999));
+    let far = with(5, &line("0,999999,300000"));
+    assert_eq!(columns(&far).map(|columns| columns.short[1]), Ok(999_999));
     let refusal = Err(Refusal::NotInBook { line: 1 });
     assert_eq!(check_file(&far), refusal);
 }
 
 /// The lines that the program prints, from the wrapper's answers.
 fn printed(text: &[u8]) -> String {
-    let (sheet, accepted) =
-        match read_columns(text).and_then(|sheet| Ok((sheet, check_file(text)?))) {
-            Ok(both) => both,
-            Err(refusal) => {
-                let (number, place, second) = (refusal.number(), refusal.place(), refusal.second());
-                return format!("X,{number},{place},{second}\r\n");
-            }
-        };
+    let (sheet, accepted) = match read_sheet(text).and_then(|sheet| Ok((sheet, check_file(text)?)))
+    {
+        Ok(both) => both,
+        Err(refusal) => {
+            let (number, place, second) = (refusal.number(), refusal.place(), refusal.second());
+            return format!("X,{number},{place},{second}\r\n");
+        }
+    };
     let Figures { units, cents } = accepted.figures;
     let mut lines = format!("M,{units},{cents}\r\n");
     for number in accepted.ranking {
         let left = accepted.remainder[number as usize];
-        let units = Position::of(&sheet.row(number as usize)).rate * left;
+        let units = sheet.position(number as usize).rate * left;
         lines += &format!("R,{number},{left},{units}\r\n");
     }
     lines
 }
 
 fn printed_alike(text: &[u8], what: &str) {
-    assert_eq!(read_columns(text), calculator::read(text), "{what}");
+    assert_eq!(read_sheet(text), calculator::read(text), "{what}");
     let calculated = String::from_utf8(print(text)).expect("ASCII");
     assert_eq!(printed(text), calculated, "{what}");
 }
@@ -219,14 +267,12 @@ fn random_books_as_the_calculator_prints_them() {
     for shape in &SHAPES {
         for size in [0, 1, 2, 5, 16, 60] {
             for _ in 0..4 {
-                let sheet = best_sheet(&holdings(&mut random, shape, size));
+                let sheet = best_sheet(&book(&mut random, shape, size));
                 let mut text = text_of(&sheet);
                 printed_alike(&text, shape.name);
-                if !text.is_empty() {
-                    let at = random.place(text.len());
-                    text[at] = random.pick(b"0123456789");
-                    printed_alike(&text, shape.name);
-                }
+                let at = random.place(text.len());
+                text[at] = random.pick(b"0123456789");
+                printed_alike(&text, shape.name);
             }
         }
     }

@@ -2,15 +2,11 @@
 
 mod support;
 
-use margin_calculator::samples::{Random, SHAPES, Shape, best_sheet, holdings, split_lines};
-use margin_calculator::{Position, Rows, Sheet, optimise, pair_rate};
+use margin_calculator::samples::{Random, SHAPES, Shape, best_sheet, book, split_lines};
+use margin_calculator::{Sheet, optimise, pair_rate};
 use margin_host::{Line, Refusal};
 use support::Run;
 use support::lent::{Left, Lent};
-
-fn position(sheet: &Sheet, number: usize) -> Position {
-    Position::of(&sheet.row(number))
-}
 
 /// The figures from their definition: remainders, and units of lines and remainders.
 fn figures(sheet: &Sheet) -> (Vec<u64>, u64) {
@@ -18,12 +14,12 @@ fn figures(sheet: &Sheet) -> (Vec<u64>, u64) {
     let mut units = 0;
     for line in 0..sheet.long.len() {
         let (long, short) = (sheet.long[line] as usize, sheet.short[line] as usize);
-        let rate = pair_rate(&position(sheet, long), &position(sheet, short));
+        let rate = pair_rate(&sheet.position(long), &sheet.position(short));
         units += rate.expect("a best line is allowed") * sheet.amount[line];
         left[long] -= sheet.amount[line];
         left[short] -= sheet.amount[line];
     }
-    let alone = (0..left.len()).map(|number| position(sheet, number).rate * left[number]);
+    let alone = (0..left.len()).map(|number| sheet.position(number).rate * left[number]);
     let units = units + alone.sum::<u64>();
     (left, units)
 }
@@ -46,7 +42,7 @@ fn best_is_accepted(run: &mut Run, sheet: &Sheet, shape: &Shape) {
         "{what}\n{sheet:?}"
     );
     let ranking = Left::entries(&left.ranking);
-    let margin = |number: u64| position(sheet, number as usize).rate * remainder[number as usize];
+    let margin = |number: u64| sheet.position(number as usize).rate * remainder[number as usize];
     for two in ranking.windows(2) {
         let (earlier, later) = (margin(two[0]), margin(two[1]));
         assert!(
@@ -73,7 +69,7 @@ fn best_proposals_are_accepted() {
     for shape in &SHAPES {
         for size in [0, 1, 2, 2, 3, 3, 4, 5, 6, 7, 8, 10, 13, 16, 21, 34, 55] {
             for _ in 0..20 {
-                let sheet = best_sheet(&holdings(&mut run.random, shape, size));
+                let sheet = best_sheet(&book(&mut run.random, shape, size));
                 best_is_accepted(&mut run, &sheet, shape);
             }
         }
@@ -85,7 +81,7 @@ fn large_best_proposals_are_accepted() {
     let mut run = Run::new("large best proposals", 0x0102);
     for shape in &SHAPES {
         for size in [64, 128, 200, 255, 256, 256] {
-            let sheet = best_sheet(&holdings(&mut run.random, shape, size));
+            let sheet = best_sheet(&book(&mut run.random, shape, size));
             best_is_accepted(&mut run, &sheet, shape);
         }
     }
@@ -97,7 +93,7 @@ fn split_lines_are_accepted() {
     for shape in &SHAPES {
         for size in [2, 4, 9, 30] {
             for more in [1, 2, 20] {
-                let mut sheet = best_sheet(&holdings(&mut run.random, shape, size));
+                let mut sheet = best_sheet(&book(&mut run.random, shape, size));
                 let units = run.units(&sheet, format_args!("{}", shape.name));
                 let count = sheet.long.len() + more;
                 split_lines(&mut sheet, count);
@@ -112,7 +108,7 @@ fn each_best(run: &mut Run, each: fn(&mut Run, &Sheet)) {
     for shape in &SHAPES {
         for size in [2, 3, 5, 8, 12, 20] {
             for _ in 0..4 {
-                let sheet = best_sheet(&holdings(&mut run.random, shape, size));
+                let sheet = best_sheet(&book(&mut run.random, shape, size));
                 each(run, &sheet);
             }
         }
@@ -209,7 +205,8 @@ fn lines_in_another_order() {
     each_best(&mut run, |run, best| {
         let units = run.units(best, format_args!("as found"));
         let mut sheet = best.clone();
-        for column in [&mut sheet.long, &mut sheet.short, &mut sheet.amount] {
+        let columns = &mut sheet.columns;
+        for column in [&mut columns.long, &mut columns.short, &mut columns.amount] {
             column.reverse();
         }
         run.accepted(&Lent::of(&sheet), units, format_args!("reversed"));
@@ -219,13 +216,20 @@ fn lines_in_another_order() {
 #[test]
 fn a_faulty_book_has_no_best() {
     let one = |change: fn(&mut Sheet)| {
-        let mut sheet = Sheet::of_rows(&holdings(&mut Random::new(0x0108), &SHAPES[0], 9), 0);
+        let mut sheet = book(&mut Random::new(0x0108), &SHAPES[0], 9);
         change(&mut sheet);
         optimise(&sheet).map(|_| ())
     };
     let holding = 4;
     assert_eq!(one(|_| {}), Ok(()));
-    assert_eq!(one(|sheet| sheet.days.push(1)), Err(Refusal::ColumnsDiffer));
+    assert_eq!(
+        one(|sheet| sheet.maturity.push(1)),
+        Err(Refusal::ColumnsDiffer)
+    );
+    assert_eq!(
+        one(|sheet| sheet.date = 2025_02_29),
+        Err(Refusal::DateInvalid { holding: 0 })
+    );
     assert_eq!(
         one(|sheet| sheet.currency.clear()),
         Err(Refusal::ColumnsDiffer)
@@ -243,8 +247,12 @@ fn a_faulty_book_has_no_best() {
         Err(Refusal::IssuerUnknown { holding })
     );
     assert_eq!(
-        one(|sheet| sheet.days[4] = 0),
-        Err(Refusal::DaysOutOfRange { holding })
+        one(|sheet| sheet.maturity[4] = 0),
+        Err(Refusal::DateInvalid { holding })
+    );
+    assert_eq!(
+        one(|sheet| sheet.maturity[4] = sheet.date),
+        Err(Refusal::MaturityOutOfRange { holding })
     );
     assert_eq!(
         one(|sheet| sheet.value[4] = 0),
@@ -254,6 +262,6 @@ fn a_faulty_book_has_no_best() {
         one(|sheet| sheet.currency[4] = 3),
         Err(Refusal::CurrencyUnknown { holding })
     );
-    let many = Sheet::of_rows(&[holdings(&mut Random::new(1), &SHAPES[0], 1)[0]; 257], 0);
+    let many = book(&mut Random::new(1), &SHAPES[0], 257);
     assert_eq!(optimise(&many), Err(Refusal::TooManyHoldings));
 }

@@ -1,23 +1,24 @@
-//! Document 01's worked cases, edges and shortcuts with its figures, and cases next to them.
+//! Document 01's worked cases, edges and shortcuts with its figures, valued on 2025-01-01, and cases next to
+//! them.
 
 mod support;
 
-use margin_calculator::{Position, Rows, Sheet};
+use margin_calculator::{Position, Sheet, VALUED, Valuation};
 use margin_host::Line;
 use support::Run;
 use support::lent::{Left, Lent};
 use support::sheets::{
-    BOND, CA, CAD, COUPON, GB, LONG, ON, QC, RESIDUAL, SHORT, US, holding, one_pair, paper_rate,
-    sheet, two_legs,
+    BOND, CA, CAD, COUPON, GB, LONG, ON, QC, RESIDUAL, SHORT, US, holding, maturities, one_pair,
+    paper_rate, sheet, two_legs,
 };
 
 /// The file that the paper prints.
 fn the_file() -> Sheet {
     sheet(
         &[
-            (holding(LONG, COUPON, CA, 2_000, 1_000_000), 0),
-            (holding(SHORT, BOND, CA, 2_000, 600_000), 5_840),
-            (holding(SHORT, RESIDUAL, ON, 2_000, 300_000), 6_570),
+            (holding(LONG, COUPON, CA, 2030_06_24, 1_000_000), 0),
+            (holding(SHORT, BOND, CA, 2030_06_24, 600_000), 5_840),
+            (holding(SHORT, RESIDUAL, ON, 2030_06_24, 300_000), 6_570),
         ],
         &[(0, 1, 600_000), (0, 2, 300_000)],
     )
@@ -54,21 +55,21 @@ fn the_printed_file() {
 fn rates_at_the_edges() {
     let mut run = Run::fixed("rates at the edges");
     let edges = [
-        (BOND, CA, 365, 1_460),
-        (BOND, CA, 366, 1_460),
-        (BOND, ON, 365, 2_920),
-        (BOND, ON, 366, 4_380),
-        (BOND, CA, 1_095, 1_460),
-        (BOND, CA, 1_096, 2_920),
-        (COUPON, CA, 1, 6),
-        (COUPON, CA, 7_299, 8_760),
-        (COUPON, CA, 7_300, 17_520),
-        (RESIDUAL, ON, 36_500, 21_900),
-        (BOND, CA, 1, 4),
+        (BOND, CA, 2026_01_01, 1_460),
+        (BOND, CA, 2026_01_02, 1_460),
+        (BOND, ON, 2026_01_01, 2_920),
+        (BOND, ON, 2026_01_02, 4_380),
+        (BOND, CA, 2028_01_01, 1_460),
+        (BOND, CA, 2028_01_02, 2_920),
+        (COUPON, CA, 2025_01_02, 6),
+        (COUPON, CA, 2044_12_31, 8_760),
+        (COUPON, CA, 2045_01_01, 17_520),
+        (RESIDUAL, ON, 2125_01_01, 21_900),
+        (BOND, CA, 2025_01_02, 4),
     ];
-    for (kind, issuer, days, rate) in edges {
+    for (kind, issuer, maturity, rate) in edges {
         for side in [LONG, SHORT] {
-            let one = sheet(&[(holding(side, kind, issuer, days, 1), 0)], &[]);
+            let one = sheet(&[(holding(side, kind, issuer, maturity, 1), 0)], &[]);
             run.accepted(&Lent::of(&one), rate, format_args!("{one:?}"));
         }
     }
@@ -76,30 +77,32 @@ fn rates_at_the_edges() {
 
 #[test]
 fn every_rate_of_the_calculator() {
-    for days in 1..=36_500 {
+    let valuation = Valuation::on(VALUED).expect("a date");
+    for maturity in maturities() {
         for kind in [BOND, COUPON, RESIDUAL] {
             for issuer in 0..=12 {
-                let rate = paper_rate(kind, issuer, days);
-                let position = Position::of(&holding(LONG, kind, issuer, days, 1));
-                assert_eq!(position.rate, rate, "{kind}, {issuer}, {days} days");
-                assert_eq!(rate % 2, 0, "a half sum is exact: {days} days");
+                let rate = paper_rate(kind, issuer, maturity);
+                let holding = holding(LONG, kind, issuer, maturity, 1);
+                let position = Position::of(&valuation, &holding);
+                assert_eq!(position.rate, rate, "{kind}, {issuer}, {maturity}");
+                assert_eq!(rate % 2, 0, "a half sum is exact: {maturity}");
             }
         }
     }
 }
 
 #[test]
-fn every_rate_of_every_day() {
-    let mut run = Run::fixed("every rate of every day");
-    for days in 1..=36_500 {
+fn every_rate_of_every_maturity() {
+    let mut run = Run::fixed("every rate of every maturity");
+    for (days, maturity) in (1..).zip(maturities()) {
         for kind in [BOND, COUPON, RESIDUAL] {
             for issuer in [CA, 1 + days % 10, US, GB] {
-                let one = sheet(&[(holding(days % 2, kind, issuer, days, 1), 0)], &[]);
-                let rate = paper_rate(kind, issuer, days);
+                let one = holding(days % 2, kind, issuer, maturity, 1);
+                let rate = paper_rate(kind, issuer, maturity);
                 run.accepted(
-                    &Lent::of(&one),
+                    &Lent::of(&sheet(&[(one, 0)], &[])),
                     rate,
-                    format_args!("{kind}, {issuer}, {days} days"),
+                    format_args!("{kind}, {issuer}, {maturity}"),
                 );
             }
         }
@@ -109,13 +112,14 @@ fn every_rate_of_every_day() {
 #[test]
 fn every_pair_at_the_ends_of_periods() {
     let mut run = Run::fixed("every pair at the ends of periods");
-    let days = [
-        1, 200, 365, 366, 1_095, 1_096, 2_555, 2_556, 4_015, 4_016, 7_299, 7_300, 36_500,
+    let maturities = [
+        2025_01_02, 2025_07_20, 2026_01_01, 2026_01_02, 2028_01_01, 2028_01_02, 2032_01_01,
+        2032_01_02, 2036_01_01, 2036_01_02, 2044_12_31, 2045_01_01, 2125_01_01,
     ];
     let mut legs = Vec::new();
-    for days in days {
+    for maturity in maturities {
         for kind in [BOND, COUPON, RESIDUAL] {
-            legs.extend([CA, 1, ON, 10].map(|issuer| (kind, issuer, days, CAD)));
+            legs.extend([CA, 1, ON, 10].map(|issuer| (kind, issuer, maturity, CAD)));
         }
     }
     for &long in &legs {
@@ -128,7 +132,7 @@ fn every_pair_at_the_ends_of_periods() {
 #[test]
 fn cents_are_rounded_up_once() {
     let mut run = Run::fixed("cents are rounded up once");
-    let bond = |value| (holding(LONG, BOND, CA, 1, value), 0);
+    let bond = |value| (holding(LONG, BOND, CA, 2025_01_02, value), 0);
     for (value, cents) in [(1, 1), (36_500, 1), (36_501, 2), (73_000, 2)] {
         let left = run.compare(
             &Lent::of(&sheet(&[bond(value)], &[])),
@@ -140,13 +144,13 @@ fn cents_are_rounded_up_once() {
     let both = sheet(&[bond(1), bond(1)], &[]);
     let left = run.compare(&Lent::of(&both), format_args!("two bonds"));
     assert_eq!(left.figures(), (8, 1));
-    let pair = |side, days, price| (holding(side, COUPON, CA, days, 1), price);
+    let pair = |side, maturity, price| (holding(side, COUPON, CA, maturity, 1), price);
     let lines = sheet(
         &[
-            pair(LONG, 2, 12),
-            pair(LONG, 2, 12),
-            pair(SHORT, 1, 0),
-            pair(SHORT, 1, 0),
+            pair(LONG, 2025_01_03, 12),
+            pair(LONG, 2025_01_03, 12),
+            pair(SHORT, 2025_01_02, 0),
+            pair(SHORT, 2025_01_02, 0),
         ],
         &[(0, 2, 1), (1, 3, 1)],
     );
@@ -155,16 +159,16 @@ fn cents_are_rounded_up_once() {
 }
 
 #[test]
-fn days_and_values_outside_their_ranges() {
-    let mut run = Run::fixed("days and values outside their ranges");
-    for (days, value, refusal) in [
-        (0, 1, 7),
-        (36_501, 1, 7),
-        (1, 0, 8),
-        (1, 100_000_000_001, 8),
-        (0, 100_000_000_001, 7),
+fn maturities_and_values_outside_their_ranges() {
+    let mut run = Run::fixed("maturities and values outside their ranges");
+    for (maturity, value, refusal) in [
+        (2025_01_01, 1, 7),
+        (2125_01_02, 1, 7),
+        (2025_01_02, 0, 8),
+        (2025_01_02, 100_000_000_001, 8),
+        (2025_01_01, 100_000_000_001, 7),
     ] {
-        let one = sheet(&[(holding(LONG, COUPON, CA, days, value), 0)], &[]);
+        let one = sheet(&[(holding(LONG, COUPON, CA, maturity, value), 0)], &[]);
         run.refused(&Lent::of(&one), (refusal, 0, 0), format_args!("{one:?}"));
     }
 }
@@ -173,25 +177,45 @@ fn days_and_values_outside_their_ranges() {
 fn pairs_at_the_edges() {
     let mut run = Run::fixed("pairs at the edges");
     // Long and short of one cent, the price of the long, and the pair's rate.
-    let leg = |(kind, issuer, days)| (kind, issuer, days, CAD);
+    let leg = |(kind, issuer, maturity)| (kind, issuer, maturity, CAD);
     let pairs = [
-        ((COUPON, CA, 5_000), (COUPON, CA, 8_000), 17_520, 8_760),
-        ((COUPON, ON, 2_000), (RESIDUAL, QC, 2_000), 17_520, 0),
-        ((COUPON, CA, 2_000), (RESIDUAL, ON, 2_000), 6_570, 6_570),
-        ((BOND, ON, 2_000), (COUPON, ON, 2_000), 11_680, 2_920),
+        (
+            (COUPON, CA, 2038_09_10),
+            (COUPON, CA, 2046_11_27),
+            17_520,
+            8_760,
+        ),
+        (
+            (COUPON, ON, 2030_06_24),
+            (RESIDUAL, QC, 2030_06_24),
+            17_520,
+            0,
+        ),
+        (
+            (COUPON, CA, 2030_06_24),
+            (RESIDUAL, ON, 2030_06_24),
+            6_570,
+            6_570,
+        ),
+        (
+            (BOND, ON, 2030_06_24),
+            (COUPON, ON, 2030_06_24),
+            11_680,
+            2_920,
+        ),
     ];
     for (long, short, price, rate) in pairs {
         let what = format_args!("{long:?} with {short:?}");
         run.accepted(&two_legs(leg(long), price, leg(short)), rate, what);
     }
     let refused = [
-        ((COUPON, CA, 4_015), (COUPON, CA, 4_016)),
-        ((BOND, CA, 2_000), (BOND, CA, 2_000)),
-        ((BOND, CA, 2_000), (BOND, ON, 2_000)),
-        ((BOND, ON, 2_000), (BOND, QC, 2_000)),
-        ((COUPON, CA, 365), (COUPON, CA, 366)),
-        ((RESIDUAL, ON, 1_095), (COUPON, QC, 1_096)),
-        ((RESIDUAL, ON, 2_555), (BOND, CA, 2_556)),
+        ((COUPON, CA, 2036_01_01), (COUPON, CA, 2036_01_02)),
+        ((BOND, CA, 2030_06_24), (BOND, CA, 2030_06_24)),
+        ((BOND, CA, 2030_06_24), (BOND, ON, 2030_06_24)),
+        ((BOND, ON, 2030_06_24), (BOND, QC, 2030_06_24)),
+        ((COUPON, CA, 2026_01_01), (COUPON, CA, 2026_01_02)),
+        ((RESIDUAL, ON, 2028_01_01), (COUPON, QC, 2028_01_02)),
+        ((RESIDUAL, ON, 2032_01_01), (BOND, CA, 2032_01_02)),
     ];
     for (long, short) in refused {
         let what = format_args!("{long:?} with {short:?}");
@@ -199,12 +223,12 @@ fn pairs_at_the_edges() {
     }
 }
 
-/// ON, 2,000 days, 1,000 cents each: long coupon and bond, short coupon and bond.
+/// ON, 2030-06-24, 1,000 cents each: long coupon and bond, short coupon and bond.
 fn eighty_or_forty(prices: [u64; 4], lines: &[(u64, u64, u64)]) -> Sheet {
     let legs = [(LONG, COUPON), (LONG, BOND), (SHORT, COUPON), (SHORT, BOND)];
     let mut holdings = Vec::new();
     for ((side, kind), price) in legs.into_iter().zip(prices) {
-        holdings.push((holding(side, kind, ON, 2_000, 1_000), price));
+        holdings.push((holding(side, kind, ON, 2030_06_24, 1_000), price));
     }
     sheet(&holdings, lines)
 }
@@ -246,9 +270,9 @@ fn cover_is_asked_of_pairs_in_no_line() {
     let legs = |price| {
         sheet(
             &[
-                (holding(LONG, COUPON, CA, 100, 1_000), 0),
-                (holding(LONG, COUPON, CA, 200, 1_000), 0),
-                (holding(SHORT, COUPON, CA, 200, 1_000), price),
+                (holding(LONG, COUPON, CA, 2025_04_11, 1_000), 0),
+                (holding(LONG, COUPON, CA, 2025_07_20, 1_000), 0),
+                (holding(SHORT, COUPON, CA, 2025_07_20, 1_000), price),
             ],
             &[],
         )
@@ -275,15 +299,15 @@ fn cover_is_asked_of_pairs_in_no_line() {
 
 #[test]
 fn cover_is_not_asked_across_a_period_end() {
-    // The rates are equal on both sides of 4,015 days, so only the period tells the two alike apart.
+    // The rates are equal on both sides of 11 years, so only the period tells the two alike apart.
     let mut run = Run::fixed("an uncovered pair after an equal rate");
-    let coupon = |side, days| (holding(side, COUPON, CA, days, 1_000), 0);
+    let coupon = |side, maturity| (holding(side, COUPON, CA, maturity, 1_000), 0);
     for (single, alike) in [(SHORT, LONG), (LONG, SHORT)] {
-        for (days, partner) in [(4_015, 0), (4_016, 1)] {
+        for (maturity, partner) in [(2036_01_01, 0), (2036_01_02, 1)] {
             let three = [
-                coupon(alike, 4_015),
-                coupon(alike, 4_016),
-                coupon(single, days),
+                coupon(alike, 2036_01_01),
+                coupon(alike, 2036_01_02),
+                coupon(single, maturity),
             ];
             let (long, short) = if alike == LONG {
                 (partner, 2)
@@ -293,7 +317,7 @@ fn cover_is_not_asked_across_a_period_end() {
             run.refused(
                 &Lent::of(&sheet(&three, &[])),
                 (16, long, short),
-                format_args!("side {single} alone, {days} days"),
+                format_args!("side {single} alone, {maturity}"),
             );
         }
     }
@@ -318,7 +342,7 @@ const THREE_PRICES: [([u64; 3], Option<u64>); 11] = [
 fn of_three_alike_the_first_uncovered() {
     // A pair saves 17,520 and the fourth holding is priced 17,500, so each of the three needs 20.
     let mut run = Run::fixed("three alike");
-    let coupon = |side, price| (holding(side, COUPON, CA, 5_000, 1_000), price);
+    let coupon = |side, price| (holding(side, COUPON, CA, 2038_09_10, 1_000), price);
     for (prices, first) in THREE_PRICES {
         let longs = prices.map(|price| coupon(LONG, price));
         let shorts = prices.map(|price| coupon(SHORT, price));
@@ -338,7 +362,7 @@ fn of_three_alike_the_first_uncovered() {
 #[test]
 fn empty_book() {
     let mut run = Run::fixed("the empty book");
-    run.accepted(&Lent::of(&Sheet::default()), 0, format_args!("no line"));
+    run.accepted(&Lent::of(&sheet(&[], &[])), 0, format_args!("no line"));
     run.refused(
         &Lent::of(&sheet(&[], &[(0, 0, 1)])),
         (11, 0, 0),
@@ -349,7 +373,7 @@ fn empty_book() {
 #[test]
 fn two_holdings_alike_are_two_holdings() {
     let mut run = Run::fixed("two holdings alike");
-    let coupon = |side, price| (holding(side, COUPON, QC, 3_650, 700), price);
+    let coupon = |side, price| (holding(side, COUPON, QC, 2035_01_01, 700), price);
     let four = [
         coupon(LONG, 21_900),
         coupon(SHORT, 0),

@@ -2,13 +2,13 @@
 
 mod support;
 
-use margin_calculator::Sheet;
-use margin_calculator::samples::{Random, SHAPES, best_sheet, holdings};
+use margin_calculator::samples::{Random, SHAPES, best_sheet, book};
+use margin_calculator::{Sheet, VALUED};
 use support::lent::{Lent, NAMES, OF_HOLDINGS};
 use support::{Run, column};
 
 /// Numbers at which something changes in the paper, and a few far away.
-const PROBES: [u64; 32] = [
+const PROBES: [u64; 36] = [
     0,
     1,
     2,
@@ -21,18 +21,22 @@ const PROBES: [u64; 32] = [
     255,
     256,
     257,
-    365,
-    366,
-    1_095,
-    1_096,
-    2_555,
-    2_556,
-    4_015,
-    4_016,
-    7_299,
-    7_300,
-    36_500,
-    36_501,
+    1899_12_31,
+    1900_01_01,
+    1900_02_29,
+    2000_02_29,
+    2024_02_29,
+    2025_01_01,
+    2025_02_29,
+    2026_01_01,
+    2026_01_02,
+    2028_01_01,
+    2036_01_01,
+    2036_01_02,
+    2045_01_01,
+    2125_01_01,
+    2299_12_31,
+    2300_01_01,
     43_800,
     43_801,
     100_000_000_000,
@@ -44,6 +48,14 @@ const PROBES: [u64; 32] = [
 ];
 
 fn change(random: &mut Random, sheet: &mut Sheet) {
+    if random.below(20) == 0 {
+        sheet.date = match random.below(3) {
+            0 => random.pick(&PROBES),
+            1 => sheet.date.wrapping_add(1),
+            _ => sheet.date.wrapping_sub(1),
+        };
+        return;
+    }
     let column = column(sheet, random.place(NAMES.len()));
     if column.is_empty() {
         return;
@@ -62,11 +74,11 @@ fn change(random: &mut Random, sheet: &mut Sheet) {
 #[test]
 fn best_proposals_with_random_changes() {
     let mut run = Run::new("random changes", 0x0701);
-    let mut seen = [0; 24];
+    let mut seen = [0; 25];
     for round in 0..2_000 {
         let shape = run.random.pick(&SHAPES);
         let size = 1 + run.random.place(if round % 20 == 0 { 120 } else { 16 });
-        let best = best_sheet(&holdings(&mut run.random, &shape, size));
+        let best = best_sheet(&book(&mut run.random, &shape, size));
         for changes in [1, 1, 1, 2, 2, 3, 5] {
             let mut sheet = best.clone();
             for _ in 0..changes {
@@ -77,7 +89,7 @@ fn best_proposals_with_random_changes() {
             seen[left.number as usize] += 1;
         }
     }
-    for number in (4..=17).filter(|number| *number != 9).chain([0, 23]) {
+    for number in (4..=17).filter(|number| *number != 9).chain([0, 23, 24]) {
         assert!(seen[number] > 0, "no book with {number} among {seen:?}");
     }
 }
@@ -86,15 +98,19 @@ fn best_proposals_with_random_changes() {
 fn random_lengths_and_numbers() {
     let mut run = Run::new("random lengths and numbers", 0x0702);
     for _ in 0..3_000 {
-        let mut lent = Lent::of(&Sheet::default());
+        let mut lent = Lent::of(&Sheet::empty(VALUED));
         let lengths = [run.random.place(7), run.random.place(5)].map(|count| 8 * count);
         let uneven = run.random.below(4) == 0;
         for (at, column) in lent.columns.iter_mut().enumerate() {
             let more = if uneven { run.random.place(10) } else { 0 };
             let length = lengths[usize::from(at >= OF_HOLDINGS)] + more;
-            let most = [2, 3, 13, 36_501, 1_000, 20_000, 3, 6, 6, 1_000][at];
+            let most = [2, 3, 13, 2126_01_01, 1_000, 20_000, 3, 6, 6, 1_000][at];
             while column.len() < length {
-                column.extend(run.random.below(most).to_le_bytes());
+                let number = match run.random.below(8) {
+                    1.. if NAMES[at] == "maturity" => run.random.pick(&[2026_01_01, 2030_06_24]),
+                    _ => run.random.below(most),
+                };
+                column.extend(number.to_le_bytes());
             }
             column.truncate(length);
         }
@@ -108,7 +124,7 @@ fn random_lengths_and_numbers() {
 fn random_bytes() {
     let mut run = Run::new("random bytes", 0x0703);
     for _ in 0..1_000 {
-        let mut lent = Lent::of(&Sheet::default());
+        let mut lent = Lent::of(&Sheet::empty(VALUED));
         let lengths = [8 * run.random.place(4), 8 * run.random.place(4)];
         for (at, column) in lent.columns.iter_mut().enumerate() {
             let length = lengths[usize::from(at >= OF_HOLDINGS)];

@@ -3,7 +3,7 @@
 mod support;
 
 use support::Run;
-use support::faults::{Fault, HOLDINGS, NUMBERS, PAIRS, plant, sound};
+use support::faults::{Fault, HOLDINGS, NUMBERS, PAIRS, VALUATION, plant, sound};
 use support::lent::Lent;
 
 /// The first, a middle and the last place.
@@ -95,13 +95,13 @@ fn of_two_faults_the_earlier_in_the_papers_order_wins() {
             }
         }
     }
-    assert_eq!(pairs, 18 * 17 / 2);
+    assert_eq!(pairs, 20 * 19 / 2);
 }
 
 #[test]
 fn of_one_refusal_at_two_places_the_earlier_place_wins() {
     let mut run = Run::fixed("one refusal at two places");
-    for number in (4..=8).chain(10..=16).chain([23]) {
+    for number in (4..=8).chain(10..=16).chain([23, 24]) {
         for later in 1..Fault::places(number) {
             for earlier in 0..later {
                 let faults = [later, earlier].map(|place| Fault::at(number, place, PAIRS));
@@ -163,6 +163,15 @@ fn the_order_is_the_papers() {
         ([(23, 2), (4, 3)], 0),
         ([(2, 0), (23, 0)], 0),
         ([(23, HOLDINGS - 1), (11, 0)], 0),
+        ([(6, 2), (24, 2)], 0),
+        ([(7, 2), (24, 2)], 1),
+        ([(8, 2), (24, 2)], 1),
+        ([(24, 2), (4, 3)], 0),
+        ([(10, 1), (24, 2)], 0),
+        ([(24, HOLDINGS - 1), (11, 0)], 0),
+        ([(2, 0), (VALUATION, 0)], 0),
+        ([(4, 0), (VALUATION, 0)], 1),
+        ([(24, 3), (VALUATION, 0)], 1),
         ([(10, HOLDINGS - 1), (11, 0)], 0),
         ([(15, 1), (11, 2)], 0),
         ([(12, 2), (11, 2)], 1),

@@ -2,8 +2,8 @@
 
 mod support;
 
-use margin_calculator::samples::{Random, SHAPES, best_sheet, holdings};
-use margin_calculator::{Rows, Sheet};
+use margin_calculator::Sheet;
+use margin_calculator::samples::{Random, SHAPES, best_sheet, book};
 use margin_host::{Figures, Refusal, check_columns};
 use support::Run;
 use support::faults::{HOLDINGS, LONE_LONG, PAIRS, sound};
@@ -12,7 +12,12 @@ use support::lent::{Left, Lent};
 /// What the wrapper says to a sheet, with lists of the right length.
 fn answer(sheet: &Sheet) -> Result<Figures, Refusal> {
     let count = sheet.side.len();
-    check_columns(sheet, &mut vec![0; count], &mut vec![0; count])
+    check_columns(
+        sheet.date,
+        &sheet.columns,
+        &mut vec![0; count],
+        &mut vec![0; count],
+    )
 }
 
 /// The sound sheet with one change.
@@ -26,7 +31,7 @@ fn with(change: impl FnOnce(&mut Sheet)) -> Result<Figures, Refusal> {
 fn accepted_with_lists() {
     let sheet = sound();
     let (mut remainder, mut ranking) = ([7; 16], [8; 16]);
-    let figures = check_columns(&sheet, &mut remainder, &mut ranking);
+    let figures = check_columns(sheet.date, &sheet.columns, &mut remainder, &mut ranking);
     assert_eq!(
         figures,
         Ok(Figures {
@@ -49,7 +54,7 @@ fn a_refusal_keeps_the_lists() {
     let mut sheet = sound();
     sheet.price[LONE_LONG as usize] = 1;
     let (mut remainder, mut ranking) = ([7; 15], [8; 15]);
-    let refusal = check_columns(&sheet, &mut remainder, &mut ranking);
+    let refusal = check_columns(sheet.date, &sheet.columns, &mut remainder, &mut ranking);
     assert_eq!(refusal, Err(Refusal::TotalsDiffer));
     assert_eq!((remainder, ranking), ([7; 15], [8; 15]));
 }
@@ -59,7 +64,7 @@ fn every_refusal_of_a_length() {
     let differ = Err(Refusal::ColumnsDiffer);
     assert_eq!(with(|sheet| sheet.kind.push(0)), differ);
     assert_eq!(with(|sheet| sheet.issuer.push(0)), differ);
-    assert_eq!(with(|sheet| sheet.days.truncate(3)), differ);
+    assert_eq!(with(|sheet| sheet.maturity.truncate(3)), differ);
     assert_eq!(with(|sheet| sheet.value.clear()), differ);
     assert_eq!(with(|sheet| sheet.price.truncate(13)), differ);
     assert_eq!(with(|sheet| sheet.currency.push(0)), differ);
@@ -69,14 +74,14 @@ fn every_refusal_of_a_length() {
     let sheet = sound();
     for (remainder, ranking) in [(13, 14), (14, 13), (0, 14), (14, 0)] {
         let (mut remainder, mut ranking) = (vec![1; remainder], vec![2; ranking]);
-        let short = check_columns(&sheet, &mut remainder, &mut ranking);
+        let short = check_columns(sheet.date, &sheet.columns, &mut remainder, &mut ranking);
         assert_eq!(short, Err(Refusal::ListTooShort));
     }
-    let holding = holdings(&mut Random::new(0x0600), &SHAPES[0], 1)[0];
-    let book = Sheet::of_rows(&vec![holding; 257], 0);
-    assert_eq!(answer(&book), Err(Refusal::TooManyHoldings));
+    let many = book(&mut Random::new(0x0600), &SHAPES[0], 257);
+    assert_eq!(answer(&many), Err(Refusal::TooManyHoldings));
     let lines = with(|sheet| {
-        for column in [&mut sheet.long, &mut sheet.short, &mut sheet.amount] {
+        let columns = &mut sheet.columns;
+        for column in [&mut columns.long, &mut columns.short, &mut columns.amount] {
             column.resize(513, 0);
         }
     });
@@ -93,8 +98,10 @@ fn every_refusal_of_a_holding() {
         assert_eq!(with(|sheet| sheet.kind[at] = 3), refusal);
         let refusal = Err(Refusal::IssuerUnknown { holding });
         assert_eq!(with(|sheet| sheet.issuer[at] = 13), refusal);
-        let refusal = Err(Refusal::DaysOutOfRange { holding });
-        assert_eq!(with(|sheet| sheet.days[at] = 36_501), refusal);
+        let refusal = Err(Refusal::DateInvalid { holding });
+        assert_eq!(with(|sheet| sheet.maturity[at] = 2030_06_31), refusal);
+        let refusal = Err(Refusal::MaturityOutOfRange { holding });
+        assert_eq!(with(|sheet| sheet.maturity[at] = 2125_01_02), refusal);
         let refusal = Err(Refusal::ValueOutOfRange { holding });
         assert_eq!(with(|sheet| sheet.value[at] = 0), refusal);
         let refusal = Err(Refusal::CurrencyUnknown { holding });
@@ -102,6 +109,12 @@ fn every_refusal_of_a_holding() {
         let refusal = Err(Refusal::PriceTooHigh { holding });
         assert_eq!(with(|sheet| sheet.price[at] = 43_801), refusal);
     }
+}
+
+#[test]
+fn the_refusal_of_the_valuation_date() {
+    let refusal = Err(Refusal::DateInvalid { holding: 0 });
+    assert_eq!(with(|sheet| sheet.date = 2025_02_29), refusal);
 }
 
 #[test]
@@ -139,13 +152,13 @@ fn the_wrapper_is_the_raw_call() {
     let mut run = Run::new("the wrapper is the raw call", 0x0601);
     for shape in &SHAPES {
         for size in [0, 1, 2, 7, 40] {
-            let mut sheet = best_sheet(&holdings(&mut run.random, shape, size));
+            let mut sheet = best_sheet(&book(&mut run.random, shape, size));
             if size > 0 && run.random.below(2) == 0 {
                 sheet.price[run.random.place(size)] ^= 1;
             }
             let left = run.compare(&Lent::of(&sheet), format_args!("{}", shape.name));
             let (mut remainder, mut ranking) = (vec![0; size], vec![0; size]);
-            let answer = check_columns(&sheet, &mut remainder, &mut ranking);
+            let answer = check_columns(sheet.date, &sheet.columns, &mut remainder, &mut ranking);
             match answer {
                 Ok(figures) => {
                     assert_eq!((0, figures.units, figures.cents), parts(&left), "{sheet:?}");
@@ -171,8 +184,8 @@ fn parts_and_back() {
     for number in 0..=40 {
         for place in [0, 1, 255, u64::MAX] {
             for second in [0, 1, 255, u64::MAX] {
-                let has_place = matches!(number, 4..=8 | 10..=16 | 19..=23);
-                let known = (1..=23).contains(&number)
+                let has_place = matches!(number, 4..=8 | 10..=16 | 19..=24);
+                let known = (1..=24).contains(&number)
                     && (has_place || place == 0)
                     && (number == 16 || second == 0);
                 let refusal = Refusal::from_parts(number, place, second);
@@ -188,7 +201,7 @@ fn parts_and_back() {
 }
 
 /// Number, place and second place, and what it says.
-const SENTENCES: [((u64, u64, u64), &str); 23] = [
+const SENTENCES: [((u64, u64, u64), &str); 25] = [
     (
         (1, 0, 0),
         "the columns of the holdings, price and currency among them, must all have the same \
@@ -198,7 +211,7 @@ const SENTENCES: [((u64, u64, u64), &str); 23] = [
         (2, 0, 0),
         "a list lent for the results is too short: remainder, ranking and the columns of \
          the holdings need one entry for each holding, the columns of the lines one for \
-         each line, the answer 16 bytes",
+         each line, the head one entry, the answer 16 bytes",
     ),
     ((3, 0, 0), "the book has more than 256 holdings"),
     (
@@ -218,7 +231,8 @@ const SENTENCES: [((u64, u64, u64), &str); 23] = [
     ),
     (
         (7, 255, 0),
-        "holding 255, counting from 0, has days to maturity outside 1 to 36,500",
+        "holding 255, counting from 0, has a maturity on or before the valuation date, or \
+         past its 100th anniversary",
     ),
     (
         (8, 3, 0),
@@ -277,18 +291,27 @@ const SENTENCES: [((u64, u64, u64), &str); 23] = [
     ),
     (
         (21, 767, 0),
-        "record 767, counting from 0, begins with neither H nor P, has a field that is no \
-         value of its sort, or fills one that must be empty",
+        "record 767, counting from 0, begins with none of D, H and P, has a field that is \
+         no value of its sort, or fills one that must be empty",
     ),
     (
         (22, 2, 0),
-        "record 2, counting from 0, is a holding after a pair line, and all holdings must \
-         come before all lines",
+        "record 2, counting from 0, is missing or out of its order: one D with the \
+         valuation date comes first, then all holdings, then all pair lines",
     ),
     (
         (23, 9, 0),
         "holding 9, counting from 0, has an unknown currency: it must be 0 for CAD, 1 for \
          USD or 2 for GBP",
+    ),
+    (
+        (24, 0, 0),
+        "the valuation date, or the maturity of holding 0, counting from 0, is no day of \
+         the years 1900 to 2299",
+    ),
+    (
+        (24, 9, 0),
+        "the maturity of holding 9, counting from 0, is no day of the years 1900 to 2299",
     ),
 ];
 
@@ -303,8 +326,8 @@ fn every_refusal_in_words() {
 
 #[test]
 fn the_words_fit_after_a_colon() {
-    for number in 1..=23 {
-        let has_place = matches!(number, 4..=8 | 10..=16 | 19..=23);
+    for number in 1..=24 {
+        let has_place = matches!(number, 4..=8 | 10..=16 | 19..=24);
         let (place, second) = (
             if has_place { 4_711 } else { 0 },
             if number == 16 { 815 } else { 0 },

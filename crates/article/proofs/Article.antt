@@ -6,7 +6,7 @@ use Prim.Native.Nat.{ℕ, _+_, min, max}
 use native.Mathlib.Omega.{arith}
 use Rattle.lists.specs.Choice.{within}
 use Rattle.lists.proofs.Tests.{either-way}
-use Rattle.holding.proofs.Heads.{valued-head, unvalued-head}
+use Rattle.holding.proofs.Heads.{head-kept}
 use Rattle.holding.proofs.Ranges.{fault-none, none-fault, row-refused, row-kept, holding-kept, side-back}
 use Rattle.holding.proofs.Numbers.{numbers}
 use Rattle.rates.proofs.RateTable.{rate-table}
@@ -17,7 +17,7 @@ use Rattle.article.proofs.Legs.{allowed-meets, meets-allowed, Permitted
 use Rattle.article.proofs.Paragraphs.{by-paragraph, abroad, class-one, class-two}
 use Rattle.article.specs.Article.{MayPair, OneClass, both-canada, both-provincial, TwoClasses, canada-long, canada-short, SameForeign, both-usd, both-gbp}
 use Rattle.article.specs.Article.{SameGovernment, of-canada, of-us, of-gb, Pairing, Unpaired, UnknownIssuer, StayUnpaired, Article}
-use Rattle.holding.specs.Holding.{accountOf, InRange, sideNumber, sideOf, noIssuer, issuerNumber, rowOf}
+use Rattle.holding.specs.Holding.{InRange, sideNumber, sideOf, noIssuer, issuerNumber, rowOf}
 use Rattle.rates.specs.Rate.{rateOf}
 use Rattle.article.specs.Pair.{legOf, isCanada, isProvince, isUs, isGb, sameClass, mixedClass, sameGovernment, ruleOf, ruleRate, permits, allowed, pairRateOf}
 use Rattle.holding.specs.declared.Issuer.{Issuer}
@@ -181,7 +181,7 @@ module _ (h : Holding) where
 
 pub article : Article
 article = record {
-  each-head = λ h. record { no-fault = valued-head h; unreal = unvalued-head h; kept = unfold accountOf in refl };
+  each-head = head-kept;
   each-row = λ a r. record { no-fault = (fault-none a r, none-fault a r); kept = row-kept a r };
   refusals = row-refused;
   records = holding-kept;

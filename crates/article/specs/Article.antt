@@ -1,26 +1,19 @@
 -- THE PAGE OF HOLDINGS, RATES AND PAIRS: what document 01 and document 02 a) and b) say of them, in their own words; proofs/Article.antt proves it. What a date, an
 -- anniversary and the days between are, is on the page Dates. Assumes nothing.
 use mathlib.Core.{Path._≡_, Bool.true, Bool.false, Logic._↔_, Logic._⊎_}
-use Prim.Native.Nat.{ℕ, _*_, _≤_, _<_, _+_, min, max}
+use Prim.Native.Nat.{ℕ, _*_, _≤_, _+_, min, max}
 use Rattle.article.specs.Pair.{legOf, allowed, pairRateOf, savingRateOf}
 use Rattle.rates.specs.{Rate.rateOf, Rate.periodOf, RateTable.Periods, RateTable.RateTable}
 use Rattle.holding.specs.declared.{Head.Head, Account.Account, Side.the-variants.Long, Side.the-variants.Short, Kind.Kind, Kind.the-variants.Bond, Holding.Holding, Row.Row}
 use Rattle.holding.specs.declared.Issuer.{Issuer, the-variants.Canada, the-variants.Province, the-variants.UnitedStates, the-variants.UnitedKingdom}
 use Rattle.holding.specs.declared.Currency.{Currency, the-variants.Cad, the-variants.Usd, the-variants.Gbp}
 use Rattle.lists.specs.Choice.{within}
-use Rattle.dates.specs.Calendar.{isDate}
-use Rattle.holding.specs.Holding.{headFault, accountOf, Ranges, InRange, faultOf, RowRefused, rowOf, holdingOf, Numbers}
+use Rattle.holding.specs.Holding.{HeadKept, Ranges, InRange, faultOf, RowRefused, rowOf, holdingOf, Numbers}
 
 -- a row is refused exactly when a number is outside its range; any other makes a record that keeps its numbers
 pub record RowKept (a : Account) (r : Row) : Type 0 where
   pub no-fault : (faultOf a r ≡ 0) ↔ Ranges a r
   pub kept : Ranges a r → rowOf (holdingOf r) ≡ r
-
--- a head is refused, with 24, exactly when its valuation date is unreal or outside the years; it is the account's
-pub record HeadKept (h : Head) : Type 0 where
-  pub no-fault : isDate (h .date) ≡ true → headFault h ≡ 0
-  pub unreal : isDate (h .date) ≡ false → headFault h ≡ 24
-  pub kept : accountOf h .date ≡ h .date
 
 -- both Canada or both provincial: any two provinces count as one class
 pub data OneClass : Issuer → Issuer → Type 0 where

@@ -1,5 +1,5 @@
 -- A head has no fault exactly when its valuation date is one. Assumes nothing.
-use mathlib.Core.Path.{_≡_, sym, _∙_}
+use mathlib.Core.Path.{_≡_, refl, sym, _∙_}
 use mathlib.Core.Bool.{true, false}
 use Prim.Native.Nat.{ℕ, _<_}
 use native.Mathlib.Omega.{arith}
@@ -8,7 +8,7 @@ use Rattle.lists.proofs.Tests.{either-way, same-or-not}
 use borrow.Author.Tests.{eq-eqb, ne-eqb}
 use Rattle.dates.specs.Calendar.{isDate}
 use Rattle.dates.proofs.Tested.{date-high}
-use Rattle.holding.specs.Holding.{headFaults, headFault, accountOf, headedOf}
+use Rattle.holding.specs.Holding.{headFaults, headFault, accountOf, headedOf, HeadKept}
 use Rattle.holding.specs.declared.Head.{Head}
 use Rattle.holding.specs.declared.Account.{Account}
 use Rattle.holding.specs.declared.Headed.the-variants.{For, NoAccount}
@@ -24,6 +24,10 @@ module _ (h : Head) where
 
   pub head-valued : headFault h ≡ 0 → isDate (h .date) ≡ true
   head-valued e = either-way (isDate (h .date)) (λ t. t) (λ f. let never : 24 ≡ 0 = sym (unvalued-head f) ∙ e in absurd (omega arith))
+
+  pub head-kept : HeadKept h
+  unfolding accountOf
+  head-kept = record { no-fault = valued-head; unreal = unvalued-head; kept = refl }
 
   -- its date is small
   pub head-fits : headFault h ≡ 0 → h .date < 4294967296

@@ -1,4 +1,4 @@
--- Document 01, "A holding", document 02 a), its currency, and b), its maturity and the valuation date: the ranges of raw numbers, and the record that numbers within them make. Assumes nothing.
+-- Document 01, "A holding", document 02 a), its currency, and b), dates: the ranges of raw numbers, and the records that numbers within them make. Assumes nothing.
 use mathlib.Core.{Path._≡_, Bool.Bool, Bool.cond, Bool.not, Bool._||_, Bool.true, Bool.false, List.List, List.[], List._∷_, List._++_, Logic._⊎_}
 use Prim.Native.Nat.{ℕ, _≤_, _<_}
 use lib.{Dec.eqb, Dec.ltb, Dec.leb, ListN.getD}
@@ -63,8 +63,8 @@ pub record Ranges (a : Account) (r : Row) : Type 0 where
   pub value-high : r .value ≤ 100000000000
   pub currency : r .currency ≤ 2
 
--- the refusals of a row, each with its test: of what it is 4 side, 5 kind, 6 issuer outside its range; of its term 24 a maturity that is unreal or outside the years, 7 matured or
--- past the 100th anniversary; of its worth 8 value, of its money 23 currency outside its range
+-- the refusals of a row, each with its test: of what it is 4 side, 5 kind, 6 issuer outside its range; of its term 24 a maturity that is unreal or outside
+-- the years, 7 one that is out of its term; of its worth 8 value, of its money 23 currency outside its range
 unfoldable pub identityFaults : Row → List (Bool × ℕ)
 identityFaults r =
     (not (within 0 1 (r .side)), 4)
@@ -170,6 +170,12 @@ builtOf a r = cond (eqb (faultOf a r) 0) (Made (holdingOf r)) (Refused (faultOf 
 pub record Builds (a : Account) (row : Row) (r : Built) : Type 0 where
   pub number : numberOf r ≡ faultOf a row
   pub built : r ≡ builtOf a row
+
+-- a head is refused, with 24, exactly when its valuation date is unreal or outside the years; else it is the account's
+pub record HeadKept (h : Head) : Type 0 where
+  pub no-fault : isDate (h .date) ≡ true → headFault h ≡ 0
+  pub unreal : isDate (h .date) ≡ false → headFault h ≡ 24
+  pub kept : accountOf h .date ≡ h .date
 
 -- the refusal that a row has: of the first of side, kind, issuer, maturity, value and currency that is outside its range
 pub record RowRefused (a : Account) (r : Row) : Type 0 where

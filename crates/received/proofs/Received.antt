@@ -11,10 +11,13 @@ use borrow.Author.Tests.{ne-eqb}
 use Rattle.lists.specs.Tables.{Each, listTo, front}
 use Rattle.lists.proofs.Tables.{to-back}
 use Rattle.lists.proofs.Entries.{each-so, each-parts, each-back}
+use Rattle.holding.specs.Holding.{headNumbers}
+use Rattle.holding.specs.declared.Head.{Head}
 use Rattle.article.specs.Answer.{Answer, makeAnswer}
 use Rattle.proposal.specs.Submission.{Submission, noRow, noLine}
 use Rattle.proposal.proofs.Clear.{number}
-use Rattle.words.specs.Words.{wordAt, encode}
+use Rattle.words.specs.Words.{wordAt, withWord, encode}
+use Rattle.words.proofs.Encoded.{word-more}
 use Rattle.columns.specs.Columns.{Columns, makeColumns, holdingSizes, lineSizes, listsOf, column, filledFrom, filled, copied, CopyRoom, RowAt, LineAt}
 use Rattle.columns.proofs.Tables.{entered-copied, byTables, filled-values}
 use Rattle.columns.proofs.ReadBack.{price-read, rows-read, lines-read}
@@ -26,20 +29,29 @@ use Rattle.reader.specs.declared.Contents.{Contents}
 use Rattle.reader.specs.declared.Contents.the-variants.{Read, Refused}
 use Rattle.readable.specs.Readable.{Submits}
 use Rattle.readable.proofs.Answered.{answer-refused, answer-none, answer-exactly, refusal-known, was-read, no-fault}
-use Rattle.readable.proofs.Answered.{holdings-counted, lines-counted, holdings-held, lines-held, few-holdings, few-lines}
+use Rattle.readable.proofs.Answered.{head-read, holdings-counted, lines-counted, holdings-held, lines-held, few-holdings, few-lines}
 use Rattle.readable.proofs.Exactly.{read-exactly}
 use Rattle.readable.proofs.Fitting.{file-fits}
-use Rattle.received.specs.Reading.{nothing, readingAnswer, filling, Reads}
+use Rattle.received.specs.Reading.{heldLists, readingAnswer, nothing, filling, heading, Reads}
 
--- nothing goes into the columns
+-- nothing goes into a list, or into the columns
+none-column : (old : List ℕ) → old ≡ column [] old
+unfolding column front encode
+none-column old = refl
+
 none-from : (j : ℕ) (columns : List (List ℕ)) → columns ≡ filledFrom j [] columns
-unfolding filledFrom column front encode
+unfolding filledFrom
 none-from j [] = refl
-none-from j (old ∷ olds) = ap (old ∷_) (none-from (suc j) olds)
+none-from j (old ∷ olds) = λ i. none-column old i ∷ none-from (suc j) olds i
 
 none-filled : (c : Columns) → c ≡ filled nothing c
-unfolding filled column front encode
-none-filled c = λ i. makeColumns (none-from 0 (c .holdings) i) (c .price) (none-from 0 (c .lines) i)
+unfolding filled
+none-filled c = λ i. makeColumns (none-from 0 (c .holdings) i) (none-column (c .price) i) (none-from 0 (c .lines) i)
+
+-- one number goes into the first entry of a list
+first-column : (v : ℕ) (old : List ℕ) → withWord old 0 v ≡ column (v ∷ []) old
+unfolding column front encode
+first-column v old = word-more [] old v
 
 -- a list that is to hold n numbers, with its length, and one that does
 abbrev Holds : ℕ × ℕ → Type 0
@@ -55,14 +67,14 @@ module _ (P : List ℕ → Type 0) (table lined : List (List ℕ)) (seven : leng
   in-order : Each P (byTables table lined .holdings ++ (byTables table lined .price ∷ [])) → Each P table
   unfolding listTo
   in-order =
-      rw (← to-back 7 table [] seven) (λ (side, (kind, (issuer, (days, (value, (currency, (price, _))))))).
-      (side, (kind, (issuer, (days, (value, (price, (currency, tt))))))))
+      rw (← to-back 7 table [] seven) (λ (side, (kind, (issuer, (maturity, (value, (currency, (price, _))))))).
+      (side, (kind, (issuer, (maturity, (value, (price, (currency, tt))))))))
 
 six : (table lined : List (List ℕ)) → length table ≡ 7 → length (byTables table lined .holdings) ≡ 6
 six table lined h = length-append (take 5 table) (drop 6 table) ∙ omega (arith, length-take 5 table, length-drop 6 table, h)
 
--- a text, and what is lent: columns of holdings in the order of a table's, of lines, and an answer slice
-module _ (text : List ℕ) (table lined : List (List ℕ)) (out : List ℕ) where
+-- a text, and what is lent: a list for the head, columns of holdings in the order of a table's, of lines, and an answer slice
+module _ (text head : List ℕ) (table lined : List (List ℕ)) (out : List ℕ) where
   abbrev s : Submission
   s = submissionIn text
 
@@ -70,29 +82,37 @@ module _ (text : List ℕ) (table lined : List (List ℕ)) (out : List ℕ) wher
   before = byTables table lined
 
   abbrev pub short : Bool
-  short = tooShort (listsOf s before) (length out)
+  short = tooShort (heldLists s head before) (length out)
 
-  read-when : (readingAnswer text before out .number ≡ 0) ↔ (Submits text s × Room (listsOf s before) (length out))
+  read-when : (readingAnswer text head before out .number ≡ 0) ↔ (Submits text s × Room (heldLists s head before) (length out))
   unfolding readingAnswer
   read-when =
       let both = answer-exactly text short in
       let file = read-exactly text .read in
-      let room = room-exactly (listsOf s before) (length out) in
+      let room = room-exactly (heldLists s head before) (length out) in
       (λ e. (file .0 (both .0 e .0), room .0 (both .0 e .1)), λ h. both .1 (file .1 (h .0), room .1 (h .1)))
 
-  -- on a refusal nothing goes into the columns, and they are left untouched
-  filling-by : {t : Bool} → eqb (readingAnswer text before out .number) 0 ≡ t → filling text before out ≡ cond t s nothing
-  unfolding filling
-  filling-by {t} e = ap (λ (read : Bool). cond read s nothing) e
+  -- on a refusal nothing goes into the columns and the head's list, and they are left untouched
+  module _ {t : Bool} (e : eqb (readingAnswer text head before out .number) 0 ≡ t) where
+    filling-by : filling text head before out ≡ cond t s nothing
+    unfolding filling
+    filling-by = ap (λ (read : Bool). cond read s nothing) e
 
-  refused : (a : Answer) (out′ : List ℕ) (r : ℕ) → readingAnswer text before out ≡ a → a .number ≢ 0 → Answers a out out′ r → Reads text before before out out′ r
+    heading-by : heading text head before out ≡ cond t (headNumbers (s .head)) []
+    unfolding heading
+    heading-by = ap (λ (read : Bool). cond read (headNumbers (s .head)) []) e
+
+  refused : (a : Answer) (out′ : List ℕ) (r : ℕ) → readingAnswer text head before out ≡ a → a .number ≢ 0 → Answers a out out′ r
+      → Reads text head head before before out out′ r
   refused a out′ r e h t =
-      let none : filling text before out ≡ nothing = filling-by {t = false} (rw e (ne-eqb (a .number) 0 h)) in
+      let not-zero : eqb (readingAnswer text head before out .number) 0 ≡ false = rw e (ne-eqb (a .number) 0 h) in
       let not-read : r ≢ 0 = λ z. h (sym (t .number) ∙ z) in
       record {
         returned = rw e t;
-        columns = rw none (none-filled before);
-        untouched = λ _. refl;
+        columns = rw (filling-by not-zero) (none-filled before);
+        valued = rw (heading-by not-zero) (none-column head);
+        untouched = λ _. (refl, refl);
+        date = λ z. absurd (not-read z);
         holding = λ z. absurd (not-read z);
         price = λ z. absurd (not-read z);
         line = λ z. absurd (not-read z);
@@ -101,72 +121,90 @@ module _ (text : List ℕ) (table lined : List (List ℕ)) (out : List ℕ) wher
       }
 
   module _ {rows : ℕ} {book lines book′ lines′ : List ℕ} {d : Contents} (from-file : ReadsFile text rows book lines book′ lines′ d) where
-    pub record-refused : {n place : ℕ} (out′ : List ℕ) (r : ℕ) → d ≡ Refused n place → Answers (makeAnswer n place 0) out out′ r → Reads text before before out out′ r
+    pub record-refused : {n place : ℕ} (out′ : List ℕ) (r : ℕ) → d ≡ Refused n place → Answers (makeAnswer n place 0) out out′ r
+        → Reads text head head before before out out′ r
     unfolding readingAnswer
     record-refused {n} {place} out′ r e t =
         let (other, fault) = refusal-known from-file e in
         refused (makeAnswer n place 0) out′ r (answer-refused text short (λ z. other (sym (ap number fault) ∙ z)) ∙ fault) other t
 
     -- nothing is refused
-    module _ {n m : ℕ} (e : d ≡ Read n m) where
+    module _ {h : Head} {n m : ℕ} (e : d ≡ Read h n m) where
       -- the lists are measured for what the text submits
-      pub measured : {two : Bool} → two ≡ tooShort (map (λ size. (n, size)) (holdingSizes before) ++ map (λ size. (m, size)) (lineSizes before)) (length out) → two ≡ short
-      unfolding listsOf
+      pub measured : {two : Bool}
+          → two ≡ tooShort ((1, length head) ∷ (map (λ size. (n, size)) (holdingSizes before) ++ map (λ size. (m, size)) (lineSizes before))) (length out) → two ≡ short
+      unfolding heldLists headNumbers listsOf
       measured t = t ∙ rw (← holdings-counted from-file e, ← lines-counted from-file e)
 
       module _ {two : Bool} (same : two ≡ short) where
-        pub list-refused : (out′ : List ℕ) (r : ℕ) → two ≡ true → Answers (makeAnswer 2 0 0) out out′ r → Reads text before before out out′ r
+        pub list-refused : (out′ : List ℕ) (r : ℕ) → two ≡ true → Answers (makeAnswer 2 0 0) out out′ r → Reads text head head before before out out′ r
         unfolding readingAnswer
         list-refused out′ r t answered =
             refused (makeAnswer 2 0 0) out′ r (answer-none text short (no-fault from-file e) ∙ rw (sym same ∙ t)) (λ w. omega arith) answered
 
         -- each list then has room for its numbers
-        module _ (fits : two ≡ false) (room : TableRoom rows text book lines) where
+        module _ (fits : two ≡ false) where
+          each-held : Each Holds (heldLists s head before)
+          each-held = room-exactly (heldLists s head before) (length out) .0 (sym same ∙ fits) .each
+
+          pub head-room : 8 ≤ length head
+          unfolding heldLists headNumbers
+          head-room = let one = each-held .0 in omega arith
+
           each-list : Each (λ (c : List ℕ). 8 * n ≤ length c) (before .holdings ++ (before .price ∷ [])) × Each (λ (c : List ℕ). 8 * m ≤ length c) (before .lines)
-          unfolding listsOf holdingSizes lineSizes
+          unfolding heldLists listsOf holdingSizes lineSizes
           each-list =
               let (book, lines) = each-parts Holds (map (λ size. (length (s .rows), size)) (holdingSizes before)) (map (λ size. (length (s .lines), size)) (lineSizes before))
-              (room-exactly (listsOf s before) (length out) .0 (sym same ∙ fits) .each) in
+              (each-held .1) in
               (rw (← holdings-counted from-file e) (with-room _ (before .holdings ++ (before .price ∷ [])) book), rw (← lines-counted from-file e) (with-room _ (before .lines) lines))
 
-          pub book-room : length table ≡ 7 → CopyRoom rows n book′ table
-          book-room seven = record {
-            few = few-holdings from-file e;
-            whole = from-file .each-holding (was-read from-file e) .long ∙ room .whole-book ∙ rw seven;
-            each = in-order _ table lined seven (each-list .0);
-          }
+          module _ (room : TableRoom rows text book lines) where
+            pub book-room : length table ≡ 7 → CopyRoom rows n book′ table
+            book-room seven = record {
+              few = few-holdings from-file e;
+              whole = from-file .each-holding (was-read from-file e) .long ∙ room .whole-book ∙ rw seven;
+              each = in-order _ table lined seven (each-list .0);
+            }
 
-          pub lines-room : length lined ≡ 3 → CopyRoom rows m lines′ lined
-          lines-room three = record {
-            few = few-lines from-file e;
-            whole = from-file .each-line (was-read from-file e) .long ∙ room .whole-lines ∙ rw three;
-            each = each-list .1;
-          }
+            pub lines-room : length lined ≡ 3 → CopyRoom rows m lines′ lined
+            lines-room three = record {
+              few = few-lines from-file e;
+              whole = from-file .each-line (was-read from-file e) .long ∙ room .whole-lines ∙ rw three;
+              each = each-list .1;
+            }
 
-      -- copied, the tables are what is submitted
+      -- put, the date is what is submitted; copied, so are the tables
+      date-put : {head′ : List ℕ} → head′ ≡ withWord head 0 (h .date) → head′ ≡ column (headNumbers (s .head)) head
+      unfolding headNumbers
+      date-put p = p ∙ rw (← head-read from-file e) (first-column (s .head .date) head)
+
       all-filled : {table′ lined′ : List (List ℕ)} → length table ≡ 7 → length lined ≡ 3 → table′ ≡ copied rows n book′ 0 table → lined′ ≡ copied rows m lines′ 0 lined
           → byTables table′ lined′ ≡ filled s before
       unfolding submissionOf
       all-filled seven three f g =
           let held = entered-copied (from-file .each-holding (was-read from-file e)) (holdings-held from-file e) 0 table (omega (arith, seven)) in
           let taken = entered-copied (from-file .each-line (was-read from-file e)) (lines-held from-file e) 0 lined (omega (arith, three)) in
-          (λ i. byTables ((f ∙ held) i) ((g ∙ taken) i)) ∙ sym (filled-values (valuesBy 0 (parsedIn text)) (valuesBy 1 (parsedIn text)) table lined seven three)
+          (λ i. byTables ((f ∙ held) i) ((g ∙ taken) i))
+          ∙ sym (filled-values (s .head) (valuesBy 1 (parsedIn text)) (valuesBy 2 (parsedIn text)) table lined seven three)
 
-      pub all-read : {two : Bool} {table′ lined′ : List (List ℕ)} (out′ : List ℕ) (r : ℕ) → two ≡ short → two ≡ false
-          → length table ≡ 7 → length lined ≡ 3 → table′ ≡ copied rows n book′ 0 table → lined′ ≡ copied rows m lines′ 0 lined
-          → Answers (makeAnswer 0 n m) out out′ r → Reads text before (byTables table′ lined′) out out′ r
-      unfolding readingAnswer filled
-      all-read out′ r same fits seven three f g answered =
+      pub all-read : {two : Bool} {head′ : List ℕ} {table′ lined′ : List (List ℕ)} (out′ : List ℕ) (r : ℕ) → two ≡ short → two ≡ false
+          → length table ≡ 7 → length lined ≡ 3 → head′ ≡ withWord head 0 (h .date) → table′ ≡ copied rows n book′ 0 table → lined′ ≡ copied rows m lines′ 0 lined
+          → Answers (makeAnswer 0 n m) out out′ r → Reads text head head′ before (byTables table′ lined′) out out′ r
+      unfolding readingAnswer filled headNumbers
+      all-read out′ r same fits seven three p f g answered =
+          let put = date-put p in
           let after = all-filled seven three f g in
-          let whole : readingAnswer text before out ≡ makeAnswer 0 n m =
+          let whole : readingAnswer text head before out ≡ makeAnswer 0 n m =
           answer-none text short (no-fault from-file e) ∙ rw (sym same ∙ fits, holdings-counted from-file e, lines-counted from-file e) in
-          let zero : filling text before out ≡ s = filling-by {t = true} (rw whole) in
+          let zero : eqb (readingAnswer text head before out .number) 0 ≡ true = rw whole in
           let fit = file-fits text (no-fault from-file e) in
           let as-many : length (s .prices) ≡ length (s .rows) = unfold submissionOf in simp length-map in
           record {
             returned = rw whole answered;
-            columns = rw zero after;
+            columns = rw (filling-by zero) after;
+            valued = rw (heading-by zero) put;
             untouched = λ h. absurd (h (answered .number));
+            date = λ _. ap (λ (c : List ℕ). wordAt c 0) put ∙ price-read (headNumbers (s .head)) head (fit .head) 0 (omega arith);
             holding = λ _ k h. subst (λ (c : Columns). RowAt (c .holdings) k (getD (s .rows) k noRow)) (sym after) (rows-read (s .rows) (fit .rows) k h (before .holdings) (six table lined seven));
             price = λ _ k h. ap (λ (c : Columns). wordAt (c .price) k) after ∙ price-read (s .prices) (before .price) (fit .prices) k (omega (arith, as-many));
             line = λ _ k h. subst (λ (c : Columns). LineAt (c .lines) k (getD (s .lines) k noLine)) (sym after) (lines-read (s .lines) (fit .lines) k h lined three);

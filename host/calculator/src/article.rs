@@ -1,16 +1,19 @@
-//! Article 7204, Groups I, II and XI paragraphs 1, 2 and 4: rates and pairs.
+//! Article 7204, Groups I, II and XI paragraphs 1, 2 and 4: terms, rates and pairs.
 
 use std::ops::RangeInclusive;
 
 use crate::Row;
+use crate::dates::{anniversary, day_count, is_date};
 use crate::fraction::Fraction;
 
-/// The days of a year.
-const YEAR: u64 = 365;
-/// A strip of 20 years or more has three times the bond's rate.
-const TWENTY_YEARS: u64 = 20 * YEAR;
-/// The last day of each period but the fifth, which has none.
-const PERIOD_ENDS: [u64; 4] = [YEAR, 3 * YEAR, 7 * YEAR, 11 * YEAR];
+/// The years of each period but the fifth, which has no end.
+const PERIOD_ENDS: [u64; 4] = [1, 3, 7, 11];
+/// A strip of so many years or more has three times the bond's rate.
+const LONG_TERM: u64 = 20;
+/// No holding has a longer term, in years.
+const LONGEST_TERM: u64 = 100;
+/// What the days of a first period are divided by, in a leap year too.
+const DAYS_OF_A_YEAR: u64 = 365;
 /// A cent has 146,000 units, so one per cent of it has a hundredth of them.
 const UNITS_OF_A_PERCENT: Fraction = Fraction::new(146_000, 100);
 
@@ -33,7 +36,7 @@ const fn units_table() -> [[[u64; 5]; 3]; 2] {
     let mut cell = 0;
     while cell < 30 {
         let (class, multiple, period) = (cell / 15, cell / 5 % 3, cell % 5);
-        let term = if period == 0 { YEAR } else { 1 };
+        let term = if period == 0 { DAYS_OF_A_YEAR } else { 1 };
         table[class][multiple][period] = Fraction::new(PERCENT[class][period], term)
             .times(MULTIPLE[multiple])
             .times(UNITS_OF_A_PERCENT)
@@ -95,6 +98,39 @@ impl Market {
     pub const FOREIGN: usize = GOVERNMENTS.len() * FOREIGN_CURRENCIES.len();
 }
 
+/// A valuation date, with the anniversaries that a maturity is compared with.
+#[derive(Clone, Copy, Debug)]
+pub struct Valuation {
+    date: u64,
+    day_count: u64,
+    /// The last day of each period but the fifth.
+    period_ends: [u64; 4],
+    /// The first day of 20 years or more.
+    long_term: u64,
+    /// The last maturity of a holding.
+    longest_term: u64,
+}
+
+impl Valuation {
+    /// A valuation on this date, if it is one.
+    #[must_use]
+    pub fn on(date: u64) -> Option<Valuation> {
+        is_date(date).then(|| Valuation {
+            date,
+            day_count: day_count(date),
+            period_ends: PERIOD_ENDS.map(|years| anniversary(date, years)),
+            long_term: anniversary(date, LONG_TERM),
+            longest_term: anniversary(date, LONGEST_TERM),
+        })
+    }
+
+    /// Whether a holding of this maturity is neither matured nor of too long a term.
+    #[inline]
+    pub(crate) fn holds(&self, maturity: u64) -> bool {
+        self.date < maturity && maturity <= self.longest_term
+    }
+}
+
 /// What the article asks of one holding.
 #[derive(Clone, Copy, Debug)]
 pub struct Position {
@@ -114,10 +150,11 @@ impl Position {
     /// The position of a holding whose numbers are in their ranges.
     #[must_use]
     #[inline]
-    pub fn of(holding: &Row) -> Position {
-        let period = PERIOD_ENDS
+    pub fn of(valuation: &Valuation, holding: &Row) -> Position {
+        let period = valuation
+            .period_ends
             .iter()
-            .filter(|end| holding.days > **end)
+            .filter(|end| holding.maturity > **end)
             .count();
         let class = if PROVINCES.contains(&holding.issuer) {
             Class::Province
@@ -125,7 +162,7 @@ impl Position {
             Class::National
         };
         let bond = holding.kind == 0;
-        let multiple = match (bond, holding.days >= TWENTY_YEARS) {
+        let multiple = match (bond, holding.maturity >= valuation.long_term) {
             (true, _) => 0,
             (false, false) => 1,
             (false, true) => 2,
@@ -133,7 +170,7 @@ impl Position {
         let units = UNITS[class as usize][multiple][period];
         Position {
             rate: if period == 0 {
-                units * holding.days
+                units * (day_count(holding.maturity) - valuation.day_count)
             } else {
                 units
             },
@@ -179,56 +216,97 @@ fn allowed_pair_rate(one: &Position, other: &Position) -> u64 {
 
 #[cfg(test)]
 mod tests {
-    use super::{Position, pair_rate, saving_rate};
-    use crate::Row;
+    use super::{Position, Valuation, pair_rate, saving_rate};
+    use crate::{Row, VALUED};
 
-    fn position_in(currency: u64, kind: u64, issuer: u64, days: u64) -> Position {
+    fn position_on(date: u64, currency: u64, kind: u64, issuer: u64, maturity: u64) -> Position {
+        let valuation = Valuation::on(date).expect("a date");
         let (side, value) = (0, 1);
-        Position::of(&Row {
-            side,
-            kind,
-            issuer,
-            days,
-            value,
-            currency,
-        })
+        Position::of(
+            &valuation,
+            &Row {
+                side,
+                kind,
+                issuer,
+                maturity,
+                value,
+                currency,
+            },
+        )
     }
 
-    fn position(kind: u64, issuer: u64, days: u64) -> Position {
-        position_in(0, kind, issuer, days)
+    fn position_in(currency: u64, kind: u64, issuer: u64, maturity: u64) -> Position {
+        position_on(VALUED, currency, kind, issuer, maturity)
+    }
+
+    fn position(kind: u64, issuer: u64, maturity: u64) -> Position {
+        position_in(0, kind, issuer, maturity)
     }
 
     #[test]
     fn periods_hold_their_ends() {
-        let days = [
-            1, 365, 366, 1_095, 1_096, 2_555, 2_556, 4_015, 4_016, 7_299, 7_300, 36_500,
+        let maturities = [
+            2025_01_02, 2026_01_01, 2026_01_02, 2028_01_01, 2028_01_02, 2032_01_01, 2032_01_02,
+            2036_01_01, 2036_01_02, 2044_12_31, 2045_01_01, 2125_01_01,
         ];
-        let periods = days.map(|days| position(1, 0, days).period);
+        let periods = maturities.map(|maturity| position(1, 0, maturity).period);
         assert_eq!(periods, [0, 0, 1, 1, 2, 2, 3, 3, 4, 4, 4, 4]);
+        let rates = maturities.map(|maturity| position(1, 0, maturity).rate);
+        let [first, second, .., before_twenty, twenty, _] = rates;
+        assert_eq!((first, second), (6, 2_190));
+        assert_eq!((before_twenty, twenty), (8_760, 17_520));
+    }
+
+    #[test]
+    fn a_leap_year_to_its_anniversary() {
+        let bond = |date, maturity| {
+            let position = position_on(date, 0, 0, 7, maturity);
+            (position.period, position.rate)
+        };
+        assert_eq!(position_on(2024_01_01, 0, 0, 0, 2025_01_01).rate, 1_464);
+        assert_eq!(bond(2024_02_28, 2025_02_28), (0, 8 * 366));
+        assert_eq!(bond(2024_02_29, 2025_02_28), (0, 8 * 365));
+        assert_eq!(bond(2024_02_29, 2025_03_01), (1, 4_380));
+        assert_eq!(bond(2023_02_28, 2024_02_28), (0, 8 * 365));
+        assert_eq!(bond(2023_02_28, 2024_02_29), (1, 4_380));
+        assert_eq!(bond(2023_03_01, 2024_02_29), (0, 8 * 365));
+    }
+
+    #[test]
+    fn what_a_valuation_holds() {
+        let held = |date, maturity| Valuation::on(date).is_some_and(|on| on.holds(maturity));
+        assert!(!held(2025_01_01, 2025_01_01) && held(2025_01_01, 2025_01_02));
+        assert!(held(2025_01_01, 2125_01_01) && !held(2025_01_01, 2125_01_02));
+        assert!(held(2000_02_29, 2100_02_28) && !held(2000_02_29, 2100_03_01));
+        assert!(held(2250_06_15, 2299_12_31));
+        assert!(Valuation::on(2025_02_29).is_none());
     }
 
     #[test]
     fn a_pair_follows_its_rule() {
-        let canada = position(1, 0, 2_000);
-        let ontario = position(2, 7, 2_000);
-        let quebec = position(1, 9, 2_000);
+        let canada = position(1, 0, 2030_06_24);
+        let ontario = position(2, 7, 2030_06_24);
+        let quebec = position(1, 9, 2030_06_24);
         assert_eq!(pair_rate(&quebec, &ontario), Some(0));
         assert_eq!(pair_rate(&canada, &ontario), Some(6_570));
         assert_eq!(saving_rate(&canada, &ontario), Some(6_570));
-        assert_eq!(pair_rate(&position(0, 7, 2_000), &ontario), Some(2_920));
         assert_eq!(
-            pair_rate(&position(0, 0, 2_000), &position(0, 7, 2_000)),
+            pair_rate(&position(0, 7, 2030_06_24), &ontario),
+            Some(2_920)
+        );
+        assert_eq!(
+            pair_rate(&position(0, 0, 2030_06_24), &position(0, 7, 2030_06_24)),
             None
         );
         assert_eq!(
-            pair_rate(&position(1, 0, 4_015), &position(1, 0, 4_016)),
+            pair_rate(&position(1, 0, 2036_01_01), &position(1, 0, 2036_01_02)),
             None
         );
         assert_eq!(
-            pair_rate(&position(1, 0, 5_000), &position(1, 0, 8_000)),
+            pair_rate(&position(1, 0, 2038_09_10), &position(1, 0, 2046_11_27)),
             Some(8_760)
         );
-        let longest = position(2, 1, 36_500);
+        let longest = position(2, 1, 2125_01_01);
         assert_eq!(saving_rate(&longest, &longest), Some(43_800));
     }
 
@@ -236,8 +314,8 @@ mod tests {
     fn a_pair_in_a_foreign_currency_follows_its_rule() {
         for currency in [1, 2] {
             for issuer in [0, 11, 12] {
-                let bond = position_in(currency, 0, issuer, 8_000);
-                let strip = position_in(currency, 2, issuer, 5_000);
+                let bond = position_in(currency, 0, issuer, 2046_11_27);
+                let strip = position_in(currency, 2, issuer, 2038_09_10);
                 assert_eq!(pair_rate(&bond, &strip), Some(2_920));
                 assert_eq!(saving_rate(&strip, &bond), Some(11_680));
                 assert_eq!(pair_rate(&strip, &strip), None);
@@ -245,12 +323,12 @@ mod tests {
                 for (other_currency, other_issuer) in
                     [(0, issuer), (3 - currency, issuer), (currency, 7)]
                 {
-                    let other = position_in(other_currency, 2, other_issuer, 5_000);
+                    let other = position_in(other_currency, 2, other_issuer, 2038_09_10);
                     assert_eq!(pair_rate(&bond, &other), None);
                 }
             }
         }
-        let (bond, strip) = (position(0, 11, 8_000), position(1, 11, 8_000));
+        let (bond, strip) = (position(0, 11, 2046_11_27), position(1, 11, 2046_11_27));
         assert_eq!((bond.rate, strip.rate), (5_840, 17_520));
         assert_eq!(pair_rate(&bond, &strip), None);
     }

@@ -7,6 +7,7 @@
 use crate::print;
 
 mod books;
+mod dates;
 mod fields;
 mod foreign;
 mod grammar;
@@ -32,6 +33,7 @@ pub fn all() -> Vec<Case> {
     let mut list = List::default();
     paper::add(&mut list);
     foreign::add(&mut list);
+    dates::add(&mut list);
     judged::add(&mut list);
     grammar::add(&mut list);
     fields::add(&mut list);

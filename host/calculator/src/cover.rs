@@ -137,23 +137,28 @@ fn grouped(entries: &[Entry]) -> impl Iterator<Item = (usize, &Entry, usize)> {
 #[cfg(test)]
 mod tests {
     use super::{Short, group, needed};
-    use crate::{Position, Row, saving_rate};
+    use crate::{Position, Row, VALUED, Valuation, saving_rate};
 
     fn positions() -> Vec<Position> {
+        let valuation = Valuation::on(VALUED).expect("a date");
         let mut positions = Vec::new();
-        for days in [1, 2, 364, 365, 366, 1_095, 2_555, 4_015, 5_000, 7_300] {
+        for maturity in [
+            2025_01_02, 2025_01_03, 2025_12_31, 2026_01_01, 2026_01_02, 2028_01_01, 2032_01_01,
+            2036_01_01, 2038_09_10, 2045_01_01,
+        ] {
             for kind in 0..3 {
                 for issuer in [0, 1, 5, 10, 11, 12] {
                     for currency in 0..3 {
                         let (side, value) = (0, 1);
-                        positions.push(Position::of(&Row {
+                        let holding = Row {
                             side,
                             kind,
                             issuer,
-                            days,
+                            maturity,
                             value,
                             currency,
-                        }));
+                        };
+                        positions.push(Position::of(&valuation, &holding));
                     }
                 }
             }

@@ -3,15 +3,17 @@
 //!
 //! [`margin_check`] says what the check must return and what it must leave in every lent list, byte for
 //! byte, and [`margin_read`] the same of the file's reader. [`print()`] says what the program prints for
-//! a file. [`optimise`] finds the pairing with the largest saving, and prices that show it. [`samples`]
-//! makes books from seeds, [`texts`] writes files, and [`cases`] has those that the program `cases` is
-//! given.
+//! a file. [`optimise`] finds the pairing with the largest saving, and prices that show it. [`calendar`]
+//! counts days, [`samples`] makes books from seeds, [`texts`] writes files, and [`cases`] has those that the
+//! program `cases` is given.
 
 #![deny(missing_docs)]
 
 mod article;
+pub mod calendar;
 pub mod cases;
 mod cover;
+mod dates;
 mod file;
 mod fraction;
 mod optimise;
@@ -20,11 +22,11 @@ pub mod samples;
 mod sheet;
 pub mod texts;
 
-pub use article::{Class, Market, Position, pair_rate, saving_rate};
+pub use article::{Class, Market, Position, Valuation, pair_rate, saving_rate};
 pub use file::{CURRENCIES, FIELDS, ISSUERS, KINDS, MOST_BYTES, SIDES, margin_read, print, read};
 pub use optimise::{Best, optimise};
 pub use plain::margin_check;
-pub use sheet::{Row, Rows, Sheet};
+pub use sheet::{Row, Sheet, VALUED};
 
 /// The Rust examples of the README.
 #[cfg(doctest)]

@@ -6,9 +6,9 @@
 
 use margin_host::{Line, Refusal};
 
+use crate::Sheet;
 use crate::article::{Position, saving_rate};
-use crate::plain::{MOST_HOLDINGS, in_range};
-use crate::{Rows, Sheet};
+use crate::plain::{MOST_HOLDINGS, in_range, valuation};
 
 mod forest;
 mod path;
@@ -154,13 +154,13 @@ fn savings(positions: &[Position], longs: &Side, shorts: &Side) -> Vec<Option<u6
     savings
 }
 
-/// The position of each holding, or the refusal of the book: 1, 3, 4 to 8 or 23.
+/// The position of each holding, or the refusal of the book: 1, 3, 4 to 8, 23 or 24.
 fn positions(book: &Sheet) -> Result<Vec<Position>, Refusal> {
     let count = book.side.len();
     let columns = [
         &book.kind,
         &book.issuer,
-        &book.days,
+        &book.maturity,
         &book.value,
         &book.currency,
     ];
@@ -170,9 +170,11 @@ fn positions(book: &Sheet) -> Result<Vec<Position>, Refusal> {
     if count > MOST_HOLDINGS {
         return Err(Refusal::TooManyHoldings);
     }
+    let valuation = valuation(book.date)?;
     let position = |number: usize| {
         let holding = book.row(number);
-        in_range(number as u64, &holding, 0).map(|()| Position::of(&holding))
+        in_range(&valuation, number as u64, &holding, 0)?;
+        Ok(Position::of(&valuation, &holding))
     };
     (0..count).map(position).collect()
 }

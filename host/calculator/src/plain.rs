@@ -5,14 +5,14 @@ use std::cmp::Reverse;
 use margin_host::{Columns, Figures, Refusal};
 
 use crate::Row;
-use crate::article::{Position, pair_rate};
+use crate::article::{Position, Valuation, pair_rate};
 use crate::cover::cover;
+use crate::dates::is_date;
 
 pub(crate) const MOST_HOLDINGS: usize = 256;
 pub(crate) const MOST_LINES: usize = 512;
 const HIGHEST_ISSUER: u64 = 12;
 const HIGHEST_CURRENCY: u64 = 2;
-const LONGEST_DAYS: u64 = 36_500;
 const HIGHEST_VALUE: u64 = 100_000_000_000;
 const HIGHEST_PRICE: u64 = 43_800;
 const UNITS_OF_A_CENT: u64 = 146_000;
@@ -36,12 +36,13 @@ struct Paired {
 /// Returns the refusal number, 0 for accepted, and leaves in the lists what the check must leave there.
 #[must_use]
 pub fn margin_check(
+    date: u64,
     columns: &Columns<&[u8]>,
     remainder: &mut [u8],
     ranking: &mut [u8],
     answer: &mut [u8],
 ) -> u64 {
-    let (number, first, second) = match judge(columns, remainder, ranking, answer.len()) {
+    let (number, first, second) = match judge(date, columns, remainder, ranking, answer.len()) {
         Ok(figures) => (0, figures.units, figures.cents),
         Err(refusal) => (refusal.number(), refusal.place(), refusal.second()),
     };
@@ -53,13 +54,15 @@ pub fn margin_check(
 }
 
 fn judge(
+    date: u64,
     columns: &Columns<&[u8]>,
     remainder: &mut [u8],
     ranking: &mut [u8],
     answer: usize,
 ) -> Result<Figures, Refusal> {
     lengths(columns, remainder.len(), ranking.len(), answer)?;
-    let mut entries = holdings(columns)?;
+    let valuation = valuation(date)?;
+    let mut entries = holdings(&valuation, columns)?;
     let paired = lines(columns, &mut entries)?;
     cover(&entries)?;
     let priced: u64 = entries.iter().map(|entry| entry.price * entry.value).sum();
@@ -82,7 +85,7 @@ fn lengths(
     answer: usize,
 ) -> Result<(), Refusal> {
     let of_holdings = [
-        c.side, c.kind, c.issuer, c.days, c.value, c.price, c.currency,
+        c.side, c.kind, c.issuer, c.maturity, c.value, c.price, c.currency,
     ]
     .map(<[u8]>::len);
     let of_lines = [c.long, c.short, c.amount].map(<[u8]>::len);
@@ -103,30 +106,35 @@ fn lengths(
     }
 }
 
-/// Refusals 4 to 8, 23 and 10 of each holding in turn.
-fn holdings(columns: &Columns<&[u8]>) -> Result<Vec<Entry>, Refusal> {
+/// Refusal 24 of the valuation date.
+pub(crate) fn valuation(date: u64) -> Result<Valuation, Refusal> {
+    Valuation::on(date).ok_or(Refusal::DateInvalid { holding: 0 })
+}
+
+/// Refusals 4 to 6, 24, 7, 8, 23 and 10 of each holding in turn.
+fn holdings(valuation: &Valuation, columns: &Columns<&[u8]>) -> Result<Vec<Entry>, Refusal> {
     let sides = numbers(columns.side);
     let mut entries = Vec::with_capacity(sides.len());
     let others = numbers(columns.kind)
         .zip(numbers(columns.issuer))
-        .zip(numbers(columns.days))
+        .zip(numbers(columns.maturity))
         .zip(numbers(columns.value))
         .zip(numbers(columns.price))
         .zip(numbers(columns.currency));
-    for (number, (side, (((((kind, issuer), days), value), price), currency))) in
+    for (number, (side, (((((kind, issuer), maturity), value), price), currency))) in
         sides.zip(others).enumerate()
     {
         let holding = Row {
             side,
             kind,
             issuer,
-            days,
+            maturity,
             value,
             currency,
         };
-        in_range(number as u64, &holding, price)?;
+        in_range(valuation, number as u64, &holding, price)?;
         entries.push(Entry {
-            position: Position::of(&holding),
+            position: Position::of(valuation, &holding),
             price,
             short: side == 1,
             value,
@@ -136,16 +144,24 @@ fn holdings(columns: &Columns<&[u8]>) -> Result<Vec<Entry>, Refusal> {
     Ok(entries)
 }
 
-/// Refusals 4 to 8, 23 and 10 of one holding, in this order.
-pub(crate) fn in_range(number: u64, holding: &Row, price: u64) -> Result<(), Refusal> {
+/// Refusals 4 to 6, 24, 7, 8, 23 and 10 of one holding, in this order.
+#[inline]
+pub(crate) fn in_range(
+    valuation: &Valuation,
+    number: u64,
+    holding: &Row,
+    price: u64,
+) -> Result<(), Refusal> {
     let refusal = if holding.side > 1 {
         Refusal::SideUnknown { holding: number }
     } else if holding.kind > 2 {
         Refusal::KindUnknown { holding: number }
     } else if holding.issuer > HIGHEST_ISSUER {
         Refusal::IssuerUnknown { holding: number }
-    } else if !(1..=LONGEST_DAYS).contains(&holding.days) {
-        Refusal::DaysOutOfRange { holding: number }
+    } else if !is_date(holding.maturity) {
+        Refusal::DateInvalid { holding: number }
+    } else if !valuation.holds(holding.maturity) {
+        Refusal::MaturityOutOfRange { holding: number }
     } else if !(1..=HIGHEST_VALUE).contains(&holding.value) {
         Refusal::ValueOutOfRange { holding: number }
     } else if holding.currency > HIGHEST_CURRENCY {

@@ -2,7 +2,7 @@
 
 use margin_host::Line;
 
-use crate::{Row, Rows, Sheet, optimise};
+use crate::{Row, Sheet, VALUED, calendar, optimise};
 
 /// `SplitMix64`: the same numbers from the same seed everywhere.
 #[derive(Clone, Debug)]
@@ -62,6 +62,22 @@ impl Random {
     }
 }
 
+/// A day counted from a valuation date: an anniversary of it by its years, and days after that or before.
+pub type Day = (u64, i64);
+
+/// A range of such days, both ends included.
+pub type Term = (Day, Day);
+
+/// The first period, and the others in order; the fifth in two parts, of which the second has 20 years or more.
+pub const PERIODS: [Term; 6] = [
+    ((0, 1), (1, 0)),
+    ((1, 1), (3, 0)),
+    ((3, 1), (7, 0)),
+    ((7, 1), (11, 0)),
+    ((11, 1), (20, -1)),
+    ((20, 0), (100, 0)),
+];
+
 /// What the holdings of a book are drawn from.
 #[derive(Clone, Copy, Debug)]
 pub struct Shape {
@@ -73,8 +89,8 @@ pub struct Shape {
     pub kinds: &'static [u64],
     /// The issuers.
     pub issuers: &'static [u64],
-    /// Ranges of days.
-    pub days: &'static [(u64, u64)],
+    /// Ranges of maturities.
+    pub terms: &'static [Term],
     /// Ranges of values.
     pub values: &'static [(u64, u64)],
     /// The currencies.
@@ -89,14 +105,7 @@ pub const ANY: Shape = Shape {
     sides: &[0, 1],
     kinds: &[0, 1, 2],
     issuers: &[0, 0, 0, 0, 1, 4, 7, 10, 11, 11, 12, 12],
-    days: &[
-        (1, 365),
-        (366, 1_095),
-        (1_096, 2_555),
-        (2_556, 4_015),
-        (4_016, 7_299),
-        (7_300, 36_500),
-    ],
+    terms: &PERIODS,
     values: &[(1, 10), (1, 10_000), (1, 100_000_000_000)],
     currencies: &[0, 0, 1, 1, 2],
     different: usize::MAX,
@@ -119,14 +128,16 @@ pub const FOREIGN: Shape = Shape {
 };
 
 const HIGHEST_VALUE: u64 = 100_000_000_000;
-const ENDS: &[(u64, u64)] = &[
-    (1, 1),
-    (365, 366),
-    (1_095, 1_096),
-    (2_555, 2_556),
-    (4_015, 4_016),
-    (7_299, 7_300),
-    (36_500, 36_500),
+const FIFTH: Term = (PERIODS[4].0, PERIODS[5].1);
+const ABOUT_20_YEARS: Term = ((20, -2), (20, 1));
+const ENDS: &[Term] = &[
+    ((0, 1), (0, 1)),
+    ((1, 0), (1, 1)),
+    ((3, 0), (3, 1)),
+    ((7, 0), (7, 1)),
+    ((11, 0), (11, 1)),
+    ((20, -1), (20, 0)),
+    ((100, 0), (100, 0)),
 ];
 
 /// Books of many kinds.
@@ -134,37 +145,37 @@ pub const SHAPES: [Shape; 29] = [
     DOMESTIC,
     Shape {
         name: "ends of periods",
-        days: ENDS,
+        terms: ENDS,
         ..DOMESTIC
     },
     Shape {
         name: "first period",
-        days: &[(1, 365)],
+        terms: &[PERIODS[0]],
         ..DOMESTIC
     },
     Shape {
         name: "second period",
-        days: &[(366, 1_095)],
+        terms: &[PERIODS[1]],
         ..DOMESTIC
     },
     Shape {
         name: "third period",
-        days: &[(1_096, 2_555)],
+        terms: &[PERIODS[2]],
         ..DOMESTIC
     },
     Shape {
         name: "fourth period",
-        days: &[(2_556, 4_015)],
+        terms: &[PERIODS[3]],
         ..DOMESTIC
     },
     Shape {
         name: "fifth period",
-        days: &[(4_016, 36_500)],
+        terms: &[FIFTH],
         ..DOMESTIC
     },
     Shape {
         name: "about 20 years",
-        days: &[(7_298, 7_301)],
+        terms: &[ABOUT_20_YEARS],
         ..DOMESTIC
     },
     Shape {
@@ -180,7 +191,7 @@ pub const SHAPES: [Shape; 29] = [
     Shape {
         name: "strips",
         kinds: &[1, 2],
-        days: &[(1, 365), (4_016, 36_500)],
+        terms: &[PERIODS[0], FIFTH],
         ..DOMESTIC
     },
     Shape {
@@ -191,19 +202,19 @@ pub const SHAPES: [Shape; 29] = [
     Shape {
         name: "one cent",
         values: &[(1, 1)],
-        days: &[(1, 400)],
+        terms: &[((0, 1), (1, 35))],
         ..DOMESTIC
     },
     Shape {
         name: "highest value",
         values: &[(HIGHEST_VALUE, HIGHEST_VALUE)],
-        days: ENDS,
+        terms: ENDS,
         ..DOMESTIC
     },
     Shape {
         name: "three different",
         different: 3,
-        days: &[(4_016, 36_500)],
+        terms: &[FIFTH],
         ..DOMESTIC
     },
     Shape {
@@ -219,24 +230,24 @@ pub const SHAPES: [Shape; 29] = [
     Shape {
         name: "few shorts",
         sides: &[0, 0, 0, 0, 1],
-        days: &[(1, 365)],
+        terms: &[PERIODS[0]],
         ..DOMESTIC
     },
     ANY,
     Shape {
         name: "any currency, third period",
-        days: &[(1_096, 2_555)],
+        terms: &[PERIODS[2]],
         ..ANY
     },
     Shape {
         name: "any currency, about 20 years",
-        days: &[(7_298, 7_301)],
+        terms: &[ABOUT_20_YEARS],
         ..ANY
     },
     Shape {
         name: "any currency, highest value",
         values: &[(HIGHEST_VALUE, HIGHEST_VALUE)],
-        days: ENDS,
+        terms: ENDS,
         ..ANY
     },
     FOREIGN,
@@ -244,48 +255,77 @@ pub const SHAPES: [Shape; 29] = [
         name: "US in USD",
         issuers: &[11],
         currencies: &[1],
-        days: &[(1, 365), (4_016, 36_500)],
+        terms: &[PERIODS[0], FIFTH],
         ..ANY
     },
     Shape {
         name: "fifth period in GBP",
         issuers: &[0, 12],
         currencies: &[2],
-        days: &[(4_016, 36_500)],
+        terms: &[FIFTH],
         ..ANY
     },
     Shape {
         name: "Canada and US in CAD and USD",
         issuers: &[0, 0, 11],
         currencies: &[0, 1],
-        days: &[(4_016, 36_500)],
+        terms: &[FIFTH],
         ..ANY
     },
     Shape {
         name: "Canada in any currency",
         issuers: &[0],
         currencies: &[0, 1, 2],
-        days: &[(1, 365)],
+        terms: &[PERIODS[0]],
         ..ANY
     },
     Shape {
         name: "provinces in any currency",
         issuers: &[1, 7, 10],
         currencies: &[0, 1, 2],
-        days: &[(366, 1_095)],
+        terms: &[PERIODS[1]],
         ..ANY
     },
     Shape {
         name: "US and GB in any currency",
         issuers: &[11, 12],
         currencies: &[0, 1, 2],
-        days: &[(2_556, 4_015)],
+        terms: &[PERIODS[3]],
         ..ANY
     },
 ];
 
-/// Draws a book.
-pub fn holdings(random: &mut Random, shape: &Shape, size: usize) -> Vec<Row> {
+/// Draws a valuation date: document 01's, a leap day or any other, so early that each has its 100th
+/// anniversary among the dates.
+pub fn valuation_date(random: &mut Random) -> u64 {
+    let dates = calendar::dates();
+    let early = &dates[..dates.partition_point(|date| *date < 2200_01_01)];
+    match random.below(4) {
+        0 => VALUED,
+        // Every fourth year from 1904 to 2196; 2100 has none, and 28 February in its place.
+        1 => calendar::anniversary(1904_02_29 + 4 * 10_000 * random.below(74), 0),
+        _ => random.pick(early),
+    }
+}
+
+/// Draws a maturity of one of several ranges.
+fn maturity(random: &mut Random, date: u64, terms: &[Term]) -> u64 {
+    let (first, last) = random.pick(terms);
+    let [first, last] = [first, last].map(|(years, days)| {
+        let day = calendar::days_after(calendar::anniversary(date, years), days);
+        calendar::place(day).expect("an early valuation date")
+    });
+    random.pick(&calendar::dates()[first..=last])
+}
+
+/// Draws a book without lines, each holding at price 0.
+pub fn book(random: &mut Random, shape: &Shape, size: usize) -> Sheet {
+    let date = valuation_date(random);
+    Sheet::of_rows(date, &holdings(random, shape, date, size), 0)
+}
+
+/// Draws the holdings of a book on a valuation date.
+pub fn holdings(random: &mut Random, shape: &Shape, date: u64, size: usize) -> Vec<Row> {
     let mut book: Vec<Row> = Vec::with_capacity(size);
     for number in 0..size {
         let holding = if number < shape.different {
@@ -293,7 +333,7 @@ pub fn holdings(random: &mut Random, shape: &Shape, size: usize) -> Vec<Row> {
                 side: random.pick(shape.sides),
                 kind: random.pick(shape.kinds),
                 issuer: random.pick(shape.issuers),
-                days: random.within(shape.days),
+                maturity: maturity(random, date, shape.terms),
                 value: random.within(shape.values),
                 currency: random.pick(shape.currencies),
             }
@@ -305,15 +345,15 @@ pub fn holdings(random: &mut Random, shape: &Shape, size: usize) -> Vec<Row> {
     book
 }
 
-/// The book with a best proposal on it.
+/// The book of a sheet with a best proposal on it.
 ///
 /// # Panics
 ///
-/// If a holding is outside its ranges, or there are more than 256.
+/// If the valuation date or a holding is outside its ranges, or there are more than 256.
 #[must_use]
-pub fn best_sheet(holdings: &[Row]) -> Sheet {
-    let mut sheet = Sheet::of_rows(holdings, 0);
-    let best = optimise(&sheet).expect("the holdings are within their ranges");
+pub fn best_sheet(book: &Sheet) -> Sheet {
+    let mut sheet = book.clone();
+    let best = optimise(&sheet).expect("the book is within its ranges");
     best.put_on(&mut sheet);
     sheet
 }

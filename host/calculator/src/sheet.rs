@@ -1,9 +1,13 @@
-//! A book and a proposal in plain numbers, which may be outside their ranges.
+//! A book on its valuation date and a proposal in plain numbers, which may be outside their ranges.
+
+use std::ops::{Deref, DerefMut};
 
 use margin_host::{Columns, Line};
 
-/// The columns of a book and of a proposal on it.
-pub type Sheet = Columns<Vec<u64>>;
+use crate::{Position, Valuation};
+
+/// The valuation date of document 01's worked cases.
+pub const VALUED: u64 = 2025_01_01;
 
 /// One holding in the papers' numbers.
 #[derive(Clone, Copy, Debug, PartialEq, Eq)]
@@ -14,69 +18,106 @@ pub struct Row {
     pub kind: u64,
     /// 0 Canada, 1 to 10 a province, 11 the United States, 12 the United Kingdom.
     pub issuer: u64,
-    /// Days to maturity.
-    pub days: u64,
+    /// The maturity, YYYYMMDD.
+    pub maturity: u64,
     /// Market value in Canadian cents.
     pub value: u64,
     /// 0 CAD, 1 USD, 2 GBP.
     pub currency: u64,
 }
 
-/// A sheet by its holdings and lines.
-pub trait Rows {
-    /// A sheet of these holdings, each at this price, without lines.
-    fn of_rows(rows: &[Row], price: u64) -> Self;
-
-    /// The holding with this number, which all columns have.
-    fn row(&self, number: usize) -> Row;
-
-    /// Adds a holding and its price.
-    fn add_holding(&mut self, row: Row, price: u64);
-
-    /// Adds a line.
-    fn add_line(&mut self, line: Line);
-
-    /// The columns as bytes.
-    fn bytes(&self) -> Columns<Vec<u8>>;
+/// A valuation date, and the columns of a book and of a proposal on it, which are reached as its own.
+#[derive(Clone, Debug, PartialEq, Eq)]
+pub struct Sheet {
+    /// The valuation date, YYYYMMDD.
+    pub date: u64,
+    /// The columns.
+    pub columns: Columns<Vec<u64>>,
 }
 
-impl Rows for Sheet {
-    fn of_rows(rows: &[Row], price: u64) -> Sheet {
-        let mut sheet = Sheet::default();
+impl Deref for Sheet {
+    type Target = Columns<Vec<u64>>;
+
+    fn deref(&self) -> &Columns<Vec<u64>> {
+        &self.columns
+    }
+}
+
+impl DerefMut for Sheet {
+    fn deref_mut(&mut self) -> &mut Columns<Vec<u64>> {
+        &mut self.columns
+    }
+}
+
+impl Sheet {
+    /// The empty book on this date, without lines.
+    #[must_use]
+    pub fn empty(date: u64) -> Sheet {
+        Sheet {
+            date,
+            columns: Columns::default(),
+        }
+    }
+
+    /// A sheet of these holdings on this date, each at this price, without lines.
+    #[must_use]
+    pub fn of_rows(date: u64, rows: &[Row], price: u64) -> Sheet {
+        let mut sheet = Sheet::empty(date);
         for row in rows {
             sheet.add_holding(*row, price);
         }
         sheet
     }
 
-    fn row(&self, number: usize) -> Row {
+    /// The holding with this number, which all columns have.
+    ///
+    /// # Panics
+    ///
+    /// If a column has no such entry.
+    #[must_use]
+    pub fn row(&self, number: usize) -> Row {
         Row {
             side: self.side[number],
             kind: self.kind[number],
             issuer: self.issuer[number],
-            days: self.days[number],
+            maturity: self.maturity[number],
             value: self.value[number],
             currency: self.currency[number],
         }
     }
 
-    fn add_holding(&mut self, row: Row, price: u64) {
+    /// The position of the holding with this number, whose numbers are in their ranges.
+    ///
+    /// # Panics
+    ///
+    /// If a column has no such entry, or the valuation date is none.
+    #[must_use]
+    pub fn position(&self, number: usize) -> Position {
+        let valuation = Valuation::on(self.date).expect("a valuation date");
+        Position::of(&valuation, &self.row(number))
+    }
+
+    /// Adds a holding and its price.
+    pub fn add_holding(&mut self, row: Row, price: u64) {
         self.side.push(row.side);
         self.kind.push(row.kind);
         self.issuer.push(row.issuer);
-        self.days.push(row.days);
+        self.maturity.push(row.maturity);
         self.value.push(row.value);
         self.price.push(price);
         self.currency.push(row.currency);
     }
 
-    fn add_line(&mut self, line: Line) {
+    /// Adds a line.
+    pub fn add_line(&mut self, line: Line) {
         self.long.push(line.long);
         self.short.push(line.short);
         self.amount.push(line.amount);
     }
 
-    fn bytes(&self) -> Columns<Vec<u8>> {
+    /// The columns as bytes.
+    #[must_use]
+    pub fn bytes(&self) -> Columns<Vec<u8>> {
         let bytes = |column: &Vec<u64>| column.iter().copied().flat_map(u64::to_le_bytes).collect();
         self.each_ref().map(bytes)
     }

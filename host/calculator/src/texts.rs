@@ -3,21 +3,37 @@
 //! A record is a text without its CRLF, so that it can be changed before it goes into a file. The
 //! empty fields that end a record are added here alone: the rest names the filled ones.
 
-use crate::{CURRENCIES, FIELDS, ISSUERS, KINDS, Rows, SIDES, Sheet};
+use crate::{CURRENCIES, FIELDS, ISSUERS, KINDS, SIDES, Sheet, VALUED};
 
-/// The records of the file that document 01 prints.
-pub const PRINTED: [&str; 5] = [
-    "H,L,C,CA,2000,1000000,0,CAD",
-    "H,S,B,CA,2000,600000,5840,CAD",
-    "H,S,R,ON,2000,300000,6570,CAD",
+/// The records of the file that document 01 prints: the valuation date, three holdings and two lines.
+pub const PRINTED: [&str; 6] = [
+    "D,2025-01-01,,,,,,",
+    "H,L,C,CA,2030-06-24,1000000,0,CAD",
+    "H,S,B,CA,2030-06-24,600000,5840,CAD",
+    "H,S,R,ON,2030-06-24,300000,6570,CAD",
     "P,0,1,600000,,,,",
     "P,0,2,300000,,,,",
 ];
 
+/// Fields of a valuation date that are filled, its letter among them; the others are empty.
+const FILLED_OF_DATE: usize = 2;
 /// Fields of a holding that are filled, its letter among them; the others are empty.
 const FILLED_OF_HOLDING: usize = 8;
 /// Fields of a line that are filled, its letter among them; the others are empty.
 const FILLED_OF_LINE: usize = 4;
+
+/// The text of a number of up to eight digits in the form YYYY-MM-DD; it need be no date.
+#[must_use]
+pub fn date_text(number: u64) -> String {
+    let (year, month, day) = (number / 10_000, number / 100 % 100, number % 100);
+    format!("{year:04}-{month:02}-{day:02}")
+}
+
+/// The record of a valuation date with this text.
+#[must_use]
+pub fn valued(date: &str) -> String {
+    format!("D,{date}{}", ",".repeat(FIELDS - FILLED_OF_DATE))
+}
 
 /// The record of a holding in CAD with these fields after its letter and before its currency.
 #[must_use]
@@ -38,12 +54,18 @@ pub fn line(fields: &str) -> String {
     format!("P,{fields}{}", ",".repeat(FIELDS - FILLED_OF_LINE))
 }
 
-/// The file of holdings in CAD and lines with these fields after their letters.
+/// The file of holdings in CAD and lines with these fields after their letters, valued on document 01's date.
 #[must_use]
 pub fn file(holdings: &[&str], lines: &[&str]) -> Vec<u8> {
     let mut records: Vec<String> = holdings.iter().map(|fields| holding(fields)).collect();
     records.extend(lines.iter().map(|fields| line(fields)));
-    joined(&records)
+    dated(&records)
+}
+
+/// The file of these records after document 01's valuation date.
+pub fn dated<T: AsRef<str>>(records: &[T]) -> Vec<u8> {
+    let date = valued(&date_text(VALUED));
+    [joined(&[date]), joined(records)].concat()
 }
 
 /// Records with a CRLF after each.
@@ -88,22 +110,23 @@ pub fn quoted_at(record: &str, places: &[usize]) -> String {
     fields.join(",")
 }
 
-/// The records of a sheet: holdings, then lines.
+/// The records of a sheet: the valuation date, holdings, lines.
 ///
 /// # Panics
 ///
 /// If a side, kind, issuer or currency is unknown, or the columns differ in length.
 #[must_use]
 pub fn records(sheet: &Sheet) -> Vec<String> {
-    let mut records = Vec::with_capacity(sheet.side.len() + sheet.long.len());
+    let mut records = Vec::with_capacity(1 + sheet.side.len() + sheet.long.len());
+    records.push(valued(&date_text(sheet.date)));
     for (number, price) in sheet.price.iter().enumerate() {
         let row = sheet.row(number);
         let side = SIDES[row.side as usize];
         let kind = KINDS[row.kind as usize];
         let issuer = ISSUERS[row.issuer as usize];
         let currency = CURRENCIES[row.currency as usize];
-        let (days, value) = (row.days, row.value);
-        let fields = format!("{side},{kind},{issuer},{days},{value},{price}");
+        let (maturity, value) = (date_text(row.maturity), row.value);
+        let fields = format!("{side},{kind},{issuer},{maturity},{value},{price}");
         records.push(holding_in(currency, &fields));
     }
     for ((long, short), amount) in sheet.long.iter().zip(&sheet.short).zip(&sheet.amount) {

@@ -1,6 +1,6 @@
 //! Faults to plant in a proposal that is accepted, and the paper's order between them.
 
-use margin_calculator::{Row, Rows, Sheet};
+use margin_calculator::{Row, Sheet, VALUED};
 use margin_host::Line;
 
 use super::lent::Lent;
@@ -11,10 +11,14 @@ pub const PAIRS: u64 = 6;
 pub const LONE_LONG: u64 = 12;
 /// All holdings of the sound sheet: after the lone long comes a lone short.
 pub const HOLDINGS: u64 = 14;
+/// Stands for 24 of the valuation date among the numbers of faults.
+pub const VALUATION: u64 = 1_024;
 /// The numbers that the check can give.
-pub const NUMBERS: [u64; 18] = [
-    1, 2, 3, 4, 5, 6, 7, 8, 9, 10, 11, 12, 13, 14, 15, 16, 17, 23,
+pub const NUMBERS: [u64; 20] = [
+    1, 2, 3, 4, 5, 6, 7, 8, 9, 10, 11, 12, 13, 14, 15, 16, 17, 23, 24, VALUATION,
 ];
+/// The numbers of a holding's faults, in their order.
+const OF_A_HOLDING: [u64; 8] = [4, 5, 6, 24, 7, 8, 23, 10];
 /// The saving rate of a pair of the sound sheet is twice this, and this the price on each leg.
 const RATE: u64 = 8_760;
 
@@ -30,7 +34,7 @@ impl Fault {
     /// A fault at this holding or line; the second place is for 16 only.
     pub fn at(number: u64, place: u64, second: u64) -> Fault {
         let (place, second) = match number {
-            4..=8 | 10..=15 | 23 => (place, 0),
+            4..=8 | 10..=15 | 23 | 24 => (place, 0),
             16 => (place, second),
             _ => (0, 0),
         };
@@ -44,41 +48,51 @@ impl Fault {
     /// How many places there are for a fault of this number.
     pub fn places(number: u64) -> u64 {
         match number {
-            4..=8 | 10 | 23 => HOLDINGS,
+            4..=8 | 10 | 23 | 24 => HOLDINGS,
             11..=16 => PAIRS,
             _ => 1,
         }
     }
 
-    /// The papers' order: 1, 3, 9, 2; each holding in turn, 23 after 8; each line in turn; 16; 17.
+    /// The papers' order: 1, 3, 9, 2; 24 of the valuation date; each holding in turn; each line in turn; 16;
+    /// 17.
     pub fn turn(&self) -> (u64, u64, u64) {
         let group = match self.number {
             1 => 0,
             3 => 1,
             9 => 2,
             2 => 3,
-            4..=8 | 10 | 23 => 4,
-            11..=15 => 5,
-            16 => 6,
-            _ => 7,
+            VALUATION => 4,
+            4..=8 | 10 | 23 | 24 => 5,
+            11..=15 => 6,
+            16 => 7,
+            _ => 8,
         };
-        let number = if self.number == 23 { 9 } else { self.number };
+        let of_a_holding = OF_A_HOLDING
+            .iter()
+            .position(|number| *number == self.number);
+        let number = of_a_holding.map_or(self.number, |place| place as u64);
         (group, self.place, number)
     }
 
     /// What the check must say to it.
     pub fn answer(&self) -> (u64, u64, u64) {
-        (self.number, self.place, self.second)
+        let number = if self.number == VALUATION {
+            24
+        } else {
+            self.number
+        };
+        (number, self.place, self.second)
     }
 }
 
-/// Six longs and six shorts, ON coupons of 2,000 days, paired one with one; and two lone bonds.
+/// Six longs and six shorts, ON coupons of one maturity, paired one with one; and two lone bonds.
 pub fn sound() -> Sheet {
     let coupon = |side| Row {
         side,
         kind: 1,
         issuer: 7,
-        days: 2_000,
+        maturity: 2030_06_24,
         value: 1_000,
         currency: 0,
     };
@@ -86,11 +100,11 @@ pub fn sound() -> Sheet {
         side,
         kind: 0,
         issuer: 7,
-        days: 3_000,
+        maturity: 2033_03_20,
         value: 500,
         currency: 0,
     };
-    let mut sheet = Sheet::default();
+    let mut sheet = Sheet::empty(VALUED);
     for side in [0, 1] {
         for _ in 0..PAIRS {
             sheet.add_holding(coupon(side), RATE);
@@ -108,7 +122,8 @@ pub fn sound() -> Sheet {
     sheet
 }
 
-/// Plants faults in the sound sheet, which must not need the same entry.
+/// Plants faults in the sound sheet, which must not need the same entry; but a maturity that is no date also
+/// comes before the valuation date.
 pub fn plant(faults: &[Fault]) -> Lent {
     let mut sheet = sound();
     let mut planted = faults.to_vec();
@@ -135,7 +150,13 @@ fn plant_in_sheet(sheet: &mut Sheet, fault: &Fault, all: &[Fault]) {
         4 => sheet.side[at] = 2,
         5 => sheet.kind[at] = 3,
         6 => sheet.issuer[at] = 13,
-        7 => sheet.days[at] = if at.is_multiple_of(2) { 0 } else { 36_501 },
+        7 => {
+            sheet.maturity[at] = if at.is_multiple_of(2) {
+                VALUED
+            } else {
+                2125_01_02
+            }
+        }
         8 => {
             sheet.value[at] = if at.is_multiple_of(2) {
                 100_000_000_001
@@ -146,6 +167,14 @@ fn plant_in_sheet(sheet: &mut Sheet, fault: &Fault, all: &[Fault]) {
         9 => lengthen_lines(sheet),
         10 => sheet.price[at] = 43_801,
         23 => sheet.currency[at] = if at.is_multiple_of(2) { 3 } else { u64::MAX },
+        24 => {
+            sheet.maturity[at] = if at.is_multiple_of(2) {
+                2024_02_30
+            } else {
+                1899_12_31
+            }
+        }
+        VALUATION => sheet.date = 2025_02_29,
         // The leg that a wrong side on the same line leaves free.
         11 if all.contains(&Fault::at(12, fault.place, 0)) => sheet.long[at] = 1_000,
         11 => sheet.short[at] = 1_000,
@@ -174,7 +203,7 @@ fn lengthen_book(sheet: &mut Sheet) {
         side: 0,
         kind: 0,
         issuer: 7,
-        days: 3_000,
+        maturity: 2033_03_20,
         value: 500,
         currency: 0,
     };

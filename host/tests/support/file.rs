@@ -5,6 +5,7 @@ use std::io::Write;
 use std::ops::Range;
 
 use margin_calculator::samples::Random;
+use margin_calculator::texts::PRINTED;
 use margin_calculator::{Sheet, margin_read};
 use margin_host::{Columns, raw};
 
@@ -14,18 +15,21 @@ use super::lent::{NAMES, OF_HOLDINGS, pattern};
 const GUARD: usize = 13;
 /// The lists that a reader fills.
 pub const LISTS: usize = NAMES.len();
-/// The answer comes after the text and the lists.
-const ANSWER: usize = 1 + LISTS;
+/// The head comes after the text, then the lists and then the answer.
+const HEAD: usize = 1;
+const FIRST_LIST: usize = 2;
+const ANSWER: usize = FIRST_LIST + LISTS;
 
-/// What a reader gets: a text, and the lengths in bytes of the lists and of the answer.
+/// What a reader gets: a text, and the lengths in bytes of the head, of the lists and of the answer.
 #[derive(Clone, Debug)]
 pub struct File {
     pub text: Vec<u8>,
+    pub head: usize,
     pub lists: [usize; LISTS],
     pub answer: usize,
 }
 
-/// Text, lists and answer one after the other with guards between them, and where each lies.
+/// Text, head, lists and answer one after the other with guards between them, and where each lies.
 #[derive(Clone, PartialEq, Eq)]
 struct Memory {
     bytes: Vec<u8>,
@@ -39,7 +43,7 @@ pub struct Read {
     memory: Memory,
 }
 
-type Call = fn(&[u8], &mut Columns<&mut [u8]>, &mut [u8]) -> u64;
+type Call = fn(&[u8], &mut [u8], &mut Columns<&mut [u8]>, &mut [u8]) -> u64;
 
 impl File {
     /// A text, with lists that have room for every file.
@@ -52,6 +56,7 @@ impl File {
         let entries = |at| if at < OF_HOLDINGS { holdings } else { lines };
         File {
             text: text.to_vec(),
+            head: 8,
             lists: std::array::from_fn(|at| 8 * entries(at)),
             answer: 16,
         }
@@ -60,7 +65,7 @@ impl File {
     fn memory(&self) -> Memory {
         let mut spans = [const { 0..0 }; ANSWER + 1];
         let mut end = 1 + self.answer % 7;
-        let lengths = [self.text.len()].into_iter().chain(self.lists);
+        let lengths = [self.text.len(), self.head].into_iter().chain(self.lists);
         for (span, length) in spans.iter_mut().zip(lengths.chain([self.answer])) {
             let start = end + GUARD;
             end = start + length;
@@ -77,13 +82,13 @@ impl Memory {
         let mut memory = self.clone();
         let mut rest = memory.bytes.as_mut_slice();
         let mut taken = 0;
-        let [text, lists @ .., answer] = self.spans.each_ref().map(|span| {
+        let [text, head, lists @ .., answer] = self.spans.each_ref().map(|span| {
             let tail = std::mem::take(&mut rest).split_at_mut(span.start - taken).1;
             let (list, tail) = tail.split_at_mut(span.len());
             (rest, taken) = (tail, span.end);
             list
         });
-        let number = call(text, &mut Columns::from_array(lists), answer);
+        let number = call(text, head, &mut Columns::from_array(lists), answer);
         Read { number, memory }
     }
 
@@ -95,7 +100,11 @@ impl Memory {
 impl Read {
     /// One of the lists.
     pub fn list(&self, at: usize) -> &[u8] {
-        self.memory.part(1 + at)
+        self.memory.part(FIRST_LIST + at)
+    }
+
+    pub fn head(&self) -> &[u8] {
+        self.memory.part(HEAD)
     }
 
     pub fn answer(&self) -> &[u8] {
@@ -109,10 +118,11 @@ impl Read {
         Some((both as u64, (both >> 64) as u64))
     }
 
-    /// What was read, from the front of the lists.
+    /// What was read, from the front of the head and of the lists.
     pub fn sheet(&self) -> Sheet {
         let (holdings, lines) = self.figures().expect("a file that is read has an answer");
-        let mut sheet = Sheet::default();
+        let date = self.head().first_chunk().expect("and a head");
+        let mut sheet = Sheet::empty(u64::from_le_bytes(*date));
         for (at, list) in sheet.each_mut().into_array().into_iter().enumerate() {
             let count = if at < OF_HOLDINGS { holdings } else { lines } as usize;
             let entries = self.list(at).as_chunks::<8>().0;
@@ -128,16 +138,17 @@ impl Read {
     /// Whether only the entries of a file that is read, and the first 16 bytes of an answer that has
     /// them, differ from what was lent.
     fn keeps_what_it_must(&self, mut before: Memory) -> bool {
-        let mut written = Vec::with_capacity(ANSWER);
+        let mut written = Vec::with_capacity(ANSWER + 1);
         if let Some((holdings, lines)) = self.figures() {
             written.push((ANSWER, 16));
             if self.number == 0 {
+                written.push((HEAD, 8));
                 let lists = File::exact(&[], holdings as usize, lines as usize).lists;
                 written.extend(
                     lists
                         .into_iter()
                         .enumerate()
-                        .map(|(at, length)| (1 + at, length)),
+                        .map(|(at, length)| (FIRST_LIST + at, length)),
                 );
             }
         }
@@ -193,6 +204,7 @@ impl Files {
             "the answer: {}",
             story()
         );
+        assert!(ours.head() == calculated.head(), "the date: {}", story());
         for (at, name) in NAMES.iter().enumerate() {
             assert!(ours.list(at) == calculated.list(at), "{name}: {}", story());
         }
@@ -242,12 +254,14 @@ impl Files {
     fn story(&self, file: &File, what: &dyn Display) -> String {
         let File {
             text,
+            head,
             lists,
             answer,
         } = file;
         let shown = text[..text.len().min(2_000)].escape_ascii();
         format!(
-            "{}, seed {:#x}, file {}: {what}\n{} bytes: {shown}\nlists {lists:?}, answer {answer}",
+            "{}, seed {:#x}, file {}: {what}\n{} bytes: {shown}\nhead {head}, lists {lists:?}, \
+             answer {answer}",
             self.name,
             self.seed,
             self.count,
@@ -282,7 +296,12 @@ impl Drop for Files {
     }
 }
 
-/// A record of a holding or a line with another text for one field.
+/// The file of the printed date and one more record.
+pub fn after_date(record: impl AsRef<[u8]>) -> Vec<u8> {
+    [PRINTED[0].as_bytes(), b"\r\n", record.as_ref()].concat()
+}
+
+/// A record with another text for one field.
 pub fn with_field(record: &str, at: usize, field: &[u8]) -> Vec<u8> {
     let mut fields: Vec<&[u8]> = record.as_bytes().split(|byte| *byte == b',').collect();
     fields[at] = field;

@@ -2,14 +2,14 @@
 
 use std::fmt;
 
-use margin_calculator::{Rows, Sheet};
+use margin_calculator::Sheet;
 use margin_host::Columns;
 
 /// Bytes on each side of a list that nobody may write.
 const GUARD: usize = 24;
 /// The names of the columns in the order of the call.
 pub const NAMES: [&str; 10] = [
-    "side", "kind", "issuer", "days", "value", "price", "currency", "long", "short", "amount",
+    "side", "kind", "issuer", "maturity", "value", "price", "currency", "long", "short", "amount",
 ];
 /// How many of them are columns of the holdings; the rest are columns of the lines.
 pub const OF_HOLDINGS: usize = 7;
@@ -17,6 +17,7 @@ pub const OF_HOLDINGS: usize = 7;
 /// The bytes that a call gets. The lists are filled with a pattern.
 #[derive(Clone)]
 pub struct Lent {
+    pub date: u64,
     pub columns: [Vec<u8>; NAMES.len()],
     pub remainder: Vec<u8>,
     pub ranking: Vec<u8>,
@@ -34,7 +35,7 @@ pub struct Left {
     pub answer: Vec<u8>,
 }
 
-type Call = fn(&Columns<&[u8]>, &mut [u8], &mut [u8], &mut [u8]) -> u64;
+type Call = fn(u64, &Columns<&[u8]>, &mut [u8], &mut [u8], &mut [u8]) -> u64;
 
 impl Lent {
     /// The columns of a sheet, with lists that are as long as they must be.
@@ -42,6 +43,7 @@ impl Lent {
         let columns = sheet.bytes().into_array();
         let bytes = columns[0].len();
         Lent {
+            date: sheet.date,
             columns,
             remainder: pattern(bytes, 0x51),
             ranking: pattern(bytes, 0xA3),
@@ -71,7 +73,7 @@ impl Lent {
             let end = list.len() - GUARD;
             &mut list[GUARD + shift..end]
         });
-        let number = call(&lent, remainder, ranking, answer);
+        let number = call(self.date, &lent, remainder, ranking, answer);
         let [remainder, ranking, answer] =
             lists.each_ref().map(|list| inside(list, shift).to_vec());
         let beside = [&remainder, &ranking, &answer].map(|list| guarded(list, shift));
@@ -118,6 +120,7 @@ impl Left {
 
 impl fmt::Debug for Lent {
     fn fmt(&self, f: &mut fmt::Formatter<'_>) -> fmt::Result {
+        writeln!(f, "valued on {}", self.date)?;
         for (name, column) in NAMES.iter().zip(&self.columns) {
             let rest = &column[column.len() / 8 * 8..];
             writeln!(f, "{name}: {:?} and bytes {rest:?}", Left::entries(column))?;

@@ -1,6 +1,7 @@
-//! Sheets in the papers' numbers, and the papers' rates and pairs, typed from them.
+//! Sheets in the papers' numbers, and the papers' rates and pairs, typed from them. All are valued on
+//! 2025-01-01.
 
-use margin_calculator::{Row, Rows, Sheet};
+use margin_calculator::{Row, Sheet, VALUED, calendar};
 use margin_host::Line;
 
 use super::Run;
@@ -21,12 +22,12 @@ pub const USD: u64 = 1;
 pub const GBP: u64 = 2;
 
 /// A holding in CAD.
-pub fn holding(side: u64, kind: u64, issuer: u64, days: u64, value: u64) -> Row {
+pub fn holding(side: u64, kind: u64, issuer: u64, maturity: u64, value: u64) -> Row {
     Row {
         side,
         kind,
         issuer,
-        days,
+        maturity,
         value,
         currency: CAD,
     }
@@ -34,7 +35,7 @@ pub fn holding(side: u64, kind: u64, issuer: u64, days: u64, value: u64) -> Row 
 
 /// A sheet of holdings, each with its price, and of lines.
 pub fn sheet(holdings: &[(Row, u64)], lines: &[(u64, u64, u64)]) -> Sheet {
-    let mut sheet = Sheet::default();
+    let mut sheet = Sheet::empty(VALUED);
     for (holding, price) in holdings {
         sheet.add_holding(*holding, *price);
     }
@@ -48,14 +49,14 @@ pub fn sheet(holdings: &[(Row, u64)], lines: &[(u64, u64, u64)]) -> Sheet {
     sheet
 }
 
-/// A leg of a pair: kind, issuer, days and currency.
+/// A leg of a pair: kind, issuer, maturity and currency.
 pub type Leg = (u64, u64, u64, u64);
 
 /// The holding of one cent that a leg is.
-pub fn one_cent(side: u64, (kind, issuer, days, currency): Leg) -> Row {
+pub fn one_cent(side: u64, (kind, issuer, maturity, currency): Leg) -> Row {
     Row {
         currency,
-        ..holding(side, kind, issuer, days, 1)
+        ..holding(side, kind, issuer, maturity, 1)
     }
 }
 
@@ -68,39 +69,46 @@ pub fn two_legs(long: Leg, price: u64, short: Leg) -> Lent {
 /// The paper's table, typed from it: the first day, the last day, and the rates of Canada bond, Canada
 /// strip, province bond and province strip.
 const TABLE: [(u64, u64, [u64; 4]); 5] = [
-    (366, 1_095, [1_460, 2_190, 4_380, 6_570]),
-    (1_096, 2_555, [2_920, 4_380, 5_840, 8_760]),
-    (2_556, 4_015, [5_840, 8_760, 7_300, 10_950]),
-    (4_016, 7_299, [5_840, 8_760, 7_300, 10_950]),
-    (7_300, 36_500, [5_840, 17_520, 7_300, 21_900]),
+    (2026_01_02, 2028_01_01, [1_460, 2_190, 4_380, 6_570]),
+    (2028_01_02, 2032_01_01, [2_920, 4_380, 5_840, 8_760]),
+    (2032_01_02, 2036_01_01, [5_840, 8_760, 7_300, 10_950]),
+    (2036_01_02, 2044_12_31, [5_840, 8_760, 7_300, 10_950]),
+    (2045_01_01, 2125_01_01, [5_840, 17_520, 7_300, 21_900]),
 ];
 
+/// Every maturity that is held.
+pub fn maturities() -> impl Iterator<Item = u64> {
+    let held = |date: &u64| VALUED < *date && *date <= 2125_01_01;
+    calendar::dates().iter().copied().filter(held)
+}
+
 /// The paper's rate, in which US and GB have the columns of Canada.
-pub fn paper_rate(kind: u64, issuer: u64, days: u64) -> u64 {
+pub fn paper_rate(kind: u64, issuer: u64, maturity: u64) -> u64 {
     let of_a_province = ![CA, US, GB].contains(&issuer);
     let column = usize::from(kind > 0) + if of_a_province { 2 } else { 0 };
     match TABLE
         .iter()
-        .find(|(first, last, _)| (*first..=*last).contains(&days))
+        .find(|(first, last, _)| (*first..=*last).contains(&maturity))
     {
         Some((_, _, rates)) => rates[column],
-        None => [4, 6, 8, 12][column] * days,
+        None => [4, 6, 8, 12][column] * calendar::days_between(VALUED, maturity),
     }
 }
 
-/// The paper's periods, as far as two days are concerned.
+/// The paper's periods, as far as two maturities are concerned.
 fn same_period(one: u64, other: u64) -> bool {
-    [365, 1_095, 2_555, 4_015]
+    [2026_01_01, 2028_01_01, 2032_01_01, 2036_01_01]
         .iter()
         .all(|end| (one <= *end) == (other <= *end))
 }
 
 /// The papers' rate of a pair and what it saves, where it is allowed.
 pub fn paper_pair(long: Leg, short: Leg) -> Option<(u64, u64)> {
-    let [one, other] = [long, short].map(|(kind, issuer, days, _)| paper_rate(kind, issuer, days));
-    let ((first, issuer, days, currency), (second, partner, other_days, other_currency)) =
+    let [one, other] =
+        [long, short].map(|(kind, issuer, maturity, _)| paper_rate(kind, issuer, maturity));
+    let ((first, issuer, maturity, currency), (second, partner, other_maturity, other_currency)) =
         (long, short);
-    if !same_period(days, other_days) || currency != other_currency {
+    if !same_period(maturity, other_maturity) || currency != other_currency {
         return None;
     }
     let rate = if currency == CAD {

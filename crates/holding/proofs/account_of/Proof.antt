@@ -1,6 +1,5 @@
 -- `account_of` is `headedOf`: a head without fault has its account. Assumes nothing.
 use mathlib.Core.Path.{sym, _∙_}
-use native.Mathlib.Omega.{arith}
 use Rattle.holding.specs.Holding.{accountOf}
 use Rattle.holding.proofs.Heads.{head-fits, head-account, head-none}
 use borrow.Author.Needs.{needs}

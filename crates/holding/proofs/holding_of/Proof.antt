@@ -1,6 +1,5 @@
 -- `holding_of` builds what `Builds` says: a row without fault makes its record, any other is refused with its fault. Assumes nothing.
 use mathlib.Core.Path.{sym, _∙_}
-use native.Mathlib.Omega.{arith}
 use borrow.Author.Tests.{eq-eqb, ne-eqb}
 use Rattle.dates.proofs.Tested.{date-high}
 use Rattle.holding.specs.Holding.{builtOf, holdingOf}

@@ -40,9 +40,9 @@ margin-check-spec =
     (λ c κs.
     let few = c .before .before .before .before .before .before .before .if1 .taken in
     unfold entries in record { legs-held = λ _. omega arith; left-held = λ _. omega arith; margins-held = λ _. omega arith; ranks-held = λ _. omega arith })
-    (λ c. small c .judge .kept .1 .1 .1 .1 .1 .1 .1 .1 .1 .1 .0)
     (λ c. small c .judge .kept .1 .1 .1 .1 .1 .1 .1 .1 .1 .1 .1 .0)
     (λ c. small c .judge .kept .1 .1 .1 .1 .1 .1 .1 .1 .1 .1 .1 .1 .0)
+    (λ c. small c .judge .kept .1 .1 .1 .1 .1 .1 .1 .1 .1 .1 .1 .1 .1 .0)
     (λ c. small c .judge .ensures)
     (λ c κs. tt)
     (λ c κs. tt)
@@ -53,7 +53,7 @@ margin-check-spec =
     (λ c. sym (many (c .before .before .before .before .before .before .before .zeros3 .ensures)))
     (λ c. sym (many (c .before .before .before .before .before .before .before .zeros4 .ensures)))
     (λ c κs. room (made c .before .before .before .zeros .ensures) (made c .before .before .zeros2 .ensures) (made c .before .zeros3 .ensures) (made c .zeros4 .ensures))
-    (λ c. large c .judge2 .kept .1 .1 .1 .1 .1 .1 .1 .1 .1 .1 .0)
     (λ c. large c .judge2 .kept .1 .1 .1 .1 .1 .1 .1 .1 .1 .1 .1 .0)
     (λ c. large c .judge2 .kept .1 .1 .1 .1 .1 .1 .1 .1 .1 .1 .1 .1 .0)
+    (λ c. large c .judge2 .kept .1 .1 .1 .1 .1 .1 .1 .1 .1 .1 .1 .1 .1 .0)
     (λ c. large c .judge2 .ensures))

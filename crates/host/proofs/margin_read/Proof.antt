@@ -6,15 +6,15 @@ use Rattle.host.proofs.margin_read.Statement.{statement}
 use Rattle.host.proofs.margin_read.Tie as tie
 
 -- from the end of each way back to where the text was read
-abbrev read-small : tie.After-slice-known22 → tie.After-read-into
+abbrev read-small : tie.After-slice-known24 → tie.After-read-into
 read-small c =
-    let half = c .before .before .before .before .before .before .before .before .before .before .before .before in
-    half .before .before .before .before .before .before .before .before .before .before .before .before
+    let half = c .before .before .before .before .before .before .before .before .before .before .before .before .before in
+    half .before .before .before .before .before .before .before .before .before .before .before .before .before
 
-abbrev read-large : tie.After-slice-known33 → tie.After-read-into2
+abbrev read-large : tie.After-slice-known36 → tie.After-read-into2
 read-large c =
-    let half = c .before .before .before .before .before .before .before .before .before .before .before .before in
-    half .before .before .before .before .before .before .before .before .before .before .before .before
+    let half = c .before .before .before .before .before .before .before .before .before .before .before .before .before in
+    half .before .before .before .before .before .before .before .before .before .before .before .before .before
 
 -- up to 64 bytes are up to 64 records
 pub margin-read-spec : {M : Type 1} → statement M
@@ -24,7 +24,7 @@ margin-read-spec =
     (λ c. search needs)
     (λ c. search needs)
     (λ c κs.
-    record { whole-book = refl; whole-lines = refl; enough = λ _. c .before .before .before .before .before .before .before .before .before .before .before .before .before .if1 .taken })
+    record { whole-book = refl; whole-lines = refl; enough = λ _. c .before .before .before .before .before .before .before .before .before .before .before .before .before .before .if1 .taken })
     (λ c. read-small c .read-into .kept .1 .1 .1 .1 .0)
     (λ c. read-small c .read-into .kept .1 .1 .1 .1 .1 .0)
     (λ c. read-small c .read-into .kept .1 .1 .1 .1 .1 .1 .0)
@@ -36,6 +36,7 @@ margin-read-spec =
     (λ c. read-small c .read-into .kept .1 .1 .1 .1 .1 .1 .1 .1 .1 .1 .1 .1 .0)
     (λ c. read-small c .read-into .kept .1 .1 .1 .1 .1 .1 .1 .1 .1 .1 .1 .1 .1 .0)
     (λ c. read-small c .read-into .kept .1 .1 .1 .1 .1 .1 .1 .1 .1 .1 .1 .1 .1 .1 .0)
+    (λ c. read-small c .read-into .kept .1 .1 .1 .1 .1 .1 .1 .1 .1 .1 .1 .1 .1 .1 .1 .0)
     (λ c. read-small c .read-into .ensures)
     (λ c. search needs)
     (λ c. search needs)
@@ -51,4 +52,5 @@ margin-read-spec =
     (λ c. read-large c .read-into2 .kept .1 .1 .1 .1 .1 .1 .1 .1 .1 .1 .1 .1 .0)
     (λ c. read-large c .read-into2 .kept .1 .1 .1 .1 .1 .1 .1 .1 .1 .1 .1 .1 .1 .0)
     (λ c. read-large c .read-into2 .kept .1 .1 .1 .1 .1 .1 .1 .1 .1 .1 .1 .1 .1 .1 .0)
+    (λ c. read-large c .read-into2 .kept .1 .1 .1 .1 .1 .1 .1 .1 .1 .1 .1 .1 .1 .1 .1 .0)
     (λ c. read-large c .read-into2 .ensures))

@@ -4,17 +4,20 @@ use mathlib.Core.List.{List, [], _∷_}
 use Prim.Native.Nat.{ℕ}
 use borrow.Author.Needs.{needs}
 use Rattle.columns.specs.Columns.{holdingSizes, lineSizes}
-use Rattle.received.proofs.Received.{short, record-refused, measured, list-refused, book-room, lines-room, all-read}
+use Rattle.received.proofs.Received.{short, record-refused, measured, list-refused, head-room, book-room, lines-room, all-read}
 use Rattle.received.proofs.read_into.Statement.{statement}
 use Rattle.received.proofs.read_into.Tie as tie
 
 -- from where the text was read back to what is lent
 module _ (c : tie.After-read) where
   abbrev start : tie.Start
-  start = c .before .before .before .before .before .before .before .before .before .before .before .before .before .before .before .before .before
+  start = c .before .before .before .before .before .before .before .before .before .before .before .before .before .before .before .before .before .before
 
   abbrev text : List ℕ
   text = start .args .text .now
+
+  abbrev head : List ℕ
+  head = start .args .head .now
 
   abbrev answer : List ℕ
   answer = start .args .answer .now
@@ -22,7 +25,7 @@ module _ (c : tie.After-read) where
   abbrev held : List (List ℕ)
   held =
       let a = start .args in
-      a .side .now ∷ a .kind .now ∷ a .issuer .now ∷ a .days .now ∷ a .value .now ∷ a .price .now ∷ a .currency .now ∷ []
+      a .side .now ∷ a .kind .now ∷ a .issuer .now ∷ a .maturity .now ∷ a .value .now ∷ a .price .now ∷ a .currency .now ∷ []
 
   abbrev taken : List (List ℕ)
   taken = start .args .long .now ∷ start .args .short .now ∷ start .args .amount .now ∷ []
@@ -31,62 +34,77 @@ module _ (c : tie.After-read) where
 abbrev file : tie.After-columns-too-short → tie.After-read
 file c = c .before .before .before .before .before .before .before .before
 
-same : (c : tie.After-columns-too-short) → c .columns-too-short .result ≡ short (text (file c)) (held (file c)) (taken (file c)) (answer (file c))
+same : (c : tie.After-columns-too-short) → c .columns-too-short .result ≡ short (text (file c)) (head (file c)) (held (file c)) (taken (file c)) (answer (file c))
 unfolding holdingSizes lineSizes
-same c = measured (text (file c)) (held (file c)) (taken (file c)) (answer (file c)) (file c .read .ensures) (c .before .before .contents2 .given .1) (c .columns-too-short .ensures)
+same c =
+    let f = file c in
+    measured (text f) (head f) (held f) (taken f) (answer f) (f .read .ensures) (c .before .before .contents2 .given .1) (c .columns-too-short .ensures)
 
 -- from the answer to a list too short back to the lists, and from that to a record back to the text
-abbrev too-short : tie.After-slice-known17 → tie.Then1
+abbrev too-short : tie.After-slice-known18 → tie.Then1
 too-short c = c .before .before .before .before
 
-abbrev refused : tie.After-slice-known16 → tie.After-contents
+abbrev refused : tie.After-slice-known17 → tie.After-contents
 refused c = c .before .before .before .before .before
 
-abbrev refused-file : tie.After-slice-known16 → tie.After-read
+abbrev refused-file : tie.After-slice-known17 → tie.After-read
 refused-file c = refused c .before .before .before .before .before .before
 
--- from the tables copied back to the lists that have room
-abbrev fitting : tie.After-copy-book-arg8 → tie.Else1
-fitting c = c .before .before .before .before .before .before .before .before
+-- from the tables copied back to the date put, and to the lists that have room
+abbrev dated : tie.After-copy-book-arg8 → tie.After-put-word
+dated c = c .before .before .before .before .before .before .before .before .before .before
+
+abbrev fitting : tie.After-put-word → tie.Else1
+fitting c = c .before .before
 
 abbrev booked : tie.After-copy-lines-arg4 → tie.After-copy-book
 booked c = c .before .before .before .before .before .before .before .before .before .before .before .before .before .before .before .before .before .before
 
 -- from the answer to a text that was read back to the tables copied
-module _ (c : tie.After-slice-known28) where
+module _ (c : tie.After-slice-known30) where
   abbrev lined : tie.After-copy-lines
   lined = c .before .before .before .before .before .before .before .before .before .before
 
   abbrev book-copied : tie.After-copy-book
   book-copied = booked (lined .before)
 
+  abbrev date-put : tie.After-put-word
+  date-put = dated (book-copied .before)
+
   abbrev fits : tie.Else1
-  fits = fitting (book-copied .before)
+  fits = fitting date-put
 
 returns : tie.Need-returns
 returns c =
     let asked = too-short c .before in
     let f = file asked in
-    list-refused (text f) (held f) (taken f) (answer f) (f .read .ensures) (asked .before .before .contents2 .given .1) (same asked) _ _ (too-short c .if1 .taken)
+    list-refused (text f) (head f) (held f) (taken f) (answer f) (f .read .ensures) (asked .before .before .contents2 .given .1) (same asked) _ _ (too-short c .if1 .taken)
     (c .before .before .put-answer2 .ensures)
+
+put-word-requires : tie.Need-put-word-requires
+put-word-requires c κs =
+    let asked = c .before .before in
+    let f = file asked in
+    head-room (text f) (head f) (held f) (taken f) (answer f) (f .read .ensures) (asked .before .before .contents2 .given .1) (same asked) (c .before .if1 .left)
 
 copy-book-requires : tie.Need-copy-book-requires
 copy-book-requires c κs =
-    let asked = fitting c .before in
+    let fits = fitting (dated c) in
+    let asked = fits .before in
     let f = file asked in
-    book-room (text f) (held f) (taken f) (answer f) (f .read .ensures) (asked .before .before .contents2 .given .1) (same asked) (fitting c .if1 .left) (start f .pre) refl
+    book-room (text f) (head f) (held f) (taken f) (answer f) (f .read .ensures) (asked .before .before .contents2 .given .1) (same asked) (fits .if1 .left) (start f .pre) refl
 
 copy-lines-requires : tie.Need-copy-lines-requires
 copy-lines-requires c κs =
-    let fits = fitting (booked c .before) in
+    let fits = fitting (dated (booked c .before)) in
     let asked = fits .before in
     let f = file asked in
-    lines-room (text f) (held f) (taken f) (answer f) (f .read .ensures) (asked .before .before .contents2 .given .1) (same asked) (fits .if1 .left) (start f .pre) refl
+    lines-room (text f) (head f) (held f) (taken f) (answer f) (f .read .ensures) (asked .before .before .contents2 .given .1) (same asked) (fits .if1 .left) (start f .pre) refl
 
 returns-2 : tie.Need-returns-2
 returns-2 c =
     let f = refused-file c in
-    record-refused (text f) (held f) (taken f) (answer f) (f .read .ensures) _ _ (refused c .contents .given .1) (c .before .before .put-answer .ensures)
+    record-refused (text f) (head f) (held f) (taken f) (answer f) (f .read .ensures) _ _ (refused c .contents .given .1) (c .before .before .put-answer .ensures)
 
 returns-3 : tie.Need-returns-3
 returns-3 c =
@@ -94,15 +112,16 @@ returns-3 c =
     let f = file asked in
     let b = book-copied c .copy-book .last .1 .1 .1 in
     let l = lined c .copy-lines .last .1 .1 .1 in
-    all-read (text f) (held f) (taken f) (answer f) (f .read .ensures) (asked .before .before .contents2 .given .1)
+    all-read (text f) (head f) (held f) (taken f) (answer f) (f .read .ensures) (asked .before .before .contents2 .given .1)
+    {head′ = date-put c .put-word .last .0}
     {table′ = b .0 ∷ b .1 .0 ∷ b .1 .1 .0 ∷ b .1 .1 .1 .0 ∷ b .1 .1 .1 .1 .0 ∷ b .1 .1 .1 .1 .1 .0 ∷ b .1 .1 .1 .1 .1 .1 .0 ∷ []} {lined′ = l .0 ∷ l .1 .0 ∷ l .1 .1 .0 ∷ []}
-    _ _ (same asked) (fits c .if1 .left) refl refl (book-copied c .copy-book .ensures) (lined c .copy-lines .ensures) (c .before .before .put-answer3 .ensures)
+    _ _ (same asked) (fits c .if1 .left) refl refl (date-put c .put-word .ensures) (book-copied c .copy-book .ensures) (lined c .copy-lines .ensures) (c .before .before .put-answer3 .ensures)
 
 pub read-into-spec : {M : Type 1} → statement M
 read-into-spec =
     tie.close
     (tie.spec
-    (λ c κs. c .before .before .before .before .before .before .before .before .before .before .before .before .before .before .before .before .pre)
+    (λ c κs. c .before .before .before .before .before .before .before .before .before .before .before .before .before .before .before .before .before .pre)
     (λ c. search needs)
     (λ c κs. tt)
     (λ c. search needs)
@@ -112,6 +131,7 @@ read-into-spec =
     (λ c. file (too-short c .before) .read .kept .1 .1 .1 .0)
     (λ c. c .before .before .put-answer2 .kept .1 .1 .1 .0)
     returns
+    put-word-requires
     copy-book-requires
     copy-lines-requires
     (λ c κs. tt)
@@ -121,6 +141,7 @@ read-into-spec =
     returns-2
     (λ c. file (fits c .before) .read .kept .1 .1 .0)
     (λ c. file (fits c .before) .read .kept .1 .1 .1 .0)
+    (λ c. date-put c .put-word .kept .0)
     (λ c. book-copied c .copy-book .kept .1 .1 .1 .0)
     (λ c. book-copied c .copy-book .kept .1 .1 .1 .1 .0)
     (λ c. book-copied c .copy-book .kept .1 .1 .1 .1 .1 .0)

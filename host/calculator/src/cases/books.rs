@@ -2,15 +2,15 @@
 
 use super::{Files, List};
 use crate::Sheet;
-use crate::samples::{ANY, DOMESTIC, Random, SHAPES, best_sheet, holdings, split_lines};
-use crate::texts::{file, holding, joined, quoted, records, text_of};
+use crate::samples::{ANY, DOMESTIC, Random, SHAPES, best_sheet, book, split_lines};
+use crate::texts::{dated, file, holding, joined, quoted, records, text_of};
 
 const SEED: u64 = 0x0C01;
 
 const TIES: Files<3> = [
     (
         "ties: four holdings alike",
-        &["L,C,ON,2000,1000,0"; 4],
+        &["L,C,ON,2030-06-24,1000,0"; 4],
         &[],
         "M,35040000,240",
     ),
@@ -18,10 +18,10 @@ const TIES: Files<3> = [
     (
         "ties: equal units of different holdings",
         &[
-            "L,C,ON,2000,1,0",
-            "L,C,CA,2000,2,0",
-            "L,C,ON,2000,1,0",
-            "L,B,CA,1,1,0",
+            "L,C,ON,2030-06-24,1,0",
+            "L,C,CA,2030-06-24,2,0",
+            "L,C,ON,2030-06-24,1,0",
+            "L,B,CA,2025-01-02,1,0",
         ],
         &[],
         "M,26284,1",
@@ -29,10 +29,10 @@ const TIES: Files<3> = [
     (
         "ranking: nothing left of two holdings",
         &[
-            "L,B,CA,400,1,0",
-            "L,C,SK,50,9,1200",
-            "S,R,SK,50,9,0",
-            "L,B,CA,400,2,0",
+            "L,B,CA,2026-02-05,1,0",
+            "L,C,SK,2025-02-20,9,1200",
+            "S,R,SK,2025-02-20,9,0",
+            "L,B,CA,2026-02-05,2,0",
         ],
         &["1,2,9"],
         "M,4380,1",
@@ -42,7 +42,7 @@ const TIES: Files<3> = [
 pub(super) fn add(list: &mut List) {
     let mut random = Random::new(SEED);
     for shape in &SHAPES {
-        let sheet = best_sheet(&holdings(&mut random, shape, 20));
+        let sheet = best_sheet(&book(&mut random, shape, 20));
         list.add(
             format!("best proposal: {}", shape.name),
             text_of(&sheet),
@@ -50,14 +50,14 @@ pub(super) fn add(list: &mut List) {
         );
     }
     for size in [1, 2, 3, 8, 34, 89, 255, 256] {
-        let sheet = best_sheet(&holdings(&mut random, &DOMESTIC, size));
+        let sheet = best_sheet(&book(&mut random, &DOMESTIC, size));
         list.add(
             format!("best proposal of {size} holdings"),
             text_of(&sheet),
             "",
         );
     }
-    let sheet = best_sheet(&holdings(&mut random, &ANY, 256));
+    let sheet = best_sheet(&book(&mut random, &ANY, 256));
     let title = "best proposal of 256 holdings in any currency";
     list.add(title, text_of(&sheet), "");
     full(list, &mut random);
@@ -67,7 +67,7 @@ pub(super) fn add(list: &mut List) {
 
 /// As many holdings and lines as there may be, every field in quotes.
 fn full(list: &mut List, random: &mut Random) {
-    let mut sheet = best_sheet(&holdings(random, &DOMESTIC, 256));
+    let mut sheet = best_sheet(&book(random, &DOMESTIC, 256));
     split_lines(&mut sheet, 512);
     let all: Vec<String> = records(&sheet)
         .iter()
@@ -79,7 +79,7 @@ fn full(list: &mut List, random: &mut Random) {
 /// Best proposals with one number changed a little.
 fn next_to_best(list: &mut List, random: &mut Random) {
     for shape in SHAPES.iter().step_by(2) {
-        let mut sheet = best_sheet(&holdings(random, shape, 12));
+        let mut sheet = best_sheet(&book(random, shape, 12));
         let what = change(random, &mut sheet);
         list.add(
             format!("next to best, {}: {what}", shape.name),
@@ -91,7 +91,7 @@ fn next_to_best(list: &mut List, random: &mut Random) {
 
 fn change(random: &mut Random, sheet: &mut Sheet) -> &'static str {
     let (names, first) = if sheet.long.is_empty() || random.below(2) == 0 {
-        (&["days", "value", "price"][..], 3)
+        (&["maturity", "value", "price"][..], 3)
     } else {
         (&["long", "short", "amount"][..], 7)
     };
@@ -116,8 +116,8 @@ fn ties(list: &mut List) {
         list.add(title, file(holdings, lines), first);
     }
     let rising: Vec<String> = (1..=9)
-        .map(|value| holding(&format!("S,B,MB,900,{value},0")))
+        .map(|value| holding(&format!("S,B,MB,2027-06-20,{value},0")))
         .collect();
     let title = "ranking: the largest last in the file";
-    list.add(title, joined(&rising), "M,197100,2");
+    list.add(title, dated(&rising), "M,197100,2");
 }

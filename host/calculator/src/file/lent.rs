@@ -7,13 +7,19 @@ use crate::Sheet;
 
 /// Returns the refusal number, 0 for accepted, and leaves in the lists what the reader must leave there.
 #[must_use]
-pub fn margin_read(text: &[u8], columns: &mut Columns<&mut [u8]>, answer: &mut [u8]) -> u64 {
+pub fn margin_read(
+    text: &[u8],
+    head: &mut [u8],
+    columns: &mut Columns<&mut [u8]>,
+    answer: &mut [u8],
+) -> u64 {
     let fitting = read(text).and_then(|sheet| {
-        let fits = fits(&sheet, columns) && answer.len() >= 16;
+        let fits = head.len() >= 8 && fits(&sheet, columns) && answer.len() >= 16;
         fits.then_some(sheet).ok_or(Refusal::ListTooShort)
     });
     let (number, first, second) = match &fitting {
         Ok(sheet) => {
+            head[..8].copy_from_slice(&sheet.date.to_le_bytes());
             write_columns(sheet, columns);
             (0, sheet.side.len() as u64, sheet.long.len() as u64)
         }
@@ -26,7 +32,7 @@ pub fn margin_read(text: &[u8], columns: &mut Columns<&mut [u8]>, answer: &mut [
     number
 }
 
-/// Whether each list has room for what it must hold.
+/// Whether each column has room for what it must hold.
 fn fits(sheet: &Sheet, columns: &Columns<&mut [u8]>) -> bool {
     let wanted = sheet.each_ref().map(Vec::len).into_array();
     let lent = columns.each_ref().map(|list| list.len()).into_array();

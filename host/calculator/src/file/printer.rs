@@ -3,7 +3,7 @@
 use margin_host::Refusal;
 
 use super::reader::read;
-use crate::{Position, Rows, Sheet, margin_check};
+use crate::{Sheet, margin_check};
 
 /// The lines M and R of an accepted file, or the line X of a refused one, each with its CRLF.
 #[must_use]
@@ -23,7 +23,8 @@ fn report(sheet: &Sheet) -> Result<Vec<String>, Refusal> {
     let (mut remainder, mut ranking, mut answer) = (vec![0; bytes], vec![0; bytes], [0; 16]);
     let columns = sheet.bytes();
     let columns = columns.each_ref().map(Vec::as_slice);
-    let number = margin_check(&columns, &mut remainder, &mut ranking, &mut answer);
+    let date = sheet.date;
+    let number = margin_check(date, &columns, &mut remainder, &mut ranking, &mut answer);
     let [first, second] = [0, 1].map(|at| entry(&answer, at));
     if number != 0 {
         let refusal = Refusal::from_parts(number, first, second);
@@ -33,7 +34,7 @@ fn report(sheet: &Sheet) -> Result<Vec<String>, Refusal> {
     for rank in 0..sheet.side.len() {
         let holding = entry(&ranking, rank) as usize;
         let left = entry(&remainder, holding);
-        let units = Position::of(&sheet.row(holding)).rate * left;
+        let units = sheet.position(holding).rate * left;
         lines.push(format!("R,{holding},{left},{units}"));
     }
     Ok(lines)
@@ -65,12 +66,17 @@ mod tests {
     #[test]
     fn refused_files() {
         assert_eq!(print_with("6570", "6569"), b"X,16,0,2\r\n");
-        assert_eq!(print_with("P,0,2", "P,0,\"2"), b"X,19,4,0\r\n");
+        assert_eq!(print_with("P,0,2", "P,0,\"2"), b"X,19,5,0\r\n");
+        assert_eq!(print_with("2025-01-01", "2025-02-29"), b"X,24,0,0\r\n");
+        assert_eq!(print_with("2025-01-01", "2030-06-24"), b"X,7,0,0\r\n");
         assert_eq!(print(&[b','; 65_537]), b"X,18,0,0\r\n");
     }
 
     #[test]
-    fn the_empty_file() {
-        assert_eq!(print(b""), b"M,0,0\r\n");
+    fn files_without_a_holding() {
+        assert_eq!(print(b""), b"X,22,0,0\r\n");
+        assert_eq!(print(&joined(&PRINTED[..1])), b"M,0,0\r\n");
+        assert_eq!(print(&joined(&PRINTED[1..])), b"X,22,0,0\r\n");
+        assert_eq!(print(&joined(&[PRINTED[0]; 2])), b"X,22,1,0\r\n");
     }
 }

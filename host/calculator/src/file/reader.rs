@@ -4,7 +4,7 @@ use margin_host::{Line, Refusal};
 
 use super::records::{IllFormed, Records};
 use crate::plain::{MOST_HOLDINGS, MOST_LINES};
-use crate::{Row, Rows, Sheet};
+use crate::{Row, Sheet};
 
 /// A longer file is refused.
 pub const MOST_BYTES: usize = 65_536;
@@ -26,6 +26,8 @@ const DIGITS: usize = 6;
 
 /// The contents of a record.
 enum Contents {
+    /// The valuation date.
+    Date(u64),
     /// A holding and its price.
     Holding(Row, u64),
     Line(Line),
@@ -35,12 +37,16 @@ enum Contents {
 ///
 /// # Errors
 ///
-/// The first refusal in the reader's order: 18; each record in turn 19 to 22, then 3 or 9.
+/// The first refusal in the reader's order: 18; 22 for an empty file; each record in turn 19 to 22, then 3 or
+/// 9.
 pub fn read(text: &[u8]) -> Result<Sheet, Refusal> {
     if text.len() > MOST_BYTES {
         return Err(Refusal::FileTooLong);
     }
-    let mut sheet = Sheet::default();
+    if text.is_empty() {
+        return Err(Refusal::RecordOutOfOrder { record: 0 });
+    }
+    let mut sheet = Sheet::empty(0);
     let mut records = Records::of(text);
     let mut record = 0;
     while let Some(found) = records.next() {
@@ -48,16 +54,23 @@ pub fn read(text: &[u8]) -> Result<Sheet, Refusal> {
         let fields = found
             .fields()
             .ok_or(Refusal::WrongNumberOfFields { record })?;
-        match contents(fields).ok_or(Refusal::FieldNotOfItsSort { record })? {
-            Contents::Holding(..) if !sheet.long.is_empty() => {
-                return Err(Refusal::HoldingAfterLine { record });
-            }
+        let contents = contents(fields).ok_or(Refusal::FieldNotOfItsSort { record })?;
+        let in_order = match contents {
+            Contents::Date(_) => record == 0,
+            Contents::Holding(..) => record > 0 && sheet.long.is_empty(),
+            Contents::Line(_) => record > 0,
+        };
+        if !in_order {
+            return Err(Refusal::RecordOutOfOrder { record });
+        }
+        match contents {
             Contents::Holding(..) if sheet.side.len() == MOST_HOLDINGS => {
                 return Err(Refusal::TooManyHoldings);
             }
             Contents::Line(_) if sheet.long.len() == MOST_LINES => {
                 return Err(Refusal::TooManyLines);
             }
+            Contents::Date(date) => sheet.date = date,
             Contents::Holding(holding, price) => sheet.add_holding(holding, price),
             Contents::Line(line) => sheet.add_line(line),
         }
@@ -68,12 +81,13 @@ pub fn read(text: &[u8]) -> Result<Sheet, Refusal> {
 
 fn contents(fields: [&[u8]; FIELDS]) -> Option<Contents> {
     match fields {
-        [b"H", side, kind, issuer, days, value, price, currency] => {
+        [b"D", day, b"", b"", b"", b"", b"", b""] => Some(Contents::Date(date(day)?)),
+        [b"H", side, kind, issuer, maturity, value, price, currency] => {
             let holding = Row {
                 side: place_among(&SIDES, side)?,
                 kind: place_among(&KINDS, kind)?,
                 issuer: place_among(&ISSUERS, issuer)?,
-                days: numeral(days, DIGITS)?,
+                maturity: date(maturity)?,
                 value: numeral(value, DIGITS_OF_CENTS)?,
                 currency: place_among(&CURRENCIES, currency)?,
             };
@@ -93,6 +107,21 @@ fn place_among(texts: &[&str], field: &[u8]) -> Option<u64> {
     Some(place as u64)
 }
 
+/// The number YYYYMMDD that a field of the form YYYY-MM-DD writes; it need be no date.
+fn date(field: &[u8]) -> Option<u64> {
+    let &[a, b, c, d, b'-', e, f, b'-', g, h] = field else {
+        return None;
+    };
+    let mut number = 0;
+    for digit in [a, b, c, d, e, f, g, h] {
+        if !digit.is_ascii_digit() {
+            return None;
+        }
+        number = 10 * number + u64::from(digit - b'0');
+    }
+    Some(number)
+}
+
 /// The number that a field writes. It has neither sign nor leading zero if it is no longer than its
 /// number.
 fn numeral(field: &[u8], most: usize) -> Option<u64> {
@@ -108,7 +137,43 @@ fn numeral(field: &[u8], most: usize) -> Option<u64> {
 
 #[cfg(test)]
 mod tests {
-    use super::numeral;
+    use super::{date, numeral};
+
+    #[test]
+    fn dates() {
+        for (field, number) in [
+            ("2025-01-01", 2025_01_01),
+            ("2299-12-31", 2299_12_31),
+            ("2025-02-30", 2025_02_30),
+            ("0000-00-00", 0),
+            ("9999-99-99", 9999_99_99),
+        ] {
+            assert_eq!(date(field.as_bytes()), Some(number), "{field}");
+        }
+        for field in [
+            "",
+            "2025",
+            "20250101",
+            "2025-1-01",
+            "2025-01-1",
+            "025-01-01",
+            "02025-01-01",
+            "2025-001-01",
+            "2025/01/01",
+            "2025-01/01",
+            "2025-01-01 ",
+            " 2025-01-01",
+            "+025-01-01",
+            "-025-01-01",
+            "2025--1-01",
+            "202a-01-01",
+            "2025-0:-01",
+            "2025-01-/1",
+            "01-01-2025",
+        ] {
+            assert_eq!(date(field.as_bytes()), None, "{field}");
+        }
+    }
 
     #[test]
     fn numerals() {

@@ -3,19 +3,19 @@
 use std::hint::black_box;
 
 use margin_calculator::samples::{
-    ANY, DOMESTIC, FOREIGN, Random, Shape, best_sheet, holdings, split_lines,
+    ANY, DOMESTIC, FOREIGN, PERIODS, Random, Shape, best_sheet, holdings, split_lines,
 };
-use margin_calculator::{Row, Rows, Sheet, margin_check};
+use margin_calculator::{Row, Sheet, VALUED, margin_check};
 use margin_host::{Columns, raw};
 
 use crate::SEED;
 use crate::timing::{BATCHES, rates};
 
-type Call = fn(&Columns<&[u8]>, &mut [u8], &mut [u8], &mut [u8]) -> u64;
+type Call = fn(u64, &Columns<&[u8]>, &mut [u8], &mut [u8], &mut [u8]) -> u64;
 
-/// Holdings in CAD in the first period alone.
-const ONE_PERIOD: Shape = Shape {
-    days: &[(1, 365)],
+/// Holdings in CAD in the first period alone, where days are counted.
+const FIRST_PERIOD: Shape = Shape {
+    terms: &[PERIODS[0]],
     ..DOMESTIC
 };
 
@@ -33,10 +33,10 @@ pub fn run() {
         "Proposals from seed {SEED:#x}; half long, half short; kinds and issuers mixed, in CAD."
     );
     println!(
-        "One period: every long with every short is allowed. Both paragraphs: half in USD or GBP,"
+        "First period: every long with every short is allowed. Both paragraphs: half in USD or GBP,"
     );
     println!("each long there with a short. Any currency: also what no paragraph pairs.");
-    println!("Outputs are not cleared before a call.");
+    println!("Valued on 2025-01-01. Outputs are not cleared before a call.");
     println!("Median of {BATCHES} alternating batches; calls a second, and their ratio.");
     println!();
     println!(
@@ -44,7 +44,7 @@ pub fn run() {
         "holdings", "book", "lines", "number", "check", "plain", "check/plain"
     );
     for size in [1, 16, 64, 256] {
-        print_line("one period", &sheet_of(&book_of(size, &ONE_PERIOD)), 0);
+        print_line("first period", &sheet_of(&book_of(size, &FIRST_PERIOD)), 0);
         print_line("mixed periods", &sheet_of(&mixed_periods(size)), 0);
         if size > 1 {
             print_line("both paragraphs", &sheet_of(&both_paragraphs(size)), 0);
@@ -67,7 +67,7 @@ fn print_line(book: &str, sheet: &Sheet, number: u64) {
 
 /// A best proposal, its lines split until there are twice as many as holdings.
 pub fn sheet_of(book: &[Row]) -> Sheet {
-    let mut sheet = best_sheet(book);
+    let mut sheet = best_sheet(&Sheet::of_rows(VALUED, book, 0));
     split_lines(&mut sheet, 2 * book.len());
     sheet
 }
@@ -86,7 +86,8 @@ fn both_paragraphs(size: usize) -> Vec<Row> {
         let [_, _, long, short] = four;
         long.issuer = random.pick(FOREIGN.issuers);
         long.currency = random.pick(FOREIGN.currencies);
-        (short.issuer, short.currency, short.days) = (long.issuer, long.currency, long.days);
+        (short.issuer, short.currency) = (long.issuer, long.currency);
+        short.maturity = long.maturity;
         short.kind = 0;
         if random.below(2) == 0 {
             std::mem::swap(&mut long.kind, &mut short.kind);
@@ -113,7 +114,7 @@ fn book_of(size: usize, shape: &Shape) -> Vec<Row> {
     let mut book = Vec::with_capacity(size);
     for number in 0..size {
         let shape = if number % 2 == 0 { &long } else { &short };
-        book.extend(holdings(&mut random, shape, 1));
+        book.extend(holdings(&mut random, shape, VALUED, 1));
     }
     book
 }
@@ -121,7 +122,7 @@ fn book_of(size: usize, shape: &Shape) -> Vec<Row> {
 /// A full book whose last long with a price has one unit too little, so that all longs before it are
 /// looked at.
 fn uncovered_late() -> Sheet {
-    let mut sheet = sheet_of(&book_of(256, &ONE_PERIOD));
+    let mut sheet = sheet_of(&book_of(256, &FIRST_PERIOD));
     let priced = |holding: &usize| sheet.side[*holding] == 0 && sheet.price[*holding] > 0;
     let last = (0..256).rfind(priced).expect("a long has a price");
     sheet.price[last] -= 1;
@@ -134,7 +135,7 @@ fn nothing_paired() -> Sheet {
     for row in &mut book {
         row.kind = 0;
     }
-    Sheet::of_rows(&book, 0)
+    Sheet::of_rows(VALUED, &book, 0)
 }
 
 /// Calls a second of the check and of the plain check.
@@ -142,7 +143,7 @@ fn measure(sheet: &Sheet, number: u64) -> [f64; 2] {
     let calls: [Call; 2] = [raw::margin_check, margin_check];
     let columns = sheet.bytes();
     let columns = columns.each_ref().map(Vec::as_slice);
-    let bytes = columns.side.len();
+    let (date, bytes) = (sheet.date, columns.side.len());
     let fresh = Lists {
         remainder: vec![1; bytes],
         ranking: vec![1; bytes],
@@ -150,8 +151,8 @@ fn measure(sheet: &Sheet, number: u64) -> [f64; 2] {
     };
     let [mut ours, mut plain] = calls.map(|_| fresh.clone());
     let numbers = [
-        call_once(calls[0], &columns, &mut ours),
-        call_once(calls[1], &columns, &mut plain),
+        call_once(calls[0], date, &columns, &mut ours),
+        call_once(calls[1], date, &columns, &mut plain),
     ];
     assert_eq!(numbers, [number; 2], "both give the number");
     assert!(ours == plain, "both leave the same bytes");
@@ -159,6 +160,7 @@ fn measure(sheet: &Sheet, number: u64) -> [f64; 2] {
         &mut || {
             black_box(call_once(
                 calls[0],
+                black_box(date),
                 black_box(&columns),
                 black_box(&mut ours),
             ));
@@ -166,6 +168,7 @@ fn measure(sheet: &Sheet, number: u64) -> [f64; 2] {
         &mut || {
             black_box(call_once(
                 calls[1],
+                black_box(date),
                 black_box(&columns),
                 black_box(&mut plain),
             ));
@@ -175,8 +178,9 @@ fn measure(sheet: &Sheet, number: u64) -> [f64; 2] {
     rates
 }
 
-fn call_once(call: Call, columns: &Columns<&[u8]>, lists: &mut Lists) -> u64 {
+fn call_once(call: Call, date: u64, columns: &Columns<&[u8]>, lists: &mut Lists) -> u64 {
     call(
+        date,
         columns,
         &mut lists.remainder,
         &mut lists.ranking,

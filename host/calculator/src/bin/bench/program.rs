@@ -16,7 +16,7 @@ use crate::timing::median;
 
 const RUNS: usize = 101;
 
-/// Prints a line for an empty file and one for a full file.
+/// Prints a line for the empty book and one for a full file.
 pub fn run() {
     let Some(margin) = given(1, "MARGIN") else {
         println!("The program `margin` is not timed: give its path as an argument or in MARGIN.");
@@ -36,7 +36,11 @@ pub fn run() {
         "{:<10} {:>6}  {:>8}  {:>13}  {:>8}",
         "file", "bytes", "margin", "empty program", "own time"
     );
-    let texts = [("empty", Vec::new()), ("full file", joined(&full_file()))];
+    let full = full_file();
+    let texts = [
+        ("no holding", joined(&full[..1])),
+        ("full file", joined(&full)),
+    ];
     let times = measure(&texts, &margin, empty.as_ref());
     for ((name, text), [ours, theirs]) in texts.iter().zip(times) {
         let ours = median(ours);
