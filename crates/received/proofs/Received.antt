@@ -155,8 +155,10 @@ module _ (text head : List ℕ) (table lined : List (List ℕ)) (out : List ℕ)
           unfolding heldLists listsOf holdingSizes lineSizes
           each-list =
               let (book, lines) = each-parts Holds (map (λ size. (length (s .rows), size)) (holdingSizes before)) (map (λ size. (length (s .lines), size)) (lineSizes before))
-              (each-held .1) in
-              (rw (← holdings-counted from-file e) (with-room _ (before .holdings ++ (before .price ∷ [])) book), rw (← lines-counted from-file e) (with-room _ (before .lines) lines))
+              (each-held .1) in (
+                rw (← holdings-counted from-file e) (with-room _ (before .holdings ++ (before .price ∷ [])) book),
+                rw (← lines-counted from-file e) (with-room _ (before .lines) lines),
+              )
 
           module _ (room : TableRoom rows text book lines) where
             pub book-room : length table ≡ 7 → CopyRoom rows n book′ table
@@ -205,7 +207,9 @@ module _ (text head : List ℕ) (table lined : List (List ℕ)) (out : List ℕ)
             valued = rw (heading-by zero) put;
             untouched = λ h. absurd (h (answered .number));
             date = λ _. ap (λ (c : List ℕ). wordAt c 0) put ∙ price-read (headNumbers (s .head)) head (fit .head) 0 (omega arith);
-            holding = λ _ k h. subst (λ (c : Columns). RowAt (c .holdings) k (getD (s .rows) k noRow)) (sym after) (rows-read (s .rows) (fit .rows) k h (before .holdings) (six table lined seven));
+            holding = λ _ k h.
+                subst (λ (c : Columns). RowAt (c .holdings) k (getD (s .rows) k noRow)) (sym after)
+                (rows-read (s .rows) (fit .rows) k h (before .holdings) (six table lined seven));
             price = λ _ k h. ap (λ (c : Columns). wordAt (c .price) k) after ∙ price-read (s .prices) (before .price) (fit .prices) k (omega (arith, as-many));
             line = λ _ k h. subst (λ (c : Columns). LineAt (c .lines) k (getD (s .lines) k noLine)) (sym after) (lines-read (s .lines) (fit .lines) k h lined three);
             exactly = rw (answered .number ∙ sym (ap number whole)) read-when;

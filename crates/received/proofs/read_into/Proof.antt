@@ -114,7 +114,8 @@ returns-3 c =
     let l = lined c .copy-lines .last .1 .1 .1 in
     all-read (text f) (head f) (held f) (taken f) (answer f) (f .read .ensures) (asked .before .before .contents2 .given .1)
     {head′ = date-put c .put-word .last .0}
-    {table′ = b .0 ∷ b .1 .0 ∷ b .1 .1 .0 ∷ b .1 .1 .1 .0 ∷ b .1 .1 .1 .1 .0 ∷ b .1 .1 .1 .1 .1 .0 ∷ b .1 .1 .1 .1 .1 .1 .0 ∷ []} {lined′ = l .0 ∷ l .1 .0 ∷ l .1 .1 .0 ∷ []}
+    {table′ = b .0 ∷ b .1 .0 ∷ b .1 .1 .0 ∷ b .1 .1 .1 .0 ∷ b .1 .1 .1 .1 .0 ∷ b .1 .1 .1 .1 .1 .0 ∷ b .1 .1 .1 .1 .1 .1 .0 ∷ []}
+    {lined′ = l .0 ∷ l .1 .0 ∷ l .1 .1 .0 ∷ []}
     _ _ (same asked) (fits c .if1 .left) refl refl (date-put c .put-word .ensures) (book-copied c .copy-book .ensures) (lined c .copy-lines .ensures) (c .before .before .put-answer3 .ensures)
 
 pub read-into-spec : {M : Type 1} → statement M
