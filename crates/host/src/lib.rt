@@ -6,9 +6,9 @@ ghost use Rattle.columns.specs.Columns.{makeColumns};
 ghost use Rattle.lent.specs.Boundary.{makeLent, Checks};
 ghost use Rattle.received.specs.Reading.{Reads};
 
-// The check of a proposal, for the host: returns the refusal number, 0 for accepted. Scratch of 16 entries serves a small book, and 256
-// any other. Nothing is presumed of the bytes or the lengths; that a pointer leads to its bytes, and that no other refers to a list meanwhile, is
-// what a slice means, and the host's borrow sees to it.
+// The check of a proposal, for the host: returns the refusal number, 0 for accepted. Scratch has 4 entries for a book of up to 4 holdings,
+// 16 for one of up to 16, and 256 for any other. Nothing is presumed of the bytes or the lengths; that a pointer leads to its bytes, and that no other
+// refers to a list meanwhile, is what a slice means, and the host's borrow sees to it.
 #[no_mangle]
 pub extern "C" fn margin_check(
     date: u64,
@@ -35,6 +35,32 @@ pub extern "C" fn margin_check(
         (makeLent (now (remainder .exit)) (now (ranking .exit)) (now (answer .exit))) r ⌝ }
 {
     let head = Head { date };
+    if side.len() <= 32 {
+        let mut legs = [0u64; 4];
+        let mut left = [0u64; 4];
+        let mut margins = [0u64; 4];
+        let mut ranks = [0u64; 4];
+        return lent::judge(
+            head,
+            side,
+            kind,
+            issuer,
+            maturity,
+            value,
+            price,
+            currency,
+            long,
+            short,
+            amount,
+            remainder,
+            ranking,
+            answer,
+            &mut legs,
+            &mut left,
+            &mut margins,
+            &mut ranks,
+        );
+    }
     if side.len() <= 128 {
         let mut legs = [0u64; 16];
         let mut left = [0u64; 16];
