@@ -1,18 +1,20 @@
--- A worked case, and the kinds of them: from raw numbers, from lines, from the bytes of a file to the bytes that are printed. Assumes nothing.
+-- A worked case, and the kinds of them: from raw numbers, from lines, from the bytes of a file to the bytes that are printed. A case is valued on
+-- 2025-01-01, or on the date that is given with it. Assumes nothing.
 use mathlib.Core.Path.{_≡_}
 use mathlib.Core.Bool.{Bool, false, cond, not}
 use mathlib.Core.List.{List, [], _∷_, _++_, map, flatMap}
-use Prim.Native.Nat.{ℕ, _-_}
+use Prim.Native.Nat.{ℕ, _-_, _*_}
 use Prim.Native.String.{String}
 use lib.Dec.{eqb}
 use lib.ListN.{length, getD, take, drop, replicate}
 use Rattle.lists.specs.Tables.{ascii}
 use Rattle.lists.specs.Choice.{same, firstOf}
 use Rattle.words.specs.Words.{decode, encode}
-use Rattle.holding.specs.Holding.{faultOf, holdingOf}
+use Rattle.holding.specs.Holding.{headFault, accountOf, faultOf, holdingOf}
+use Rattle.holding.specs.declared.Head.{Head}
 use Rattle.holding.specs.declared.Row.{Row}
+use Rattle.rates.specs.Rate.{rateOf}
 use Rattle.article.specs.Answer.{makeAnswer}
-use Rattle.article.specs.Rate.{rateOf}
 use Rattle.article.specs.Pair.{legOf, pairOf}
 use Rattle.pairing.specs.declared.Line.{Line}
 use Rattle.proposal.specs.Submission.{Submission, bookOf, priced, remainder, margin, unitsOf, remaindersOf, ranked, centsOf}
@@ -24,10 +26,10 @@ use Rattle.layout.specs.Layout.{byPlace, valueOf, letters, Meaning, good, refus
 use Rattle.layout.specs.declared.Sort.{Sort}
 use Rattle.layout.specs.declared.Value.{Value}
 use Rattle.layout.specs.declared.Value.the-variants.{Of, Wrong}
-use Rattle.columns.specs.Columns.{Columns, makeColumns, submission, filled}
+use Rattle.columns.specs.Columns.{Columns, makeColumns, submission, column, filled}
 use Rattle.lent.specs.Boundary.{makeLent, answered, outcomeOf}
-use Rattle.reader.specs.File.{atRecord}
-use Rattle.received.specs.Reading.{readingAnswer}
+use Rattle.reader.specs.File.{submissionOf, atRecord}
+use Rattle.received.specs.Reading.{readingAnswer, filling, heading}
 use Rattle.report.specs.Report.{answerNumbers}
 use Rattle.printing.specs.Printed.{printed}
 
@@ -45,33 +47,43 @@ unfoldable pub failing : List Case → List String
 failing [] = []
 failing (c ∷ cs) = cond (same (c .computed) (c .stated)) (failing cs) (c .name ∷ failing cs)
 
--- a row by itself: its first fault, or 0 and its rate
-unfoldable pub alone : Row → List ℕ
-alone r = cond (eqb (faultOf r) 0) (0 ∷ rateOf (holdingOf r) ∷ []) (faultOf r ∷ [])
+-- the head with a valuation date, and that of document 01's cases
+abbrev pub head : ℕ → Head
+head date = record { date = date }
+
+abbrev pub new-year : ℕ
+new-year = 20250101
+
+-- a row by itself on a valuation date: its first fault, or 0 and its rate
+unfoldable pub alone : ℕ → Row → List ℕ
+alone date r =
+    let a = accountOf (head date) in
+    cond (eqb (faultOf a r) 0) (0 ∷ rateOf a (holdingOf r) ∷ []) (faultOf a r ∷ [])
 
 -- a row as the long and a row as the short: the first fault of either, or 13, or 0 with the pair's rate and the saving rate
-unfoldable pub together : Row → Row → List ℕ
-together l s =
-    let found = pairOf (legOf (holdingOf l)) (legOf (holdingOf s)) in
+unfoldable pub together : ℕ → Row → Row → List ℕ
+together date l s =
+    let a = accountOf (head date) in
+    let found = pairOf (legOf a (holdingOf l)) (legOf a (holdingOf s)) in
     firstOf
-    ((not (eqb (faultOf l) 0), faultOf l ∷ [])
-    ∷ (not (eqb (faultOf s) 0), faultOf s ∷ [])
+    ((not (eqb (faultOf a l) 0), faultOf a l ∷ [])
+    ∷ (not (eqb (faultOf a s) 0), faultOf a s ∷ [])
     ∷ (not (eqb (found .number) 0), found .number ∷ [])
     ∷ [])
     (0 ∷ found .first ∷ found .second ∷ [])
 
 -- a book with its prices and lines, and whether 1 and 2 hold of what is lent: the answer, and after an accepted one the remainders and the
 -- ranking
-unfoldable pub judged : Bool → Bool → List Row → List ℕ → List Line → List ℕ
-judged one two rows prices lines =
-    let s : Submission = record { rows = rows; prices = prices; lines = lines } in
+unfoldable pub judged : ℕ → Bool → Bool → List Row → List ℕ → List Line → List ℕ
+judged date one two rows prices lines =
+    let s : Submission = record { head = head date; rows = rows; prices = prices; lines = lines } in
     let a = outcome one two s in
     answerNumbers a ++ cond (eqb (a .number) 0) (remaindersOf (priced s) lines ++ ranked (priced s) lines) []
 
 -- what lines make of a book, accepted or not: units and cents, and of holding 0 the remainder and its units
 unfoldable pub worked : List Row → List Line → List ℕ
 worked rows lines =
-    let b = bookOf rows [] in
+    let b = bookOf (accountOf (head new-year)) rows [] in
     unitsOf b lines ∷ centsOf (unitsOf b lines) ∷ remainder b lines 0 ∷ margin b lines 0 ∷ []
 
 -- long, short, amount
@@ -88,47 +100,69 @@ abbrev flag : Bool → ℕ
 flag b = cond b 1 0
 
 abbrev pub rate : String → Row → ℕ → Case
-rate name r n = record { name = name; computed = alone r; stated = 0 ∷ n ∷ [] }
+rate name r n = record { name = name; computed = alone new-year r; stated = 0 ∷ n ∷ [] }
 
 -- the rates of several rows
+abbrev pub rates-on : ℕ → String → List Row → List ℕ → Case
+rates-on date name rows expected = record { name = name; computed = flatMap (alone date) rows; stated = flatMap (λ n. 0 ∷ n ∷ []) expected }
+
 abbrev pub rates : String → List Row → List ℕ → Case
-rates name rows expected = record { name = name; computed = flatMap alone rows; stated = flatMap (λ n. 0 ∷ n ∷ []) expected }
+rates = rates-on new-year
 
 abbrev pub fault : String → Row → ℕ → Case
-fault name r n = record { name = name; computed = alone r; stated = n ∷ [] }
+fault name r n = record { name = name; computed = alone new-year r; stated = n ∷ [] }
 
 -- the faults of several rows
+abbrev pub faults-on : ℕ → String → List Row → List ℕ → Case
+faults-on date name rows expected = record { name = name; computed = flatMap (alone date) rows; stated = expected }
+
 abbrev pub faults : String → List Row → List ℕ → Case
-faults name rows expected = record { name = name; computed = flatMap alone rows; stated = expected }
+faults = faults-on new-year
+
+-- the faults of several valuation dates, 0 for none
+abbrev pub dates : String → List ℕ → List ℕ → Case
+dates name ds expected = record { name = name; computed = map (λ date. headFault (head date)) ds; stated = expected }
 
 abbrev pub pair : String → Row → Row → ℕ → ℕ → Case
-pair name l s n saving = record { name = name; computed = together l s; stated = 0 ∷ n ∷ saving ∷ [] }
+pair name l s n saving = record { name = name; computed = together new-year l s; stated = 0 ∷ n ∷ saving ∷ [] }
 
 abbrev pub no-pair : String → Row → Row → ℕ → Case
-no-pair name l s n = record { name = name; computed = together l s; stated = n ∷ [] }
+no-pair name l s n = record { name = name; computed = together new-year l s; stated = n ∷ [] }
 
 -- several pairs of one rate and one saving rate, and several that are not allowed: by themselves, and as a line of no amount and of one above 100 cents
-abbrev pub pairs : String → List (Row × Row) → ℕ → ℕ → Case
-pairs name rows n saving = record {
+abbrev pub pairs-on : ℕ → String → List (Row × Row) → ℕ → ℕ → Case
+pairs-on date name rows n saving = record {
   name = name;
-  computed = flatMap (λ p. together (p .0) (p .1)) rows;
+  computed = flatMap (λ p. together date (p .0) (p .1)) rows;
   stated = flatMap (λ p. 0 ∷ n ∷ saving ∷ []) rows;
 }
 
-abbrev pub no-pairs : String → List (Row × Row) → Case
-no-pairs name rows =
-    let lined : Row × Row → ℕ → List ℕ = λ p amount. judged false false (p .0 ∷ p .1 ∷ []) (0 ∷ 0 ∷ []) (line 0 1 amount ∷ []) in
+abbrev pub pairs : String → List (Row × Row) → ℕ → ℕ → Case
+pairs = pairs-on new-year
+
+abbrev pub no-pairs-on : ℕ → String → List (Row × Row) → Case
+no-pairs-on date name rows =
+    let lined : Row × Row → ℕ → List ℕ = λ p amount. judged date false false (p .0 ∷ p .1 ∷ []) (0 ∷ 0 ∷ []) (line 0 1 amount ∷ []) in
     record {
       name = name;
-      computed = flatMap (λ p. together (p .0) (p .1) ++ lined p 0 ++ lined p 101) rows;
+      computed = flatMap (λ p. together date (p .0) (p .1) ++ lined p 0 ++ lined p 101) rows;
       stated = flatMap (λ _. 13 ∷ 13 ∷ 0 ∷ 0 ∷ 13 ∷ 0 ∷ 0 ∷ []) rows;
     }
 
+abbrev pub no-pairs : String → List (Row × Row) → Case
+no-pairs = no-pairs-on new-year
+
+abbrev pub proposal-on : ℕ → String → List Row → List ℕ → List Line → List ℕ → Case
+proposal-on date name rows prices lines expected = record { name = name; computed = judged date false false rows prices lines; stated = expected }
+
 abbrev pub proposal : String → List Row → List ℕ → List Line → List ℕ → Case
-proposal name rows prices lines expected = record { name = name; computed = judged false false rows prices lines; stated = expected }
+proposal = proposal-on new-year
+
+abbrev pub lent-on : ℕ → String → Bool → Bool → List Row → List Line → List ℕ → Case
+lent-on date name one two rows lines expected = record { name = name; computed = judged date one two rows [] lines; stated = expected }
 
 abbrev pub lent : String → Bool → Bool → List Row → List Line → List ℕ → Case
-lent name one two rows lines expected = record { name = name; computed = judged one two rows [] lines; stated = expected }
+lent = lent-on new-year
 
 abbrev pub figures : String → List Row → List Line → List ℕ → Case
 figures name rows lines expected = record { name = name; computed = worked rows lines; stated = expected }
@@ -140,6 +174,10 @@ prints name text expected = record { name = name; computed = printed text; state
 abbrev pub record-at : String → List Meaning → ℕ → List ℕ → Case
 record-at name parsed n expected = record { name = name; computed = answerNumbers (firstOf (atRecord parsed n) (makeAnswer 0 0 0)); stated = expected }
 
+-- the valuation date of what parsed records submit
+abbrev pub submitted : String → List Meaning → ℕ → Case
+submitted name parsed date = record { name = name; computed = submissionOf parsed .head .date ∷ []; stated = date ∷ [] }
+
 -- the numbers of texts of a sort, of records' letters, and whether bytes are TEXTDATA and may stand in quotes as they are
 abbrev pub code : String → Sort → List String → List ℕ → Case
 code name sort texts expected = record { name = name; computed = flatMap (λ text. valued (valueOf sort (ascii text))) texts; stated = expected }
@@ -148,15 +186,16 @@ code name sort texts expected = record { name = name; computed = flatMap (λ tex
 abbrev pub lists : String → List (List (List ℕ)) → List ℕ → Case
 lists name texts expected = record { name = name; computed = map length texts; stated = expected }
 
--- the number of a refused record, none of a good one; of records of a letter with so many empty fields after it
+-- the number of a refused record, none of a good one; of records of several fields, and of a letter with so many empty fields after it
 abbrev refusedAs : Meaning → List ℕ
 refusedAs (refused n) = n ∷ []
 refusedAs (good letter vs) = []
 
+abbrev pub records : String → List (List (List ℕ)) → ℕ → Case
+records name rs n = record { name = name; computed = flatMap (λ r. refusedAs (parse (formed r))) rs; stated = map (λ _. n) rs }
+
 abbrev pub fields : String → List String → List ℕ → ℕ → Case
-fields name letters counts n =
-    let records = flatMap (λ text. map (λ more. ascii text ∷ replicate more []) counts) letters in
-    record { name = name; computed = flatMap (λ r. refusedAs (parse (formed r))) records; stated = map (λ _. n) records }
+fields name letters counts n = records name (flatMap (λ text. map (λ more. ascii text ∷ replicate more []) counts) letters) n
 
 abbrev pub letter : String → List String → List ℕ → Case
 letter name texts expected = record { name = name; computed = flatMap (λ text. valued (byPlace (placeOf (ascii text) letters))) texts; stated = expected }
@@ -183,34 +222,59 @@ abbrev blank : List ℕ → Columns
 blank z = makeColumns (map zeros (take 6 z)) (zeros (getD z 6 0)) (map zeros (take 3 (drop 7 z)))
 
 -- the one number that the check gives to each of several lengths of what a host lends: of ten columns, the two lists and the answer
-abbrev pub lengths : String → List (List ℕ) → ℕ → Case
-lengths name zs n =
-    let found : List ℕ → ℕ = λ z. outcomeOf (blank z) (makeLent (zeros (getD z 10 0)) (zeros (getD z 11 0)) (zeros (getD z 12 0))) .number in
+abbrev pub lengths-on : ℕ → String → List (List ℕ) → ℕ → Case
+lengths-on date name zs n =
+    let found : List ℕ → ℕ = λ z. outcomeOf (head date) (blank z) (makeLent (zeros (getD z 10 0)) (zeros (getD z 11 0)) (zeros (getD z 12 0))) .number in
     record { name = name; computed = map found zs; stated = map (λ _. n) zs }
 
--- what is submitted, written into columns of two entries, 0 and 11: the numbers of each column in turn, and what the columns then hold, each number by
--- its name
+abbrev pub lengths : String → List (List ℕ) → ℕ → Case
+lengths = lengths-on new-year
+
+-- columns of two entries, 0 and 11, and the numbers of each column in turn
+abbrev old : Columns
+old =
+    let two = encode (0 ∷ 11 ∷ []) in
+    makeColumns (replicate 6 two) two (replicate 3 two)
+
+abbrev held : Columns → List ℕ
+held c = flatMap decode (c .holdings ++ (c .price ∷ c .lines))
+
+-- what is submitted, written into such columns: what they then hold, each number by its place and by its name, with the valuation date 12
 abbrev pub columns : String → List Row → List ℕ → List Line → List ℕ → Case
 columns name rows prices lines expected =
-    let old = encode (0 ∷ 11 ∷ []) in
-    let c = filled (record { rows = rows; prices = prices; lines = lines }) (makeColumns (replicate 6 old) old (replicate 3 old)) in
-    let numbers : Submission → List ℕ = λ s. flatMap (λ r. r .side ∷ r .kind ∷ r .issuer ∷ r .days ∷ r .value ∷ r .currency ∷ []) (s .rows) in
-    let named : Submission → List ℕ = λ s. numbers s ++ s .prices ++ flatMap (λ l. l .long ∷ l .short ∷ l .amount ∷ []) (s .lines) in
-    record { name = name; computed = flatMap decode (c .holdings ++ (c .price ∷ c .lines)) ++ named (submission c); stated = expected }
+    let c = filled (record { head = head new-year; rows = rows; prices = prices; lines = lines }) old in
+    let numbers : Submission → List ℕ = λ s. flatMap (λ r. r .side ∷ r .kind ∷ r .issuer ∷ r .maturity ∷ r .value ∷ r .currency ∷ []) (s .rows) in
+    let named : Submission → List ℕ = λ s. numbers s ++ s .prices ++ flatMap (λ l. l .long ∷ l .short ∷ l .amount ∷ []) (s .lines) ++ (s .head .date ∷ []) in
+    record { name = name; computed = held c ++ named (submission (head 12) c); stated = expected }
+
+-- what a text leaves in a head's list and in such columns, with an answer slice of so many bytes
+abbrev pub received : String → List ℕ → List ℕ → ℕ → List ℕ → Case
+received name text list slice expected = record {
+  name = name;
+  computed = column (heading text list old (zeros slice)) list ++ held (filled (filling text list old (zeros slice)) old);
+  stated = expected;
+}
 
 -- an answer slice after 16 at long 1 and short 2 was put into it
 abbrev pub slice : String → List ℕ → List ℕ → Case
 slice name old expected = record { name = name; computed = answered (makeAnswer 16 1 2) old; stated = expected }
 
--- what the reader answers to a text and to columns of so many bytes, each of several, with an answer slice
-abbrev pub answers : String → List (List ℕ) → List ℕ → ℕ → List ℕ → Case
-answers name sizes text slice expected = record {
+-- what the reader answers to a text and to what is lent: columns of so many bytes, each of several, a head's list and an answer slice
+abbrev pub answers : String → List (List ℕ) → List ℕ → ℕ → ℕ → List ℕ → Case
+answers name sizes text list slice expected = record {
   name = name;
-  computed = flatMap (λ z. answerNumbers (readingAnswer text (blank z) (zeros slice))) sizes;
+  computed = flatMap (λ z. answerNumbers (readingAnswer text (zeros list) (blank z) (zeros slice))) sizes;
   stated = flatMap (λ _. expected) sizes;
 }
 
--- an H in a currency, an H in CAD, and a P of the file by the other fields that are filled: the empty ones follow, and CRLF
+-- a D with its date, and the D of document 01's cases; an H in a currency, an H in CAD, and a P by the other fields that are filled: the empty ones
+-- follow, and CRLF
+abbrev pub D-of : String → List ℕ
+D-of date = ascii "D," ++ ascii date ++ ascii ",,,,,,\r\n"
+
+abbrev pub D : List ℕ
+D = D-of "2025-01-01"
+
 abbrev pub emptyFields : List ℕ
 emptyFields = ascii ",,,,"
 
@@ -227,12 +291,12 @@ P filled = ascii "P," ++ ascii filled ++ emptyFields ++ ascii "\r\n"
 abbrev pub unended : List ℕ → List ℕ
 unended text = take (length text - 2) text
 
--- side, kind, issuer, days, value, in CAD; and the same in another currency
+-- side, kind, issuer, maturity, value, in CAD; and the same in another currency
 abbrev pub row : ℕ → ℕ → ℕ → ℕ → ℕ → Row
-row side kind issuer days value = record { side = side; kind = kind; issuer = issuer; days = days; value = value; currency = 0 }
+row side kind issuer maturity value = record { side = side; kind = kind; issuer = issuer; maturity = maturity; value = value; currency = 0 }
 
 abbrev pub of : ℕ → Row → Row
-of currency r = record { side = r .side; kind = r .kind; issuer = r .issuer; days = r .days; value = r .value; currency = currency }
+of currency r = record { side = r .side; kind = r .kind; issuer = r .issuer; maturity = r .maturity; value = r .value; currency = currency }
 
 -- the letters and codes of the file's fields
 abbrev pub L : ℕ
@@ -276,7 +340,15 @@ GBP = 2
 
 -- the file's book, and its lines by the first amount
 abbrev pub file : List Row
-file = row L C CA 2000 1000000 ∷ row S B CA 2000 600000 ∷ row S R ON 2000 300000 ∷ []
+file = row L C CA 20300624 1000000 ∷ row S B CA 20300624 600000 ∷ row S R ON 20300624 300000 ∷ []
 
 abbrev pub file-lines : ℕ → List Line
 file-lines amount = line 0 1 amount ∷ line 0 2 300000 ∷ []
+
+-- the days of terms within a year, each from a valuation date to a maturity: four times as many are a Canada bond's rate
+abbrev pub days : String → List (ℕ × ℕ) → List ℕ → Case
+days name terms expected = record {
+  name = name;
+  computed = flatMap (λ t. alone (t .0) (row L B CA (t .1) 100)) terms;
+  stated = flatMap (λ n. 0 ∷ 4 * n ∷ []) expected;
+}

@@ -10,20 +10,25 @@ use Rattle.lists.specs.Tables.{Each, listTo, turns, inTurn, front, sumTo, sumOf
 use Rattle.lists.specs.Order.{insert, ordered}
 use Rattle.lists.proofs.Entries.{each-so, same-true}
 use Rattle.words.specs.Words.{number, littleEndian, wordAt, entries, decode, encode}
+use Rattle.dates.specs.Calendar.{isLeap, leapDay, monthLengths, monthLength, isReal, isDate, yearStart, monthStart, dayNumber, daysBetween, isLeapDay, anniversary}
+use Rattle.dates.specs.Text.{digitsOf, dateText, textNumber, readDate}
 use Rattle.holding.specs.Holding as row
-use Rattle.holding.specs.Holding.{identityFaults, termFaults, worthFaults, moneyFaults, rowFaults, faultOf, holdingOf, sideOf, kindOf, issuerOf, currencyOf, rowOf}
-use Rattle.article.specs.Rate.{longerThan, atLeast, periodOf, percents, flatRate, bondRate, stripRate, kindRate, rateAt, rateOf}
-use Rattle.article.specs.Pair.{legOf, isLong, isShort, isBond, isStrip, isCanada, isProvince, isUs, isGb, inCad, inUsd, inGbp, kindsPair, sameClass, mixedClass, classRule, domesticRule}
-use Rattle.article.specs.Pair.{oneBond, sameGovernment, foreignRule, bothCad, sameForeign, ruleOf, ruleRate, allowed, pairRateOf, savingRateOf, pairOf}
+use Rattle.holding.specs.Holding.{headNumbers, headFaults, headFault, accountOf, outOfTerm, identityFaults, termFaults, worthFaults, moneyFaults, rowFaults, faultOf, holdingOf}
+use Rattle.holding.specs.Holding.{sideOf, kindOf, issuerOf, currencyOf, rowOf}
+use Rattle.rates.specs.Rate.{longerThan, atLeast, periodOf, percents, flatRate, bondRate, stripRate, kindRate, rateAt, rateOf}
+use Rattle.article.specs.Pair.{legOf, isLong, isShort, isBond, isStrip, isCanada, isProvince, isUs, isGb, inCad, inUsd, inGbp, kindsPair, sameClass, mixedClass, classRule}
+use Rattle.article.specs.Pair.{domesticRule, oneBond, sameGovernment, foreignRule, bothCad, sameForeign, ruleOf, ruleRate, allowed, pairRateOf, savingRateOf, pairOf}
 use Rattle.pairing.specs.Pairing as theory
 use Rattle.pairing.specs.Pairing.{used, saving, pairUnits, pricedTotal}
 use Rattle.ranking.specs.Ranking.{ranksBefore, rankingOf}
 use Rattle.proposal.specs.Submission.{lineNumbers, bookOf, termsOf, priced, remainder, margin, unitsOf, remaindersOf, ranked, centsOf}
-use Rattle.proposal.specs.Outcome.{atPlace, holdingFaults, pairFaults, lineFaults, atHolding, bookFaults, atLine, linesFaults, uncovered, atPair, atLong, uncoveredPairs, totalsDiffer, totalsFaults, sizeFaults, faults, accepted, outcome}
+use Rattle.proposal.specs.Outcome.{atPlace, holdingFaults, pairFaults, lineFaults, atHolding, bookFaults, atLine, linesFaults, uncovered, atPair, atLong, uncoveredPairs}
+use Rattle.proposal.specs.Outcome.{totalsDiffer, totalsFaults, sizeFaults, faults, accepted, outcome}
 use Rattle.numerals.specs.Numerals.{lead, digits, valueFrom, numeralOf}
 use Rattle.codes.specs.Codes.{placeFrom, placeOf}
 use Rattle.csv.specs.Grammar.{isText, isQuotable}
-use Rattle.csv.specs.Reading.{part, textFrom, textEnd, closeFrom, closeAt, followedBy, followed, begins, opens, enclosed, fieldAt, fieldsFrom, recordAt, recordsFrom, recordsAt, recordsOf}
+use Rattle.csv.specs.Reading.{part, textFrom, textEnd, closeFrom, closeAt, followedBy, followed, begins, opens, enclosed}
+use Rattle.csv.specs.Reading.{fieldAt, fieldsFrom, recordAt, recordsFrom, recordsAt, recordsOf}
 use Rattle.layout.specs.Layout.{valueOf, valuesOf, parsedOf, parse}
 use Rattle.reader.specs.File.{parsedIn, valuesBy, submissionOf, atRecord, fileFaults, fileFault, readAnswer}
 use Rattle.columns.specs.Columns.{countIn, numbersAt, rowsIn, linesIn, submission, holdingSizes, lineSizes, listsOf, column, filledFrom, filled}
@@ -31,36 +36,61 @@ use Rattle.sizes.specs.Sizes.{entriesOf, unequal, differ, tooShort}
 use Rattle.verdict.specs.Judges.{outcomeIn}
 use Rattle.lent.specs.Boundary.{answered, writtenLists, two, outcomeOf}
 use Rattle.report.specs.Report.{afterComma, lineOf, answerNumbers, refusalLine, marginLine, remainderLine, printedLines, bookLine, printedOf}
-use Rattle.received.specs.Reading.{readingAnswer}
+use Rattle.received.specs.Reading.{heldLists, readingAnswer, filling, heading}
 use Rattle.printing.specs.Printed.{fileAnswer, printed}
 use Rattle.edges.proofs.Cases.{Case, Agrees, failing, alone, together, judged, worked}
 use Rattle.edges.proofs.Starred.{starred, starredFile}
-use Rattle.edges.proofs.Others.{single, thirdPrice, firstPrice, firstAmount, tooLong, files, recordFaults, tooMany, texts, lending, reading, proposals, refusals}
-use Rattle.edges.proofs.Foreign.{governments, paragraph4, notParagraph4, twoCurrencies, foreignProvinces, foreignDebt, bothParagraphs, foreignBooks, foreignFile, eighthField}
+use Rattle.edges.proofs.Others.{single, thirdPrice, firstPrice, firstAmount, tooLong, acceptedFiles, files, recordPlaces, holdingNumerals, lineNumerals, recordFaults}
+use Rattle.edges.proofs.Others.{lending, reading, readingShort, tooMany, texts, fileProposals, shortcuts, proposals, lineRefusals, refusals}
+use Rattle.edges.proofs.Foreign.{governments, longBonds, longStrips, notParagraph4, twoCurrencies, foreignProvinces, foreignDebt, bothParagraphs, paragraph2Alone}
+use Rattle.edges.proofs.Foreign.{foreignBooks, foreignFile, eighthField}
+use Rattle.edges.proofs.Dated.{actualDays, anniversaries, twentyYears, periodEnds, otherEnds, maturities, valuations, dateTexts, valuationRecord, datedFiles, headAnswers}
+use Rattle.edges.proofs.Dated.{headList, headKept}
 
--- the table, the starred cases first. A group is as large as the prover computes when it names a case that fails
+-- the table: document 01's cases, the starred first, then those of document 02 a) and of b). Most groups are as small as the prover computes when it names
+-- a case that fails; of the others it names the group
+abbrev pub dates : List (List Case)
+dates =
+    actualDays ∷ anniversaries ∷ twentyYears ∷ periodEnds ∷ otherEnds ∷ maturities ∷ valuations ∷ dateTexts ∷ valuationRecord ∷ datedFiles
+    ∷ headAnswers ∷ headList ∷ headKept ∷ []
+
+abbrev pub currencies : List (List Case)
+currencies =
+    governments ∷ longBonds ∷ longStrips ∷ notParagraph4 ∷ twoCurrencies ∷ foreignProvinces ∷ foreignDebt ∷ bothParagraphs ∷ paragraph2Alone
+    ∷ foreignBooks ∷ foreignFile ∷ eighthField ∷ dates
+
 abbrev pub table : List (List Case)
 table =
-    starred ∷ starredFile ∷ single ∷ thirdPrice ∷ firstPrice ∷ firstAmount ∷ tooLong ∷ files ∷ recordFaults ∷ tooMany ∷ texts ∷ lending ∷ reading
-    ∷ proposals ∷ refusals ∷ governments ∷ paragraph4 ∷ notParagraph4 ∷ twoCurrencies ∷ foreignProvinces ∷ foreignDebt ∷ bothParagraphs
-    ∷ foreignBooks ∷ foreignFile ∷ eighthField ∷ []
+    starred ∷ starredFile ∷ single ∷ thirdPrice ∷ firstPrice ∷ firstAmount ∷ tooLong ∷ acceptedFiles ∷ files ∷ recordPlaces ∷ holdingNumerals
+    ∷ lineNumerals ∷ recordFaults ∷ lending ∷ reading ∷ readingShort ∷ tooMany ∷ texts ∷ fileProposals ∷ shortcuts ∷ proposals ∷ lineRefusals
+    ∷ refusals ∷ currencies
 
 -- no case of any group fails; where this is refused, the message names those that do
-none-fails : Each (λ cs. failing cs ≡ []) table
+abbrev NoneFails : List (List Case) → Type 0
+NoneFails groups = Each (λ cs. failing cs ≡ []) groups
+
+none-fails : NoneFails table
 unfolding
-    starred starredFile single thirdPrice firstPrice firstAmount tooLong files recordFaults tooMany texts lending reading proposals refusals governments paragraph4
-    notParagraph4 twoCurrencies foreignProvinces foreignDebt bothParagraphs foreignBooks foreignFile eighthField failing alone together judged worked within firstOf
-    some count same insert ordered sumTo sumOf only listTo turns inTurn front holdingSizes lineSizes listsOf writtenLists two entriesOf unequal differ tooShort
-    outcomeIn outcomeOf countIn numbersAt rowsIn linesIn submission column filledFrom filled row.numbersOf lineNumbers answered readAnswer readingAnswer identityFaults
-    termFaults worthFaults moneyFaults rowFaults faultOf holdingOf sideOf kindOf issuerOf currencyOf rowOf longerThan atLeast periodOf percents flatRate bondRate
-    stripRate kindRate rateAt rateOf legOf isLong isShort isBond isStrip isCanada isProvince isUs isGb inCad inUsd inGbp kindsPair sameClass mixedClass classRule
-    domesticRule oneBond sameGovernment foreignRule bothCad sameForeign ruleOf ruleRate allowed pairRateOf savingRateOf pairOf used theory.savingRate
-    saving pairUnits pricedTotal ranksBefore rankingOf bookOf termsOf priced remainder margin unitsOf remaindersOf ranked centsOf atPlace holdingFaults pairFaults
-    lineFaults atHolding bookFaults atLine linesFaults uncovered atPair atLong uncoveredPairs totalsDiffer totalsFaults sizeFaults faults accepted outcome lead digits
-    valueFrom numeralOf placeFrom placeOf isText isQuotable part textFrom textEnd closeFrom closeAt followedBy followed begins opens enclosed fieldAt fieldsFrom
-    recordAt recordsFrom recordsAt recordsOf valueOf valuesOf parsedOf parse parsedIn valuesBy submissionOf atRecord fileFaults fileFault afterComma lineOf
-    answerNumbers refusalLine marginLine remainderLine printedLines bookLine printedOf fileAnswer printed flatMap number littleEndian wordAt entries decode encode
-none-fails = (refl, (refl, (refl, (refl, (refl, (refl, (refl, (refl, (refl, (refl, (refl, (refl, (refl, (refl, (refl, (refl, (refl, (refl, (refl, (refl, (refl, (refl, (refl, (refl, (refl, tt)))))))))))))))))))))))))
+    starred starredFile single thirdPrice firstPrice firstAmount tooLong acceptedFiles files recordPlaces holdingNumerals lineNumerals recordFaults lending reading
+    readingShort tooMany texts fileProposals shortcuts proposals lineRefusals refusals governments longBonds longStrips notParagraph4 twoCurrencies foreignProvinces
+    foreignDebt bothParagraphs paragraph2Alone foreignBooks foreignFile eighthField actualDays anniversaries twentyYears periodEnds otherEnds maturities valuations
+    dateTexts valuationRecord datedFiles headAnswers headList headKept failing alone together judged worked within firstOf some count same insert ordered sumTo sumOf
+    only listTo turns inTurn front holdingSizes lineSizes listsOf writtenLists two entriesOf unequal differ tooShort outcomeIn outcomeOf countIn numbersAt rowsIn
+    linesIn submission column filledFrom filled row.numbersOf lineNumbers answered readAnswer heldLists readingAnswer filling heading isLeap leapDay monthLengths
+    monthLength isReal isDate yearStart monthStart dayNumber daysBetween isLeapDay anniversary digitsOf dateText textNumber readDate headNumbers headFaults headFault
+    accountOf outOfTerm identityFaults termFaults worthFaults moneyFaults rowFaults faultOf holdingOf sideOf kindOf issuerOf currencyOf rowOf longerThan atLeast
+    periodOf percents flatRate bondRate stripRate kindRate rateAt rateOf legOf isLong isShort isBond isStrip isCanada isProvince isUs isGb inCad inUsd inGbp
+    kindsPair sameClass mixedClass classRule domesticRule oneBond sameGovernment foreignRule bothCad sameForeign ruleOf ruleRate allowed pairRateOf savingRateOf
+    pairOf used theory.savingRate saving pairUnits pricedTotal ranksBefore rankingOf bookOf termsOf priced remainder margin unitsOf remaindersOf ranked centsOf
+    atPlace holdingFaults pairFaults lineFaults atHolding bookFaults atLine linesFaults uncovered atPair atLong uncoveredPairs totalsDiffer totalsFaults sizeFaults
+    faults accepted outcome lead digits valueFrom numeralOf placeFrom placeOf isText isQuotable part textFrom textEnd closeFrom closeAt followedBy followed begins
+    opens enclosed fieldAt fieldsFrom recordAt recordsFrom recordsAt recordsOf valueOf valuesOf parsedOf parse parsedIn valuesBy submissionOf atRecord fileFaults
+    fileFault afterComma lineOf answerNumbers refusalLine marginLine remainderLine printedLines bookLine printedOf fileAnswer printed flatMap number littleEndian
+    wordAt entries decode encode
+none-fails =
+    let b : NoneFails dates = (refl, (refl, (refl, (refl, (refl, (refl, (refl, (refl, (refl, (refl, (refl, (refl, (refl, tt))))))))))))) in
+    let a : NoneFails currencies = (refl, (refl, (refl, (refl, (refl, (refl, (refl, (refl, (refl, (refl, (refl, (refl, b)))))))))))) in
+    (refl, (refl, (refl, (refl, (refl, (refl, (refl, (refl, (refl, (refl, (refl, (refl, (refl, (refl, (refl, (refl, (refl, (refl, (refl, (refl, (refl, (refl, (refl, a)))))))))))))))))))))))
 
 -- cases of which none fails agree
 none-each : (cs : List Case) → failing cs ≡ [] → Each Agrees cs

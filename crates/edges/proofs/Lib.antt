@@ -2,4 +2,5 @@ pub mod Cases
 pub mod Starred
 pub mod Others
 pub mod Foreign
+pub mod Dated
 pub mod Edges
