@@ -1,50 +1,73 @@
--- What the tables and sums of src/lib.rt are. Assumes nothing.
+-- What the formulas of src/lib.rt are. Assumes nothing.
 use mathlib.Core.Path.{_≡_, refl, sym, ap, _∙_}
-use mathlib.Core.Bool.{true, false}
+use mathlib.Core.Logic.{_≢_}
+use mathlib.Core.Bool.{true, false, cond}
 use mathlib.Core.List.{List, [], _∷_}
-use Prim.Native.Nat.{ℕ, _+_, _-_, _*_, _%_, _≤_, _<_}
+use Prim.Native.Nat.{ℕ, zero, suc, _+_, _-_, _*_, _/_, _%_, _≤_, _<_}
 use native.Mathlib.Omega.{arith}
+use lib.Dec.{leb}
 use lib.ListN.{getD}
 use Rattle.lists.specs.Tables.{sumOf, listTo}
-use Rattle.lists.proofs.Entries.{bounded}
 use Rattle.lists.proofs.Tables.{getD-to}
-use Rattle.dates.specs.Calendar.{year, month, day, dated, isLeap, leapDay, monthLengths, monthLength, nextDay, yearStart, monthStart, dayNumber, anniversary}
-use Rattle.dates.proofs.Years.{leap-false, year-end, start-high, start-early, start-late}
+use Rattle.dates.specs.Calendar.{year, month, day, dated, isLeap, leapDay, monthLengths, monthLength, nextDay, yearStart, monthStart, anniversary}
+use Rattle.dates.proofs.Years.{leap-false, year-more, year-end, month-end, start-early, start-late}
 use Rattle.dates.proofs.Days.{next-in-month, next-month, next-year}
 use Rattle.dates.proofs.Anniversaries.{kept, lost}
 
--- the days before each month of a year with no leap day
-abbrev starts : List ℕ
-starts = 0 ∷ 0 ∷ 31 ∷ 59 ∷ 90 ∷ 120 ∷ 151 ∷ 181 ∷ 212 ∷ 243 ∷ 273 ∷ 304 ∷ 334 ∷ []
+-- 31 and 30 in turn, and in turn again from August on; the test, computed
+abbrev inTurn : ℕ → ℕ
+inTurn m = 30 + (m + m / 8) % 2
 
--- the test, computed: the year 1 is such a year
-tested : starts ≡ listTo 13 (monthStart 1)
+turns : listTo 13 inTurn ≡ 30 ∷ 31 ∷ 30 ∷ 31 ∷ 30 ∷ 31 ∷ 30 ∷ 31 ∷ 31 ∷ 30 ∷ 31 ∷ 30 ∷ 31 ∷ []
+unfolding listTo
+turns = refl
+
+-- so are the twelve months but February
+pub coded-length : (y m : ℕ) → m ≢ 2 → 1 ≤ m → m ≤ 12 → inTurn m ≡ monthLength y m
+unfolding monthLength monthLengths
+coded-length y zero n l h = absurd (omega arith)
+coded-length y (suc zero) n l h = refl
+coded-length y (suc (suc zero)) n l h = absurd (n refl)
+coded-length y (suc (suc (suc m))) n l h =
+    sym (getD-to 13 inTurn (suc (suc (suc m))) 0 (omega arith)) ∙ ap (λ (s : List ℕ). getD s (suc (suc (suc m))) 0) turns
+
+-- the days before a month of a common year, as the year 1 is, and before the next; the test, computed
+abbrev before : ℕ → ℕ → ℕ
+before m short = (367 * m - 362) / 12 - short
+
+befores : listTo 14 (λ m. before m (cond (leb m 2) 0 2)) ≡ listTo 14 (monthStart 1)
 unfolding listTo monthStart sumOf monthLengths leapDay isLeap
-tested = refl
+befores = refl
 
-pub starts-small : (i : ℕ) → getD starts i 0 ≤ 334
-starts-small = bounded 334 starts refl
+common : leapDay 1 ≡ 0
+common = leap-false 1 (unfold isLeap in refl)
 
-module _ (y m l : ℕ) where
-  start-at : m ≤ 12 → getD starts m 0 ≡ monthStart 1 m
-  start-at h = ap (λ (s : List ℕ). getD s m 0) tested ∙ getD-to 13 (monthStart 1) m 0 (omega arith)
+pub start-small : (m : ℕ) → monthStart 1 m ≤ 365
+start-small m = omega (arith, month-end 1 m, common)
 
-  pub early-start : m ≤ 2 → (getD starts m 0 ≡ monthStart y m) × (getD starts m 0 ≤ 366)
-  early-start h = (start-at (omega arith) ∙ start-early 1 y m h, omega (arith, starts-small m))
+pub coded-start : (m short : ℕ) → short ≡ cond (leb m 2) 0 2 → m ≤ 13 → before m short ≡ monthStart 1 m
+coded-start m short e h =
+    rw e
+    (sym (getD-to 14 (λ m. before m (cond (leb m 2) 0 2)) m 0 (omega arith))
+    ∙ ap (λ (s : List ℕ). getD s m 0) befores
+    ∙ getD-to 14 (monthStart 1) m 0 (omega arith))
 
-  pub late-start : 2 < m → m ≤ 12 → (l ≡ leapDay y) × (l ≤ 1) → (getD starts m 0 + l ≡ monthStart y m) × (getD starts m 0 + l ≤ 366)
-  late-start a b e =
-      let none : leapDay 1 ≡ 0 = leap-false 1 (unfold isLeap in refl) in
-      (omega (arith, e .0, start-at b, start-late y 1 m a), omega (arith, e .1, starts-small m))
+-- before January there is nothing, and behind December the year ends
+pub start-first : (m : ℕ) → m < 1 → monthStart 1 1 ≡ monthStart 1 m
+unfolding monthStart sumOf
+start-first zero h = refl
+start-first (suc m) h = absurd (omega arith)
 
-  pub past-start : 12 < m → (l ≡ leapDay y) × (l ≤ 1) → (365 + l ≡ monthStart y m) × (365 + l ≤ 366)
-  past-start h e = (omega (arith, e .0, year-end y m h), omega (arith, e .1))
+pub start-last : (m : ℕ) → 12 < m → monthStart 1 13 ≡ monthStart 1 m
+start-last m h = year-end 1 13 (omega arith) ∙ sym (year-end 1 m h)
 
--- the day number of a number of 32 bits
-pub number-right : (d s n : ℕ) → (s ≡ monthStart (year d) (month d)) × (s ≤ 366) → n ≡ yearStart (year d) + s + day d → d < 4294967296
-    → (n ≡ dayNumber d) × (n ≤ 200000000)
-unfolding dayNumber
-number-right d s n e f h = (rw (f, e .0), omega (arith, e .1, start-high (year d)))
+-- the days before a month of a year: l leap days of some years before, which from March on are those to the next year, and s days of a common year
+module _ (y m years l s : ℕ) (e : 365 * years + l ≡ yearStart years) (f : s ≡ monthStart 1 m) where
+  pub number-early : m ≤ 2 → years ≡ y → 365 * y + l + s ≡ yearStart y + monthStart y m
+  number-early h g = omega (arith, rw g at e, start-early 1 y m h)
+
+  pub number-late : 2 < m → years ≡ y + 1 → 365 * y + l + s ≡ yearStart y + monthStart y m
+  number-late h g = omega (arith, rw g at e, year-more y, start-late y 1 m h, common)
 
 -- the next day
 module _ (d l : ℕ) (e : l ≡ monthLength (year d) (month d)) where

@@ -100,11 +100,6 @@ module _ (y : ℕ) where
       by false true c p q r = absurd (omega (arith, eqb-true (y % 100) 0 q, eqb-false (y % 4) 0 p))
       by a false true p q r = absurd (omega (arith, eqb-true (y % 400) 0 r, eqb-false (y % 100) 0 q))
 
--- no year has more than 366 days
-pub start-high : (y : ℕ) → yearStart y ≤ 366 * y
-unfolding yearStart
-start-high y = omega arith
-
 -- a later year starts later
 pub year-grows : (y k : ℕ) → yearStart y ≤ yearStart (y + k)
 year-grows y zero = rw add-zero (omega arith)
@@ -149,7 +144,7 @@ module _ (y : ℕ) where
   pub december-end : monthStart y 12 + monthLength y 12 ≡ 365 + leapDay y
   december-end = omega (arith, month-more 12, year-end 13 (omega arith))
 
--- the lengths of the months with a leap day or none, as src/lib.rt has them for none
+-- the lengths of the months with a leap day or none
 abbrev pub lengths : ℕ → List ℕ
 lengths l = 0 ∷ 31 ∷ (28 + l) ∷ 31 ∷ 30 ∷ 31 ∷ 30 ∷ 31 ∷ 31 ∷ 30 ∷ 31 ∷ 30 ∷ 31 ∷ []
 
@@ -169,6 +164,11 @@ length-low y (suc m) a b =
     low l e n = each-at (28 ≤_) 0 l (each-by (28 ≤_) (leb 28) (leb-true 28) l e) m (omega arith)
 
 -- and a month that has days is one of the twelve
+pub month-zero : (y m : ℕ) → m < 1 → monthLength y m ≡ 0
+unfolding monthLength
+month-zero y zero h = refl
+month-zero y (suc m) h = absurd (omega arith)
+
 pub no-month : (y m : ℕ) → 12 < m → monthLength y m ≡ 0
 unfolding monthLength monthLengths
 no-month y m h = List·getD-eq-default (0 ∷ monthLengths y) 0 {n = m} (omega arith)

@@ -23,6 +23,9 @@ module _ (class period own flat : ℕ) (a : Account) (m : ℕ) (read : flat ≡ 
   high : flat ≤ 7300
   high = rw entry (flat-high own (periodOf a m))
 
+  small : flat < 18446744073709551616
+  small = omega (arith, high)
+
   -- the days to any maturity that the code can be given are few enough
   few : (days : ℕ) → days ≤ 200000000 → flat * days ≤ 7300 * 200000000
   few days h = mul-le-mul high h
@@ -36,6 +39,11 @@ module _ (class period own flat : ℕ) (a : Account) (m : ℕ) (read : flat ≡ 
 
   late : (period ≡ 1 → ⊥) → (flat ≡ bondRate own a m) × (flat ≤ 4000000000)
   late e = (entry ∙ sym (over-one own a m (not-first a m (λ f. e (q ∙ f)))), omega (arith, high))
+
+cast-flat : tie.Need-cast-flat
+cast-flat c =
+    let found = c .before in
+    record { fits = small _ _ _ _ _ _ refl (found .before .class-of .ensures .0) (found .period .ensures .0) }
 
 mul-result : tie.Need-mul-result
 mul-result c =
@@ -63,6 +71,7 @@ bond-rate-spec =
     (λ c. search needs)
     (λ c. search needs)
     (λ c. search needs)
+    cast-flat
     (λ c κs. search needs)
     mul-result
     returns
