@@ -1,9 +1,8 @@
 -- The tests of a date say what they mean, and the parts of a number are those that it was made of. Assumes nothing.
-use mathlib.Core.Path.{_≡_, sym, _∙_}
-use mathlib.Core.Bool.{Bool, true, false, not, and-eq-true-iff}
+use mathlib.Core.Path.{_≡_}
+use mathlib.Core.Bool.{true, and-eq-true-iff}
 use Prim.Native.Nat.{ℕ, _+_, _≤_, _<_}
 use native.Mathlib.Omega.{arith}
-use borrow.Author.Tests.{not-false}
 use Rattle.lists.specs.Choice.{within}
 use Rattle.lists.proofs.Tests.{within-true, true-within}
 use Rattle.dates.specs.Calendar.{year, month, day, dated, monthLength, isReal, isDate}
@@ -50,10 +49,6 @@ module _ (d : ℕ) (t : isDate d ≡ true) where
 
   pub date-high : d ≤ 22991231
   date-high = let r = date .real in omega (arith, date .year-high, r .month-high, r .day-high, length-high (year d) (month d))
-
--- what is known behind `if !is_date(d) { return .. }`
-pub date-found : (d : ℕ) {r : Bool} → r ≡ isDate d → not r ≡ false → isDate d ≡ true
-date-found d {r} e n = sym e ∙ not-false r n
 
 -- the parts of the number of a year, a month and a day
 pub on-parts : (y m d : ℕ) → m < 100 → d < 100 → On (dated y m d) y m d

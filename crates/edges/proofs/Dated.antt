@@ -188,7 +188,7 @@ valuationRecord =
     ∷ prints "a date of another form in a second D" (D ++ D-of "2025-1-01") "X,21,1,0\r\n"
     ∷ prints "a seventh field of D that is filled" (ascii "D,2025-01-01,,,,,0,\r\n") "X,21,0,0\r\n"
     ∷ prints "D in quotes, without CRLF" (unended (D-of "\"2025-01-01\"")) "M,0,0\r\n"
-    ∷ submitted "of two D the first" (good 0 (20250101 ∷ []) ∷ good 0 (20260101 ∷ []) ∷ []) 20250101
+    ∷ submitted "of two D the first" (good 0 (20240229 ∷ []) ∷ good 0 (20260101 ∷ []) ∷ []) 20240229
     ∷ []
 
 -- files, from their bytes to the bytes that are printed: dates that are read, and judged by the check

@@ -8,7 +8,7 @@ use Rattle.lists.proofs.Tests.{either-way, same-or-not}
 use borrow.Author.Tests.{eq-eqb, ne-eqb}
 use Rattle.dates.specs.Calendar.{isDate}
 use Rattle.dates.proofs.Tested.{date-high}
-use Rattle.holding.specs.Holding.{headFaults, headFault, accountOf, headedOf, HeadKept}
+use Rattle.holding.specs.Holding.{headNumbers, headFaults, headFault, accountOf, headedOf, HeadKept}
 use Rattle.holding.specs.declared.Head.{Head}
 use Rattle.holding.specs.declared.Account.{Account}
 use Rattle.holding.specs.declared.Headed.the-variants.{For, NoAccount}
@@ -25,10 +25,6 @@ module _ (h : Head) where
   pub head-valued : headFault h ≡ 0 → isDate (h .date) ≡ true
   head-valued e = either-way (isDate (h .date)) (λ t. t) (λ f. let never : 24 ≡ 0 = sym (unvalued-head f) ∙ e in absurd (omega arith))
 
-  pub head-kept : HeadKept h
-  unfolding accountOf
-  head-kept = record { no-fault = valued-head; unreal = unvalued-head; kept = refl }
-
   -- its date is small
   pub head-fits : headFault h ≡ 0 → h .date < 4294967296
   head-fits e = omega (arith, date-high (h .date) (head-valued e))
@@ -36,6 +32,17 @@ module _ (h : Head) where
   pub head-account : headFault h ≡ 0 → headedOf h ≡ For (accountOf h)
   unfolding headedOf
   head-account e = rw (eq-eqb (headFault h) 0 e)
+
+  pub head-kept : HeadKept h
+  unfolding accountOf headNumbers
+  head-kept = record {
+    numbers = refl;
+    back = refl;
+    no-fault = valued-head;
+    unreal = unvalued-head;
+    made = λ e. head-account (valued-head e);
+    kept = refl;
+  }
 
   pub head-none : (headFault h ≡ 0 → ⊥) → headedOf h ≡ NoAccount
   unfolding headedOf

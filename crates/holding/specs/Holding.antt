@@ -171,10 +171,13 @@ pub record Builds (a : Account) (row : Row) (r : Built) : Type 0 where
   pub number : numberOf r ≡ faultOf a row
   pub built : r ≡ builtOf a row
 
--- a head is refused, with 24, exactly when its valuation date is unreal or outside the years; else it is the account's
+-- a head is its valuation date alone; it is refused, with 24, exactly when that is unreal or outside the years, and else it is the account's
 pub record HeadKept (h : Head) : Type 0 where
+  pub numbers : headNumbers h ≡ h .date ∷ []
+  pub back : headBy (h .date ∷ []) ≡ h
   pub no-fault : isDate (h .date) ≡ true → headFault h ≡ 0
   pub unreal : isDate (h .date) ≡ false → headFault h ≡ 24
+  pub made : isDate (h .date) ≡ true → headedOf h ≡ For (accountOf h)
   pub kept : accountOf h .date ≡ h .date
 
 -- the refusal that a row has: of the first of side, kind, issuer, maturity, value and currency that is outside its range

@@ -9,7 +9,8 @@ use Rattle.dates.specs.Text.{dateText, readDate}
 use Rattle.dates.specs.declared.text.Reading.{Reading, the-variants.Number as Dated, the-variants.NotADate}
 use Rattle.codes.specs.Codes.{placeOf, Named}
 use Rattle.codes.specs.declared.Place.{Place, the-variants.At, the-variants.Nowhere}
-use Rattle.layout.specs.declared.Sort.{Sort, the-variants.Side, the-variants.Kind, the-variants.Issuer, the-variants.Currency, the-variants.Date, the-variants.Six, the-variants.Twelve, the-variants.Empty}
+use Rattle.layout.specs.declared.Sort.{Sort, the-variants.Side, the-variants.Kind, the-variants.Issuer, the-variants.Currency, the-variants.Date}
+use Rattle.layout.specs.declared.Sort.the-variants.{Six, Twelve, Empty}
 use Rattle.layout.specs.declared.{Value.Value, Value.the-variants.Of, Value.the-variants.Wrong, Parsed.Parsed, Parsed.the-variants.Good, Parsed.the-variants.Refused, Entry.Entry}
 use Rattle.csv.specs.Reading.{part, Split, fields, malformed, recordAt, fieldCount, Read, formed, broken}
 

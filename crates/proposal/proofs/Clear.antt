@@ -12,7 +12,8 @@ use Rattle.dates.specs.Calendar.{isDate}
 use Rattle.holding.specs.Holding.{headFaults}
 use Rattle.article.specs.Answer.{Answer}
 use Rattle.proposal.specs.Submission.{Submission, accountIn, priced, noRow, noLine}
-use Rattle.proposal.specs.Outcome.{atPlace, holdingFaults, lineFaults, atHolding, bookFaults, atLine, linesFaults, uncovered, atPair, atLong, uncoveredPairs, totalsDiffer, totalsFaults, sizeFaults, fromPairs, fromLines, fromBook, fromHead, faults}
+use Rattle.proposal.specs.Outcome.{atPlace, holdingFaults, lineFaults, atHolding, bookFaults, atLine, linesFaults, uncovered, atPair}
+use Rattle.proposal.specs.Outcome.{atLong, uncoveredPairs, totalsDiffer, totalsFaults, sizeFaults, fromPairs, fromLines, fromBook, fromHead, faults}
 use Rattle.proposal.proofs.Places.{none-at, at-none, listed-at, holding-listed, line-listed}
 
 abbrev pub number : Answer → ℕ

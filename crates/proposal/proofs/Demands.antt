@@ -9,9 +9,10 @@ use Rattle.lists.proofs.Tests.{either-way}
 use Rattle.lists.proofs.Entries.{at-each}
 use Rattle.lists.proofs.Firsts.{none-first, first-of-none}
 use Rattle.lists.proofs.Tables.{length-to, getD-to}
-use Rattle.holding.specs.Holding.{accountOf}
+use Rattle.holding.specs.Holding.{headFault, accountOf}
+use Rattle.holding.proofs.Heads.{unvalued-head}
 use Rattle.holding.proofs.Ranges.{row-kept}
-use Rattle.article.specs.Answer.{Answer}
+use Rattle.article.specs.Answer.{Answer, makeAnswer}
 use Rattle.article.proofs.Article.{article}
 use Rattle.article.specs.Pair.{legOf, allowed}
 use Rattle.article.specs.declared.pair.Leg.{Leg}
@@ -23,6 +24,7 @@ use Rattle.proposal.specs.Demands.{Limits, Acceptable, PairTerms, Remain
 use Rattle.proposal.proofs.PricedBooks.{leg-at, value-at, book-in, holding-in-range, fair}
 use Rattle.proposal.proofs.Clear.{Clear, none-clear, clear-none, numbered}
 use Rattle.proposal.proofs.Limits.{limits, ranges-none}
+use Rattle.proposal.proofs.Stages.{from-lengths, unvalued}
 use Rattle.proposal.proofs.KeepsArticle.{none-fits, fits-none, all-within, may-exactly, fitting-keeps, keeps-fitting}
 use Rattle.proposal.proofs.Figures.{units-sum, rounded}
 
@@ -120,6 +122,10 @@ module _ (one two : Bool) (s : Submission) where
       (λ a. unfold accepted in ap (λ (x : Answer). x .number) (clear-accepted (acceptable-clear (a .0 .0) (a .0 .1) (a .1)))),
     );
     cheapest = λ e. rw (as-accepted e) (units-least s (clear-acceptable (zero-clear e)));
+    undated = λ p q h m e.
+        let fault = unvalued-head (s .head) e in
+        let some : headFault (s .head) ≡ 0 → ⊥ = λ z. omega (arith, fault) in
+        unvalued s _ _ (from-lengths one two s p q h m) some ∙ ap (λ (n : ℕ). makeAnswer n 0 0) fault;
     count = unfold termsOf priced bookOf in refl;
     terms = terms s;
     remainders = unfold remaindersOf priced bookOf in length-to (priced s .count) _;

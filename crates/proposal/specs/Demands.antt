@@ -6,11 +6,11 @@ use Rattle.lists.specs.Tables.{Each}
 use Rattle.holding.specs.Holding.{Ranges, rowOf}
 use Rattle.dates.specs.Calendar.{isDate}
 use Rattle.rates.specs.Rate.{rateOf}
-use Rattle.article.specs.{Answer.Answer, Pair.legOf, Pair.pairRateOf, Article.MayPair, Article.Pairing}
+use Rattle.article.specs.{Answer.Answer, Answer.makeAnswer, Pair.legOf, Pair.pairRateOf, Article.MayPair, Article.Pairing}
 use Rattle.pairing.specs.Pairing.{used, saving, Covers, pricedTotal, Least}
 use Rattle.pairing.specs.declared.Line.{Line}
 use Rattle.proposal.specs.Submission.{Submission, accountIn, termsOf, priced, noRow, holdingAt, margin, remaindersOf}
-use Rattle.proposal.specs.Submission.{RoundedUp}
+use Rattle.proposal.specs.{Submission.RoundedUp, Outcome.outcome}
 
 module _ (s : Submission) where
   -- the limits: none of 3 to 10, 23 and 24 holds
@@ -67,6 +67,8 @@ module _ (s : Submission) where
     pub cheapest : a .number ≡ 0 → Least (termsOf (priced s)) (s .lines) (a .first)
     -- accepted cents are the units rounded up once
     pub rounding : a .number ≡ 0 → RoundedUp (a .first) (a .second)
+    -- where lengths and counts fit, an unreal valuation date is refused with 24 at place 0, whatever the holdings are
+    pub undated : one ≡ false → two ≡ false → length (s .rows) ≤ 256 → length (s .lines) ≤ 512 → isDate (s .head .date) ≡ false → outcome one two s ≡ makeAnswer 24 0 0
     -- the terms that all this speaks of are the book's own, by the article
     pub count : termsOf (priced s) .count ≡ length (s .rows)
     pub terms : Limits → (i j : ℕ) → i < length (s .rows) → j < length (s .rows) → PairTerms i j

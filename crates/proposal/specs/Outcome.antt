@@ -1,4 +1,4 @@
--- Document 01, "Who can be refused, and for what": the first that holds of one list of refusals, or the figures. Assumes nothing.
+-- Document 01, "Who can be refused, and for what", with document 02 a) and b): the first that holds of one list of refusals, or the figures. Assumes nothing.
 use mathlib.Core.{Bool.Bool, Bool.not, Bool._&&_, Bool._||_, List.List, List.[], List._∷_, List._++_, List.map}
 use Prim.Native.Nat.{ℕ, _+_}
 use lib.{Dec.ltb, Dec.eqb, ListN.length, ListN.getD, ListN.take}

@@ -13,7 +13,8 @@ use Rattle.csv.proofs.Places.{clash, records-end}
 use Rattle.grammar.proofs.Sound.{file-sound}
 use Rattle.grammar.proofs.Complete.{file-complete}
 use Rattle.layout.specs.Layout.{refused}
-use Rattle.reader.specs.File.{parsedIn, valuesBy, submissionOf}
+use Rattle.lists.specs.Choice.{firstOf}
+use Rattle.reader.specs.File.{parsedIn, valuesBy, submissionOf, fileFaults, fileFault}
 use Rattle.readable.specs.Readable.{Submits, ReadExactly}
 use Rattle.readable.proofs.Orders.{InOrder, few, order-exactly}
 use Rattle.readable.proofs.Numbers.{none-exactly}
@@ -65,4 +66,5 @@ module _ (text : List ℕ) where
       λ h. none-exactly text .1 (order-exactly text .1 (h .short, submits-some _ h, submits-gives _ h .0)),
     );
     only = λ s h. sym (submits-gives s h .1);
+    empty = λ e. rw e (unfold fileFault fileFaults firstOf in refl);
   }

@@ -6,6 +6,7 @@ use Rattle.holding.specs.Holding.{headNumbers}
 use Rattle.holding.specs.declared.Row.{Row}
 use Rattle.pairing.specs.declared.Line.{Line}
 use Rattle.proposal.specs.Submission.{Submission, pricedNumbers, lineNumbers}
+use Rattle.article.specs.Answer.{makeAnswer}
 use Rattle.csv.specs.Grammar.{File}
 use Rattle.layout.specs.Layout.{IsRecord}
 use Rattle.reader.specs.File.{parsedIn, submissionOf, fileFault}
@@ -34,7 +35,8 @@ pub record Submits (text : List ℕ) (s : Submission) : Type 0 where
   pub few-holdings : length (s .rows) ≤ 256
   pub few-lines : length (s .lines) ≤ 512
 
--- a text is not refused exactly when it submits what is read from it, and it submits nothing else
+-- a text is not refused exactly when it submits what is read from it, and it submits nothing else; an empty one is refused with 22 at place 0
 pub record ReadExactly (text : List ℕ) : Type 0 where
   pub read : (fileFault text .number ≡ 0) ↔ Submits text (submissionOf (parsedIn text))
   pub only : (s : Submission) → Submits text s → s ≡ submissionOf (parsedIn text)
+  pub empty : text ≡ [] → fileFault text ≡ makeAnswer 22 0 0

@@ -1,4 +1,4 @@
--- THE PAGE OF THE EXPORTED READER. Document 01, "The reader fills lent columns, or leaves them untouched". Assumes nothing.
+-- THE PAGE OF THE EXPORTED READER. Document 01, "The reader fills lent columns, or leaves them untouched", and document 02 b), the valuation date. Assumes nothing.
 use mathlib.Core.{Path._≡_, Logic._↔_, Bool.cond, List.List, List.[], List._∷_}
 use Prim.Native.Nat.{ℕ, _<_}
 use lib.{Dec.eqb, ListN.length, ListN.getD}

@@ -9,7 +9,8 @@ use borrow.Author.Needs.{needs}
 use Rattle.words.specs.Words.{entries}
 use Rattle.columns.specs.Columns.{countIn, holdingSizes, lineSizes}
 use Rattle.verdict.specs.Judges.{refusalOf}
-use Rattle.verdict.proofs.Checked.{Sized, lengths-refused, lengths-fit, head-refused, head-dated, Held, book-refused, book-held, lines-lent, prices-lent, values-lent, line-refused, margins-lent, pair-refused, totals-refused, margins-held, all-judged}
+use Rattle.verdict.proofs.Checked.{Sized, lengths-refused, lengths-fit, head-refused, head-dated, Held, book-refused, book-held}
+use Rattle.verdict.proofs.Checked.{lines-lent, prices-lent, values-lent, line-refused, margins-lent, pair-refused, totals-refused, margins-held, all-judged}
 use Rattle.verdict.proofs.check.Statement.{statement}
 use Rattle.verdict.proofs.check.Tie as tie
 
