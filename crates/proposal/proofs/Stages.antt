@@ -1,6 +1,6 @@
 -- The outcome stage by stage, in the check's order: a stage that finds a fault decides, and one that finds none hands on. Assumes nothing.
 use mathlib.Core.Path.{_≡_, refl, sym, ap, _∙_}
-use mathlib.Core.Bool.{Bool, false}
+use mathlib.Core.Bool.{Bool, false, not, cond}
 use mathlib.Core.List.{List, _++_}
 use Prim.Native.Nat.{_≤_}
 use native.Mathlib.Omega.{arith}
@@ -47,8 +47,8 @@ module _ (s : Submission) (o z : Answer) (so : o ≡ firstOf (fromHead s) z) whe
 module _ (b : PricedBook) (lines : List Line) (o z : Answer) (so : o ≡ firstOf (totalsFaults b lines) z) where
   pub totals-differ : (pricedTotal (termsOf b) (b .price) ≡ saving (termsOf b) lines → ⊥) → o ≡ makeAnswer 17 0 0
   unfolding firstOf totalsFaults totalsDiffer
-  totals-differ h = so ∙ rw (ne-eqb _ _ h)
+  totals-differ h = so ∙ ap (λ (t : Bool). cond (not t) (makeAnswer 17 0 0) z) (ne-eqb _ _ h)
 
   pub totals-equal : pricedTotal (termsOf b) (b .price) ≡ saving (termsOf b) lines → o ≡ z
   unfolding firstOf totalsFaults totalsDiffer
-  totals-equal e = so ∙ rw (eq-eqb _ _ e)
+  totals-equal e = so ∙ ap (λ (t : Bool). cond (not t) (makeAnswer 17 0 0) z) (eq-eqb _ _ e)
