@@ -304,7 +304,8 @@ proposals =
     (row S C ON 20300624 1000 ∷ row L C ON 20300624 1000 ∷ row S C ON 20300624 1000 ∷ row L C ON 20300624 1000 ∷ []) (0 ∷ 0 ∷ 0 ∷ 0 ∷ []) [] (16 ∷ 1 ∷ 0 ∷ [])
     -- the ranking: larger margin first, a tie by lower number
     ∷ proposal "the ranking"
-    (row L B CA 20250102 1 ∷ row L B CA 20250102 3 ∷ row L B CA 20250102 1 ∷ row L B CA 20250102 4 ∷ []) (0 ∷ 0 ∷ 0 ∷ 0 ∷ []) [] (0 ∷ 36 ∷ 1 ∷ 1 ∷ 3 ∷ 1 ∷ 4 ∷ 3 ∷ 1 ∷ 0 ∷ 2 ∷ [])
+    (row L B CA 20250102 1 ∷ row L B CA 20250102 3 ∷ row L B CA 20250102 1 ∷ row L B CA 20250102 4 ∷ [])
+    (0 ∷ 0 ∷ 0 ∷ 0 ∷ []) [] (0 ∷ 36 ∷ 1 ∷ 1 ∷ 3 ∷ 1 ∷ 4 ∷ 3 ∷ 1 ∷ 0 ∷ 2 ∷ [])
     ∷ proposal "the ranking by margin and not by value" (row L B CA 20250102 3 ∷ row L C ON 20250102 2 ∷ []) (0 ∷ 0 ∷ []) [] (0 ∷ 36 ∷ 1 ∷ 3 ∷ 2 ∷ 1 ∷ 0 ∷ [])
     ∷ []
 

@@ -72,7 +72,8 @@ pub fn columns_too_short(
     amount: usize,
     answer: usize,
 ) -> bool
-    ensures { λ r. ⌜ r ≡ tooShort ((1, head) ∷ (holdings, side) ∷ (holdings, kind) ∷ (holdings, issuer) ∷ (holdings, maturity) ∷ (holdings, value) ∷ (holdings, currency) ∷ (holdings, price)
+    ensures { λ r. ⌜ r ≡ tooShort ((1, head)
+        ∷ (holdings, side) ∷ (holdings, kind) ∷ (holdings, issuer) ∷ (holdings, maturity) ∷ (holdings, value) ∷ (holdings, currency) ∷ (holdings, price)
         ∷ (lines, long) ∷ (lines, short) ∷ (lines, amount) ∷ []) answer ⌝ }
 {
     (head / 8 < 1)

@@ -136,9 +136,9 @@ check-spec =
     (λ _ _. tt)
     (λ _ _. tt)
     (λ c.
-    let told = c .before .before .before in
-    let found = told .before .before in
-    head-refused _ _ _ _ _ _ _ (sized (found .before)) (found .account-of .ensures) (told .enum-told .given .1) (c .before .before .head-fault .ensures)
+    let none = c .before .before .before in
+    let found = none .before .before in
+    head-refused _ _ _ _ _ _ _ (sized (found .before)) (found .account-of .ensures) (none .enum-told .given .1) (c .before .before .head-fault .ensures)
     (c .refused2 .ensures ∙ ap refusalOf (c .before .fault-at2 .ensures)))
     (λ c κs.
     let k = c .before .before in
