@@ -9,7 +9,7 @@ use borrow.Author.Needs.{needs}
 use Rattle.words.specs.Words.{entries}
 use Rattle.columns.specs.Columns.{countIn, holdingSizes, lineSizes}
 use Rattle.verdict.specs.Judges.{refusalOf}
-use Rattle.verdict.proofs.Checked.{Sized, lengths-refused, lengths-fit, head-refused, head-dated, Held, book-refused, book-held}
+use Rattle.verdict.proofs.Checked.{Sized, lengths-refused, lengths-fit, head-refused, Dated, head-dated, Held, book-refused, book-held}
 use Rattle.verdict.proofs.Checked.{lines-lent, prices-lent, values-lent, line-refused, margins-lent, pair-refused, totals-refused, margins-held, all-judged}
 use Rattle.verdict.proofs.check.Statement.{statement}
 use Rattle.verdict.proofs.check.Tie as tie
@@ -31,6 +31,18 @@ SizedAt c =
 sized : (c : tie.Else1) → SizedAt (start (c .before))
 unfolding holdingSizes lineSizes
 sized c = lengths-fit _ _ _ _ _ _ _ (c .before .lengths .ensures) (c .if1 .left)
+
+-- the account that was made is the head's
+abbrev DatedAt : tie.After-known-told → Type 0
+DatedAt c =
+    let b = start (c .before .before .before .before .before) in
+    let a = b .args in
+    Dated (a .two) (a .head) (a .side .now) (others b) (a .price .now) (a .long .now) (a .short .now ∷ a .amount .now ∷ []) (c .before .headed .given .0 .0)
+
+dated : (c : tie.After-known-told) → DatedAt c
+dated c =
+    let found = c .before .before .before in
+    head-dated _ _ _ _ _ _ _ (sized (found .before)) (found .account-of .ensures) (c .before .headed .given .1)
 
 -- the legs and what is left after the book was opened
 abbrev before-open : tie.After-open → tie.Else1
@@ -55,9 +67,7 @@ unfolding entries
 held c =
     let o = opened c in
     let z = sized (before-open o) in
-    let k = o .before .before .before in
-    let d = head-dated _ _ _ _ _ _ _ z (k .before .before .before .account-of .ensures) (k .before .headed .given .1) in
-    book-held _ _ _ _ _ _ _ d (start (before-open o .before) .pre .left-held (z .few)) (o .«open» .ensures) (c .if2 .left)
+    book-held _ _ _ _ _ _ _ (dated (o .before .before .before)) (start (before-open o .before) .pre .left-held (z .few)) (o .«open» .ensures) (c .if2 .left)
 
 -- the lines taken off, the pairs looked at, the totals compared
 abbrev taken : tie.Else3 → tie.After-take-lines
@@ -145,9 +155,8 @@ check-spec =
     let found = k .before .before .before in
     let z = sized (found .before) in
     let room = start (found .before .before) .pre in
-    let d = head-dated _ _ _ _ _ _ _ z (found .account-of .ensures) (k .before .headed .given .1) in
     unfold countIn entries in
-    record { valued = d .valued; few = z .few; each = z .each; prices = z .prices; legs-held = room .legs-held (z .few); left-held = room .left-held (z .few) })
+    record { valued = dated k .valued; few = z .few; each = z .each; prices = z .prices; legs-held = room .legs-held (z .few); left-held = room .left-held (z .few) })
     (λ _ _. tt)
     (λ c. legs-long (c .before .before .before .before .before .before .before))
     (λ c. left-long (c .before .before .before .before .before .before .before))
@@ -155,9 +164,7 @@ check-spec =
     let o = c .before .before .before .before .before .before .before in
     let z = sized (before-open o) in
     unfold entries in
-    let k = o .before .before .before in
-    let d = head-dated _ _ _ _ _ _ _ z (k .before .before .before .account-of .ensures) (k .before .headed .given .1) in
-    book-refused _ _ _ _ _ _ _ d (start (before-open o .before) .pre .left-held (z .few)) (o .«open» .ensures) (c .before .if2 .taken) (c .refused3 .ensures))
+    book-refused _ _ _ _ _ _ _ (dated (o .before .before .before)) (start (before-open o .before) .pre .left-held (z .few)) (o .«open» .ensures) (c .before .if2 .taken) (c .refused3 .ensures))
     (λ c κs. lines-lent _ _ _ _ _ _ _ (held (c .before .before)))
     (λ _ _. tt)
     (λ c. legs-long (opened (c .before .before .before .before .before .before .before .before .before)))
