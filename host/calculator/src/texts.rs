@@ -68,6 +68,32 @@ pub fn dated<T: AsRef<str>>(records: &[T]) -> Vec<u8> {
     [joined(&[date]), joined(records)].concat()
 }
 
+/// The last line of a file of equal ones: as the others, and with a fault for each refusal of a record, each
+/// with its name and the number that the file gets.
+#[must_use]
+pub fn last_lines() -> [(&'static str, String, u64); 5] {
+    let good = PRINTED[4];
+    [
+        ("no fault", good.to_string(), 0),
+        ("a tab", format!("{good}\t"), 19),
+        ("a field too many", of_width(good, FIELDS + 1), 20),
+        ("an amount of 01", line("0,1,01"), 21),
+        ("a second date", PRINTED[0].to_string(), 22),
+    ]
+}
+
+/// The file of document 01's valuation date and so many lines, equal but for the last.
+///
+/// # Panics
+///
+/// If there is no line.
+#[must_use]
+pub fn equal_lines(count: usize, last: &str) -> Vec<u8> {
+    let mut lines = vec![PRINTED[4]; count];
+    lines[count - 1] = last;
+    dated(&lines)
+}
+
 /// Records with a CRLF after each.
 pub fn joined<T: AsRef<str>>(records: &[T]) -> Vec<u8> {
     let mut text = Vec::new();

@@ -6,8 +6,8 @@ use std::time::{Duration, Instant};
 pub const BATCHES: usize = 21;
 const BATCH_TIME: Duration = Duration::from_millis(10);
 
-/// How often a second each of two calls can be made: the median of its batches.
-pub fn rates(mut calls: [&mut dyn FnMut(); 2]) -> [f64; 2] {
+/// How often a second each of some calls can be made: the median of its batches.
+pub fn rates<const N: usize>(mut calls: [&mut dyn FnMut(); N]) -> [f64; N] {
     let counts = calls.each_mut().map(|call| batch_size(*call));
     let mut rates = counts.map(|_| Vec::with_capacity(BATCHES));
     for _ in 0..BATCHES {
