@@ -19,9 +19,9 @@ pub row-back : (r : Row) → rowBy (numbersOf r) ≡ r
 unfolding numbersOf
 row-back r = refl
 
-pub numbers-back : (xs : List ℕ) → length xs ≡ 6 → numbersOf (rowBy xs) ≡ xs
+pub numbers-back : (xs : List ℕ) → length xs ≡ 7 → numbersOf (rowBy xs) ≡ xs
 unfolding numbersOf listTo
-numbers-back xs h = to-back 6 xs 0 h
+numbers-back xs h = to-back 7 xs 0 h
 
 module _ {a : Account} {r : Row} {b : Built} (p : Builds a r b) where
   made-of-none : faultOf a r ≡ 0 → b ≡ Made (holdingOf r)

@@ -2,7 +2,8 @@
 ghost use mathlib.Core.Path.{_≡_};
 ghost use Rattle.lists.specs.Choice.{firstOf};
 ghost use Rattle.holding.specs.Holding.{headFault, headedOf, identityFaults, termFaults, worthFaults, moneyFaults, faultOf, Builds};
-ghost use Rattle.holding.specs.Holding.{sideOf, kindOf, issuerOf, currencyOf, sideNumber, kindNumber, issuerNumber, currencyNumber, rowOf};
+ghost use Rattle.holding.specs.Holding.{sideOf, kindOf, isCorporation, isIssuer, issuerOf, currencyOf, isRated, ratingOf};
+ghost use Rattle.holding.specs.Holding.{sideNumber, kindNumber, issuerNumber, currencyNumber, ratingNumber, rowOf};
 
 pub enum Side {
     Long,
@@ -20,12 +21,20 @@ pub enum Issuer {
     Province(u64),
     UnitedStates,
     UnitedKingdom,
+    Corporation(u64),
 }
 
 pub enum Currency {
     Cad,
     Usd,
     Gbp,
+}
+
+// Whether a corporation is rated single A or higher; of a government nothing is said.
+pub enum Rating {
+    SingleA,
+    Lower,
+    NotGiven,
 }
 
 // What is said once for all holdings, as it comes, of any size: the valuation date as a number YYYYMMDD.
@@ -45,6 +54,7 @@ pub struct Holding {
     pub maturity: u32,
     pub value: u64,
     pub currency: Currency,
+    pub rating: Rating,
 }
 
 // A holding's numbers as they come, of any size.
@@ -55,6 +65,7 @@ pub struct Row {
     pub maturity: u64,
     pub value: u64,
     pub currency: u64,
+    pub rating: u64,
 }
 
 // What a head makes: an account, or none.
@@ -91,6 +102,17 @@ pub fn account_of(head: Head) -> Headed
     })
 }
 
+// Whether a number is an issuer's: a government's or a corporation's.
+fn is_issuer(issuer: u64) -> bool
+    ensures { λ r. ⌜ r ≡ isIssuer issuer ⌝ }
+{
+    match issuer {
+        0..=12 => true,
+        100..=355 => true,
+        _ => false,
+    }
+}
+
 // The number of the first fault of what a row is, 4 to 6, or 0 for none.
 pub fn identity_fault(row: Row) -> u64
     ensures { λ r. ⌜ r ≡ firstOf (identityFaults row) 0 ⌝ }
@@ -101,7 +123,7 @@ pub fn identity_fault(row: Row) -> u64
     if row.kind > 2 {
         return 5;
     }
-    if row.issuer > 12 {
+    if !is_issuer(row.issuer) {
         return 6;
     }
     0
@@ -136,17 +158,40 @@ pub fn worth_fault(row: Row) -> u64
     0
 }
 
-// The fault of its money, 23, or 0.
+// Whether a number is a corporation's.
+fn is_corporation(issuer: u64) -> bool
+    ensures { λ r. ⌜ r ≡ isCorporation issuer ⌝ }
+{
+    match issuer {
+        100..=355 => true,
+        _ => false,
+    }
+}
+
+// Whether a rating is one that an issuer has: of a corporation 0 or 1, of any other 2.
+fn is_rated(issuer: u64, rating: u64) -> bool
+    ensures { λ r. ⌜ r ≡ isRated issuer rating ⌝ }
+{
+    if is_corporation(issuer) {
+        return rating <= 1;
+    }
+    rating == 2
+}
+
+// The first fault of its money, 23, or of its rating, 25, or 0.
 pub fn money_fault(row: Row) -> u64
     ensures { λ r. ⌜ r ≡ firstOf (moneyFaults row) 0 ⌝ }
 {
     if row.currency > 2 {
         return 23;
     }
+    if !is_rated(row.issuer, row.rating) {
+        return 25;
+    }
     0
 }
 
-// The number of a row's first fault, 4 to 6, 24, 7, 8 or 23, or 0 for none.
+// The number of a row's first fault, 4 to 6, 24, 7, 8, 23 or 25, or 0 for none.
 pub fn fault(account: Account, row: Row) -> u64
     ensures { λ r. ⌜ r ≡ faultOf account row ⌝ }
 {
@@ -191,6 +236,7 @@ fn issuer_of(issuer: u64) -> Issuer
         0 => Issuer::Canada,
         11 => Issuer::UnitedStates,
         12 => Issuer::UnitedKingdom,
+        100..=355 => Issuer::Corporation(issuer),
         _ => Issuer::Province(issuer),
     }
 }
@@ -202,6 +248,16 @@ fn currency_of(currency: u64) -> Currency
         0 => Currency::Cad,
         1 => Currency::Usd,
         _ => Currency::Gbp,
+    }
+}
+
+fn rating_of(rating: u64) -> Rating
+    ensures { λ r. ⌜ r ≡ ratingOf rating ⌝ }
+{
+    match rating {
+        0 => Rating::SingleA,
+        1 => Rating::Lower,
+        _ => Rating::NotGiven,
     }
 }
 
@@ -217,6 +273,7 @@ pub fn holding_of(account: Account, row: Row) -> Built
     let kind = kind_of(row.kind);
     let issuer = issuer_of(row.issuer);
     let currency = currency_of(row.currency);
+    let rating = rating_of(row.rating);
     Built::Made(Holding {
         side,
         kind,
@@ -224,6 +281,7 @@ pub fn holding_of(account: Account, row: Row) -> Built
         maturity: row.maturity as u32,
         value: row.value,
         currency,
+        rating,
     })
 }
 
@@ -260,6 +318,10 @@ fn issuer_number(issuer: Issuer) -> u64
         },
         Issuer::UnitedStates => 11,
         Issuer::UnitedKingdom => 12,
+        Issuer::Corporation(c) => match c {
+            100..=355 => c,
+            _ => NO_ISSUER,
+        },
     }
 }
 
@@ -273,6 +335,16 @@ fn currency_number(currency: Currency) -> u64
     }
 }
 
+fn rating_number(rating: Rating) -> u64
+    ensures { λ r. ⌜ r ≡ ratingNumber rating ⌝ }
+{
+    match rating {
+        Rating::SingleA => 0,
+        Rating::Lower => 1,
+        Rating::NotGiven => 2,
+    }
+}
+
 // The numbers of a record.
 pub fn row_of(h: Holding) -> Row
     ensures { λ r. ⌜ r ≡ rowOf h ⌝ }
@@ -281,6 +353,7 @@ pub fn row_of(h: Holding) -> Row
     let kind = h.kind;
     let issuer = h.issuer;
     let currency = h.currency;
+    let rating = h.rating;
     Row {
         side: side_number(side),
         kind: kind_number(kind),
@@ -288,5 +361,6 @@ pub fn row_of(h: Holding) -> Row
         maturity: h.maturity as u64,
         value: h.value,
         currency: currency_number(currency),
+        rating: rating_number(rating),
     }
 }

@@ -16,9 +16,9 @@ returns c = record {
 }
 
 -- the maturity of a row without fault is small
-cast-t9 : tie.Need-cast-t9
-cast-t9 c =
-    let passed = c .before .before .before .before .before in
+cast-t10 : tie.Need-cast-t10
+cast-t10 c =
+    let passed = c .before .before .before .before .before .before in
     let ranges = fault-none _ _ (sym (passed .before .fault .ensures) ∙ passed .if1 .left) in
     let high = date-high _ (ranges .maturity .date) in
     search (needs, high)
@@ -27,9 +27,15 @@ returns-2 : tie.Need-returns-2
 unfolding builtOf holdingOf
 returns-2 c =
     let made = c .before in
-    let passed = made .before .before .before .before in
+    let passed = made .before .before .before .before .before in
     let none = sym (passed .before .fault .ensures) ∙ passed .if1 .left in
-    rw (made .before .before .before .side-of .ensures, made .before .before .kind-of .ensures, made .before .issuer-of .ensures, made .currency-of .ensures)
+    rw (
+      made .before .before .before .before .side-of .ensures,
+      made .before .before .before .kind-of .ensures,
+      made .before .before .issuer-of .ensures,
+      made .before .currency-of .ensures,
+      made .rating-of .ensures,
+    )
     (record { number = sym none; built = rw (eq-eqb _ 0 none) })
 
 pub holding-of-spec : {M : Type 1} → statement M
@@ -42,5 +48,6 @@ holding-of-spec =
     (λ c κs. search needs)
     (λ c κs. search needs)
     (λ c κs. search needs)
-    cast-t9
+    (λ c κs. search needs)
+    cast-t10
     returns-2)

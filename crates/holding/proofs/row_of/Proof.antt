@@ -7,8 +7,14 @@ use Rattle.holding.proofs.row_of.Tie as tie
 returns : tie.Need-returns
 unfolding rowOf
 returns c =
-    let issued = c .before .before in
-    rw (issued .before .before .side-number .ensures, issued .before .kind-number .ensures, issued .issuer-number .ensures, c .currency-number .ensures)
+    let issued = c .before .before .before in
+    rw (
+      issued .before .before .side-number .ensures,
+      issued .before .kind-number .ensures,
+      issued .issuer-number .ensures,
+      c .before .currency-number .ensures,
+      c .rating-number .ensures,
+    )
 
 pub row-of-spec : {M : Type 1} → statement M
 row-of-spec =
@@ -18,5 +24,6 @@ row-of-spec =
     (λ c κs. search needs)
     (λ c κs. search needs)
     (λ c. search needs)
+    (λ c κs. search needs)
     (λ c κs. search needs)
     returns)
