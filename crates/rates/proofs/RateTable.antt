@@ -12,10 +12,10 @@ use Rattle.holding.specs.declared.Holding.{Holding}
 use Rattle.rates.specs.Rate.{periodOf, percents, flatRate, bondRate, stripRate, kindRate, classOf, rateAt, rateOf}
 use Rattle.rates.specs.RateTable.{Rates, RateTable}
 use Rattle.rates.proofs.Periods.{end, over-fewer, below-more, over, up-to, period-1, period-2, period-3, period-4, period-5}
-use Rattle.rates.proofs.Terms.{within-one, over-one, below-twenty, from-twenty}
+use Rattle.rates.proofs.Terms.{within-one, over-one, of-corporation, below-twenty, from-twenty}
 
 -- what is no bond has a strip's rate
-strip : (k : Kind) (bond : ℕ) (a : Account) (m : ℕ) → (k ≡ Bond → ⊥) → kindRate k bond a m ≡ stripRate bond a m
+pub strip : (k : Kind) (bond : ℕ) (a : Account) (m : ℕ) → (k ≡ Bond → ⊥) → kindRate k bond a m ≡ stripRate bond a m
 unfolding kindRate
 strip Bond bond a m f = absurd (f refl)
 strip Coupon bond a m f = refl
@@ -26,9 +26,9 @@ module _ (a : Account) (h : Holding) where
   m = h .maturity
 
   -- a bond's rate up to a year, and in a period over a year
-  fraction : m ≤ end a 1 → (class : ℕ) → bondRate class a m ≡ flatRate class 1 * daysBetween (a .date) m / 365
-  fraction l class =
-      within-one class a m (up-to a m 1 l)
+  fraction : m ≤ end a 1 → (class : ℕ) → (class ≡ 2 → ⊥) → bondRate class a m ≡ flatRate class 1 * daysBetween (a .date) m / 365
+  fraction l class g =
+      within-one class a m g (up-to a m 1 l)
       ∙ ap (λ (p : ℕ). flatRate class p * daysBetween (a .date) m / 365) (period-1 a m l)
 
   flat : (p : ℕ) → end a 1 < m → periodOf a m ≡ p → (class : ℕ) → bondRate class a m ≡ flatRate class p
@@ -43,8 +43,9 @@ module _ (a : Account) (h : Holding) where
   of-strip p q e k = strip (h .kind) _ a m k ∙ rw (e, p) q
 
   -- a row from the rates of the bonds
-  rates : {x y z w : ℕ} → bondRate 0 a m ≡ x → stripRate x a m ≡ y → bondRate 1 a m ≡ z → stripRate z a m ≡ w → Rates a h x y z w
-  rates p q r s = record {
+  rates : {x y z w u v : ℕ} → bondRate 0 a m ≡ x → stripRate x a m ≡ y → bondRate 1 a m ≡ z → stripRate z a m ≡ w → bondRate 2 a m ≡ u → stripRate u a m ≡ v
+      → Rates a h x y z w u v
+  rates p q r s t c = record {
     of-canada-bond = of-bond p;
     of-canada-strip = of-strip p q;
     of-province-bond = λ _. of-bond r;
@@ -53,11 +54,13 @@ module _ (a : Account) (h : Holding) where
     of-us-strip = of-strip p q;
     of-gb-bond = of-bond p;
     of-gb-strip = of-strip p q;
+    of-corporation-bond = λ _. of-bond t;
+    of-corporation-strip = λ _. of-strip t c;
   }
 
   -- a row over a year and below 20 years
-  short : (p : ℕ) → end a 1 < m → m < end a 20 → periodOf a m ≡ p → Rates a h (flatRate 0 p) (flatRate 0 p * 3 / 2) (flatRate 1 p) (flatRate 1 p * 3 / 2)
-  short p l b e = rates (flat p l e 0) (below-twenty _ a m b) (flat p l e 1) (below-twenty _ a m b)
+  short : (p : ℕ) → end a 1 < m → m < end a 20 → periodOf a m ≡ p → Rates a h (flatRate 0 p) (flatRate 0 p * 3 / 2) (flatRate 1 p) (flatRate 1 p * 3 / 2) (flatRate 2 p) (flatRate 2 p * 3 / 2)
+  short p l b e = rates (flat p l e 0) (below-twenty _ a m b) (flat p l e 1) (below-twenty _ a m b) (flat p l e 2) (below-twenty _ a m b)
 
   pub rate-table : RateTable a h
   unfolding flatRate percents
@@ -65,7 +68,9 @@ module _ (a : Account) (h : Holding) where
       record {
         row-1 = λ b.
             let low = below-more a m 1 20 (omega arith) b in
-            rates (fraction b 0 ∙ omega arith) (below-twenty _ a m low ∙ omega arith) (fraction b 1 ∙ omega arith) (below-twenty _ a m low ∙ omega arith);
+            let whole = of-corporation 2 a m refl ∙ ap (flatRate 2) (period-1 a m b) in
+            rates (fraction b 0 (λ z. omega arith) ∙ omega arith) (below-twenty _ a m low ∙ omega arith) (fraction b 1 (λ z. omega arith) ∙ omega arith)
+            (below-twenty _ a m low ∙ omega arith) whole (below-twenty _ a m low);
         row-2 = λ l b. short 2 l (below-more a m 3 20 (omega arith) b) (period-2 a m l b);
         row-3 = λ l b. short 3 (over-fewer a m 1 3 (omega arith) l) (below-more a m 7 20 (omega arith) b) (period-3 a m l b);
         row-4 = λ l b. short 4 (over-fewer a m 1 7 (omega arith) l) (below-more a m 11 20 (omega arith) b) (period-4 a m l b);
@@ -73,5 +78,5 @@ module _ (a : Account) (h : Holding) where
         row-5-from = λ b.
             let l : end a 11 < m = omega (arith, anniversary-grows (a .date) 11 20 (omega arith)) in
             let over-11 = flat 5 (over-fewer a m 1 11 (omega arith) l) (period-5 a m l) in
-            rates (over-11 0) (from-twenty _ a m b) (over-11 1) (from-twenty _ a m b);
+            rates (over-11 0) (from-twenty _ a m b) (over-11 1) (from-twenty _ a m b) (over-11 2) (from-twenty _ a m b);
       }

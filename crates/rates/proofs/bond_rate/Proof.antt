@@ -11,7 +11,7 @@ use Rattle.holding.specs.declared.Account.{Account}
 use Rattle.rates.specs.Rate.{bondRate, flatRate, periodOf}
 use Rattle.rates.proofs.Periods.{first-only, not-first}
 use Rattle.rates.proofs.FlatRates.{table, flat-right, flat-high}
-use Rattle.rates.proofs.Terms.{within-one, over-one}
+use Rattle.rates.proofs.Terms.{within-one, over-one, of-corporation}
 use Rattle.rates.proofs.bond_rate.Statement.{statement}
 use Rattle.rates.proofs.bond_rate.Tie as tie
 
@@ -20,24 +20,27 @@ module _ (class period own flat : ℕ) (a : Account) (m : ℕ) (read : flat ≡ 
   entry : flat ≡ flatRate own (periodOf a m)
   entry = read ∙ flat-right class period ∙ (λ i. flatRate (p i) (q i))
 
-  high : flat ≤ 7300
+  high : flat ≤ 14600
   high = rw entry (flat-high own (periodOf a m))
 
   small : flat < 18446744073709551616
   small = omega (arith, high)
 
   -- the days to any maturity that the code can be given are few enough
-  few : (days : ℕ) → days ≤ 200000000 → flat * days ≤ 7300 * 200000000
+  few : (days : ℕ) → days ≤ 200000000 → flat * days ≤ 14600 * 200000000
   few days h = mul-le-mul high h
 
   below : (days : ℕ) → days ≤ 200000000 → flat * days < 18446744073709551616
   below days h = omega (arith, few days h)
 
-  early : (days : ℕ) → days ≡ daysBetween (a .date) m → days ≤ 200000000 → period ≡ 1
-      → (flat * days / 365 ≡ bondRate own a m) × (flat * days / 365 ≤ 4000000000)
-  early days d h e = (rw (entry, d) (sym (within-one own a m (first-only a m (sym q ∙ e)))), omega (arith, few days h))
+  early : (days : ℕ) → days ≡ daysBetween (a .date) m → days ≤ 200000000 → (class ≡ 2 → ⊥) → period ≡ 1
+      → (flat * days / 365 ≡ bondRate own a m) × (flat * days / 365 ≤ 8000000000)
+  early days d h g e = (rw (entry, d) (sym (within-one own a m (λ z. g (p ∙ z)) (first-only a m (sym q ∙ e)))), omega (arith, few days h))
 
-  late : (period ≡ 1 → ⊥) → (flat ≡ bondRate own a m) × (flat ≤ 4000000000)
+  whole : class ≡ 2 → (flat ≡ bondRate own a m) × (flat ≤ 8000000000)
+  whole e = (entry ∙ sym (of-corporation own a m (sym p ∙ e)), omega (arith, high))
+
+  late : (period ≡ 1 → ⊥) → (flat ≡ bondRate own a m) × (flat ≤ 8000000000)
   late e = (entry ∙ sym (over-one own a m (not-first a m (λ f. e (q ∙ f)))), omega (arith, high))
 
 cast-flat : tie.Need-cast-flat
@@ -47,18 +50,23 @@ cast-flat c =
 
 mul-result : tie.Need-mul-result
 mul-result c =
-    let found = c .before .before .before in
+    let found = c .before .before .before .before in
     record { fits = below _ _ _ _ _ _ refl (found .before .class-of .ensures .0) (found .period .ensures .0) _ (omega arith) }
 
 returns : tie.Need-returns
 returns c =
-    let found = c .before .before .before in
-    early _ _ _ _ _ _ refl (found .before .class-of .ensures .0) (found .period .ensures .0) _ (omega arith) (omega arith) (omega arith)
+    let found = c .before .before in
+    whole _ _ _ _ _ _ refl (found .before .class-of .ensures .0) (found .period .ensures .0) (c .if1 .taken)
 
 returns-2 : tie.Need-returns-2
 returns-2 c =
-    let found = c .before .before in
-    late _ _ _ _ _ _ refl (found .before .class-of .ensures .0) (found .period .ensures .0) (c .if1 .left)
+    let found = c .before .before .before .before in
+    early _ _ _ _ _ _ refl (found .before .class-of .ensures .0) (found .period .ensures .0) _ (omega arith) (omega arith) (c .before .before .if1 .left) (omega arith)
+
+returns-3 : tie.Need-returns-3
+returns-3 c =
+    let found = c .before .before .before in
+    late _ _ _ _ _ _ refl (found .before .class-of .ensures .0) (found .period .ensures .0) (c .if2 .left)
 
 pub bond-rate-spec : {M : Type 1} → statement M
 bond-rate-spec =
@@ -72,7 +80,8 @@ bond-rate-spec =
     (λ c. search needs)
     (λ c. search needs)
     cast-flat
+    returns
     (λ c κs. search needs)
     mul-result
-    returns
-    returns-2)
+    returns-2
+    returns-3)
