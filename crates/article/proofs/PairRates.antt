@@ -7,9 +7,9 @@ use Rattle.rates.specs.Rate.{rateOf}
 use Rattle.rates.proofs.Rates.{rate-even}
 use Rattle.holding.specs.declared.Holding.{Holding}
 use Rattle.holding.specs.declared.Account.{Account}
-use Rattle.article.specs.Pair.{ruleRate, permits, pairRateOf, savingRateOf, ruleOf, rateLimit, savingLimit, RateInRange}
+use Rattle.article.specs.Pair.{ruleRate, permits, pairRateOf, savingRateOf, ruleOf, rateLimit}
 use Rattle.article.specs.declared.pair.Rule.{Rule}
-use Rattle.article.specs.declared.pair.Rule.the-variants.{Difference, HalfSum, NotAllowed}
+use Rattle.article.specs.declared.pair.Rule.the-variants.{Difference, HalfSum, Capped, NotAllowed}
 use Rattle.article.specs.declared.pair.Leg.{Leg}
 
 -- the difference is the excess of the greater rate over the lesser, never negative
@@ -29,6 +29,7 @@ pub rule-rate-le : (r : Rule) (a b : ℕ) → ruleRate r a b ≤ a + b
 unfolding ruleRate
 rule-rate-le Difference a b = omega arith
 rule-rate-le HalfSum a b = omega arith
+rule-rate-le Capped a b = omega arith
 rule-rate-le NotAllowed a b = omega arith
 
 -- a pair's rate and its saving rate are together the two rates
@@ -36,14 +37,10 @@ pub rate-and-saving : (l s : Leg) → pairRateOf l s + savingRateOf l s ≡ l .r
 unfolding savingRateOf pairRateOf
 rate-and-saving l s = omega (arith, rule-rate-le (ruleOf l s) (l .rate) (s .rate))
 
--- the saving rate lies between 0 and 43,800
-pub saving-high : (l s : Leg) → RateInRange l → RateInRange s → savingRateOf l s ≤ savingLimit
-unfolding savingRateOf
-saving-high l s f g = omega arith
-
 -- a rule that permits makes no rate above the article's highest
 pub permitted-high : (r : Rule) (a b : ℕ) → permits r ≡ true → a ≤ rateLimit → b ≤ rateLimit → ruleRate r a b ≤ rateLimit
 unfolding ruleRate
 permitted-high Difference a b p f g = omega arith
 permitted-high HalfSum a b p f g = omega arith
+permitted-high Capped a b p f g = omega arith
 permitted-high NotAllowed a b p f g = absurd (false≢true p)

@@ -1,11 +1,11 @@
--- THE PAGE OF HOLDINGS, RATES AND PAIRS: what document 01 and document 02 a) and b) say of them, in their own words; proofs/Article.antt proves it. What a date, an
+-- THE PAGE OF HOLDINGS, RATES AND PAIRS: what document 01 and document 02 a), b) and d) say of them, in their own words; proofs/Article.antt proves it. What a date, an
 -- anniversary and the days between are, is on the page Dates. Assumes nothing.
 use mathlib.Core.{Path._≡_, Bool.true, Bool.false, Logic._↔_, Logic._⊎_}
 use Prim.Native.Nat.{ℕ, _*_, _≤_, _+_, min, max}
 use Rattle.article.specs.Pair.{legOf, allowed, pairRateOf, savingRateOf}
 use Rattle.rates.specs.{Rate.rateOf, Rate.periodOf, RateTable.Periods, RateTable.RateTable}
-use Rattle.holding.specs.declared.{Head.Head, Account.Account, Side.the-variants.Long, Side.the-variants.Short, Kind.Kind, Kind.the-variants.Bond, Holding.Holding, Row.Row}
-use Rattle.holding.specs.declared.Issuer.{Issuer, the-variants.Canada, the-variants.Province, the-variants.UnitedStates, the-variants.UnitedKingdom}
+use Rattle.holding.specs.declared.{Head.Head, Account.Account, Side.the-variants.Long, Side.the-variants.Short, Kind.Kind, Kind.the-variants.Bond, Rating.the-variants.SingleA, Holding.Holding, Row.Row}
+use Rattle.holding.specs.declared.Issuer.{Issuer, the-variants.Canada, the-variants.Province, the-variants.UnitedStates, the-variants.UnitedKingdom, the-variants.Corporation}
 use Rattle.holding.specs.declared.Currency.{Currency, the-variants.Cad, the-variants.Usd, the-variants.Gbp}
 use Rattle.lists.specs.Choice.{within}
 use Rattle.holding.specs.Holding.{HeadKept, Ranges, InRange, faultOf, RowRefused, rowOf, holdingOf, Numbers}
@@ -54,12 +54,31 @@ pub record Paragraph4 (l s : Holding) : Type 0 where
   pub government : SameGovernment (l .issuer) (s .issuer)
   pub one-bond : OneBond (l .kind) (s .kind)
 
--- one long and one short may be paired if both lie in the same period and one of the two paragraphs has them; nothing else pairs
+-- of the same corporation
+pub data SameCorporation : Issuer → Issuer → Type 0 where
+  of-corporation : (c : ℕ) → SameCorporation (Corporation c) (Corporation c)
+
+-- paragraph 3: one bond with one strip, both in CAD, same issuer, the bond rated single A or higher
+pub record Paragraph3 (l s : Holding) : Type 0 where
+  pub first-cad : l .currency ≡ Cad
+  pub second-cad : s .currency ≡ Cad
+  pub corporation : SameCorporation (l .issuer) (s .issuer)
+  pub one-bond : OneBond (l .kind) (s .kind)
+  pub long-rated : l .kind ≡ Bond → l .rating ≡ SingleA
+  pub short-rated : s .kind ≡ Bond → s .rating ≡ SingleA
+
+-- one of the three paragraphs
+pub data ByParagraph (l s : Holding) : Type 0 where
+  by-2 : Paragraph2 l s → ByParagraph l s
+  by-3 : Paragraph3 l s → ByParagraph l s
+  by-4 : Paragraph4 l s → ByParagraph l s
+
+-- one long and one short may be paired if both lie in the same period and one of the paragraphs has them; nothing else pairs
 pub record MayPair (a : Account) (l s : Holding) : Type 0 where
   pub first-long : l .side ≡ Long
   pub second-short : s .side ≡ Short
   pub period : periodOf a (l .maturity) ≡ periodOf a (s .maturity)
-  pub paragraph : Paragraph2 l s ⊎ Paragraph4 l s
+  pub paragraph : ByParagraph l s
 
 -- what two holdings within the ranges have as a pair
 pub record Pairing (a : Account) (l s : Holding) : Type 0 where
@@ -70,6 +89,8 @@ pub record Pairing (a : Account) (l s : Holding) : Type 0 where
   pub half-sum : MayPair a l s → TwoClasses (l .issuer) (s .issuer) → 2 * pairRateOf (legOf a l) (legOf a s) ≡ rateOf a l + rateOf a s
   -- of the same government in the same foreign currency: the difference
   pub foreign : MayPair a l s → Paragraph4 l s → min (rateOf a l) (rateOf a s) + pairRateOf (legOf a l) (legOf a s) ≡ max (rateOf a l) (rateOf a s)
+  -- of one corporation: the lesser of 29,200 and the greater of the two rates
+  pub corporate : MayPair a l s → Paragraph3 l s → pairRateOf (legOf a l) (legOf a s) ≡ min 29200 (max (rateOf a l) (rateOf a s))
   -- the saving rate is the sum of the two rates less the pair's rate, between 0 and 43,800
   pub saving : pairRateOf (legOf a l) (legOf a s) + savingRateOf (legOf a l) (legOf a s) ≡ rateOf a l + rateOf a s
   pub saving-range : savingRateOf (legOf a l) (legOf a s) ≤ 43800
@@ -79,14 +100,16 @@ pub record Unpaired (h : Holding) : Type 0 where
   pub as-long : (a : Account) (s : Holding) → allowed (legOf a h) (legOf a s) ≡ false
   pub as-short : (a : Account) (l : Holding) → allowed (legOf a l) (legOf a h) ≡ false
 
--- a province of another number is no issuer: no record within the ranges has it, and it is in no pair
-pub record UnknownIssuer (p : ℕ) : Type 0 where
-  pub out-of-range : (a : Account) (h : Holding) → h .issuer ≡ Province p → InRange a h → ⊥
-  pub unpaired : (h : Holding) → h .issuer ≡ Province p → Unpaired h
+-- a province or a corporation of another number is no issuer: no record within the ranges has it, and it is in no pair
+pub record UnknownIssuer (i : Issuer) : Type 0 where
+  pub out-of-range : (a : Account) (h : Holding) → h .issuer ≡ i → InRange a h → ⊥
+  pub unpaired : (h : Holding) → h .issuer ≡ i → Unpaired h
 
--- provincial debt in foreign currency and US or GB debt in CAD stay unpaired
+-- provincial and corporate debt in foreign currency, US or GB debt in CAD and a corporation's bond that is not rated single A or higher stay unpaired
 pub record StayUnpaired (h : Holding) : Type 0 where
   pub province : (p : ℕ) → h .issuer ≡ Province p → (h .currency ≡ Cad → ⊥) → Unpaired h
+  pub corporation : (c : ℕ) → h .issuer ≡ Corporation c → (h .currency ≡ Cad → ⊥) → Unpaired h
+  pub unrated : (c : ℕ) → h .issuer ≡ Corporation c → h .kind ≡ Bond → (h .rating ≡ SingleA → ⊥) → Unpaired h
   pub us : h .issuer ≡ UnitedStates → h .currency ≡ Cad → Unpaired h
   pub gb : h .issuer ≡ UnitedKingdom → h .currency ≡ Cad → Unpaired h
 
@@ -94,13 +117,15 @@ pub record StayUnpaired (h : Holding) : Type 0 where
 pub record Article : Type 0 where
   pub each-head : (h : Head) → HeadKept h
   pub each-row : (a : Account) (r : Row) → RowKept a r
-  -- refused, it has the number of the first that is outside its range: 4 side, 5 kind, 6 issuer, 24 and 7 maturity, 8 value, 23 currency
+  -- refused, it has the number of the first that is outside its range: 4 side, 5 kind, 6 issuer, 24 and 7 maturity, 8 value, 23 currency, 25 rating
   pub refusals : (a : Account) (r : Row) → RowRefused a r
   -- a record within the ranges is the record of its numbers
   pub records : (a : Account) (h : Holding) → InRange a h → holdingOf (rowOf h) ≡ h
-  -- side 0 long, 1 short; kind 0 bond, 1 coupon, 2 residual; issuer 0 Canada, 1 to 10 a province, 11 US, 12 GB; currency 0 CAD, 1 USD, 2 GBP
+  -- side 0 long, 1 short; kind 0 bond, 1 coupon, 2 residual; issuer 0 Canada, 1 to 10 a province, 11 US, 12 GB, 100 to 355 a corporation;
+  -- currency 0 CAD, 1 USD, 2 GBP; rating 0 single A or higher, 1 lower, 2 none
   pub numbered : (h : Holding) → Numbers h
-  pub unknown-issuers : (p : ℕ) → within 1 10 p ≡ false → UnknownIssuer p
+  pub unknown-provinces : (p : ℕ) → within 1 10 p ≡ false → UnknownIssuer (Province p)
+  pub unknown-corporations : (c : ℕ) → within 100 355 c ≡ false → UnknownIssuer (Corporation c)
   pub ends : (a : Account) (maturity : ℕ) → Periods a maturity
   pub rates : (a : Account) (h : Holding) → RateTable a h
   pub pairs : (a : Account) (l s : Holding) → InRange a l → InRange a s → Pairing a l s

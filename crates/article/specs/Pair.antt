@@ -1,22 +1,23 @@
--- Document 01, "A pair", from the article's Group XI(2), and document 02 a), from Group XI(4). Assumes nothing.
-use mathlib.Core.{Bool.Bool, Bool.true, Bool.false, Bool.cond, Bool._&&_, Bool._||_, Path._≡_, List.[], List._∷_}
-use Prim.Native.Nat.{ℕ, _+_, _-_, _/_, _≤_, min, max}
+-- Document 01, "A pair", from the article's Group XI(2), document 02 a), from Group XI(4), and d), from Group XI(3). Assumes nothing.
+use mathlib.Core.{Bool.Bool, Bool.true, Bool.false, Bool.cond, Bool._&&_, Bool._||_, Path._≡_, List.[], List._∷_, Logic._⊎_}
+use Prim.Native.Nat.{ℕ, _+_, _-_, _*_, _/_, _≤_, min, max}
 use lib.Dec.{eqb}
 use Rattle.lists.specs.Choice.{firstOf, within}
 use Rattle.article.specs.Answer.{Answer, makeAnswer}
-use Rattle.rates.specs.Rate.{periodOf, rateOf}
-use Rattle.holding.specs.Holding.{rowOf}
+use Rattle.rates.specs.Rate.{periodOf, rateOf, flatRate}
+use Rattle.holding.specs.Holding.{rowOf, isCorporation}
 use Rattle.holding.specs.declared.{Account.Account, Holding.Holding}
-use Rattle.article.specs.declared.pair.{Rule.Rule, Rule.the-variants.Difference, Rule.the-variants.HalfSum, Rule.the-variants.NotAllowed, Leg.Leg, Pair.Pair}
+use Rattle.article.specs.declared.pair.{Rule.Rule, Rule.the-variants.Difference, Rule.the-variants.HalfSum, Rule.the-variants.Capped, Rule.the-variants.NotAllowed, Leg.Leg, Pair.Pair}
 use Rattle.article.specs.declared.pair.Pair.the-variants as pairs
 
--- what a pair asks of a holding in an account: the numbers of its side, kind, issuer and currency, its period, and its rate alone
+-- what a pair asks of a holding in an account: the numbers of its side, kind, issuer, currency and rating, its period, and its rate alone
 unfoldable pub legOf : Account → Holding → Leg
 legOf a h = record {
   side = rowOf h .side;
   kind = rowOf h .kind;
   issuer = rowOf h .issuer;
   currency = rowOf h .currency;
+  rating = rowOf h .rating;
   period = periodOf a (h .maturity);
   rate = rateOf a h;
 }
@@ -45,6 +46,12 @@ isUs l = eqb (l .issuer) 11
 
 unfoldable pub isGb : Leg → Bool
 isGb l = eqb (l .issuer) 12
+
+unfoldable pub isCorporate : Leg → Bool
+isCorporate l = isCorporation (l .issuer)
+
+unfoldable pub isSingleA : Leg → Bool
+isSingleA l = eqb (l .rating) 0
 
 unfoldable pub inCad : Leg → Bool
 inCad l = eqb (l .currency) 0
@@ -75,6 +82,17 @@ classRule l s = firstOf ((sameClass l s, Difference) ∷ (mixedClass l s, HalfSu
 unfoldable pub domesticRule : Leg → Leg → Rule
 domesticRule l s = cond (kindsPair l s) (classRule l s) NotAllowed
 
+-- exactly one is a bond, and that one is rated single A or higher
+unfoldable pub ratedBond : Leg → Leg → Bool
+ratedBond l s = (isBond l && isStrip s && isSingleA l) || (isStrip l && isBond s && isSingleA s)
+
+-- paragraph 3, of two legs in CAD, the long a corporation's: of the same issuer, the lesser of 20 percent and the greater rate
+unfoldable pub corporateRule : Leg → Leg → Rule
+corporateRule l s = cond (eqb (l .issuer) (s .issuer) && ratedBond l s) Capped NotAllowed
+
+unfoldable pub cadRule : Leg → Leg → Rule
+cadRule l s = cond (isCorporate l) (corporateRule l s) (domesticRule l s)
+
 -- exactly one is a bond
 unfoldable pub oneBond : Leg → Leg → Bool
 oneBond l s = (isBond l && isStrip s) || (isStrip l && isBond s)
@@ -94,24 +112,26 @@ bothCad l s = inCad l && inCad s
 unfoldable pub sameForeign : Leg → Leg → Bool
 sameForeign l s = (inUsd l && inUsd s) || (inGbp l && inGbp s)
 
--- which rule applies, one decision over the currencies, kinds and issuers of the two legs
+-- which rule applies, one decision over the currencies, issuers, kinds and ratings of the two legs
 unfoldable pub ruleOf : Leg → Leg → Rule
-ruleOf l s = cond (bothCad l s) (domesticRule l s) (cond (sameForeign l s) (foreignRule l s) NotAllowed)
+ruleOf l s = cond (bothCad l s) (cadRule l s) (cond (sameForeign l s) (foreignRule l s) NotAllowed)
 
 -- a rule that allows the pair
 abbrev pub permits : Rule → Bool
 permits Difference = true
 permits HalfSum = true
+permits Capped = true
 permits NotAllowed = false
 
 -- one long and one short may be paired if both lie in the same period and a rule applies to them
 unfoldable pub allowed : Leg → Leg → Bool
 allowed l s = isLong l && isShort s && eqb (l .period) (s .period) && permits (ruleOf l s)
 
--- the rate that a rule makes of two: their difference, never negative; half their sum; without a rule, what the two have alone
+-- the rate that a rule makes of two: their difference, never negative; half their sum; the lesser of 29,200 and the greater; without a rule, what the two have alone
 unfoldable pub ruleRate : Rule → ℕ → ℕ → ℕ
 ruleRate Difference a b = max a b - min a b
 ruleRate HalfSum a b = (a + b) / 2
+ruleRate Capped a b = min 29200 (max a b)
 ruleRate NotAllowed a b = a + b
 
 -- the rate of a pair
@@ -133,14 +153,18 @@ pairOf l s = cond (allowed l s) (makeAnswer 0 (pairRateOf l s) (savingRateOf l s
 
 -- the article's highest rate, and the most that a pair can save
 abbrev pub rateLimit : ℕ
-rateLimit = 21900
+rateLimit = 43800
 
 abbrev pub savingLimit : ℕ
 savingLimit = 43800
 
--- a leg's rate is at most the highest
-abbrev pub RateInRange : Leg → Type 0
-RateInRange l = l .rate ≤ rateLimit
+-- the rate that a leg can have: at most the highest, of a government at most 21,900; of a corporation a bond has the rate of its period, and a strip one and a half
+-- times that, or in the fifth period three times
+pub record RateInRange (l : Leg) : Type 0 where
+  pub high : l .rate ≤ rateLimit
+  pub government : isCorporate l ≡ false → l .rate ≤ 21900
+  pub bond : isCorporate l ≡ true → isBond l ≡ true → l .rate ≡ flatRate 2 (l .period)
+  pub strip : isCorporate l ≡ true → isStrip l ≡ true → (2 * l .rate ≡ 3 * flatRate 2 (l .period)) ⊎ ((l .period ≡ 5) × (l .rate ≡ 43800))
 
 -- what pairing two legs promises
 pub record Pairs (l s : Leg) (r : Pair) : Type 0 where

@@ -2,23 +2,26 @@
 use holding::Account;
 use holding::Holding;
 ghost use mathlib.Core.Path.{_≡_};
-ghost use Prim.Native.Nat.{_+_, _≤_};
-ghost use Rattle.article.specs.Pair.{legOf, kindsPair, classRule, domesticRule, oneBond, sameGovernment, foreignRule, ruleOf, permits, ruleRate, rateLimit, RateInRange, Pairs};
+ghost use Prim.Native.Nat.{_+_, _≤_, max};
+ghost use Rattle.article.specs.Pair.{legOf, kindsPair, classRule, domesticRule, isCorporate, ratedBond, corporateRule, cadRule};
+ghost use Rattle.article.specs.Pair.{oneBond, sameGovernment, foreignRule, ruleOf, permits, ruleRate, rateLimit, RateInRange, Pairs};
 ghost use Rattle.holding.specs.Holding.{InRange};
 
 // Which rule a pair has.
 pub enum Rule {
     Difference,
     HalfSum,
+    Capped,
     NotAllowed,
 }
 
-// What a pair asks of one leg: the numbers of its side, kind, issuer and currency, its period, and its rate alone.
+// What a pair asks of one leg: the numbers of its side, kind, issuer, currency and rating, its period, and its rate alone.
 pub struct Leg {
     pub side: u64,
     pub kind: u64,
     pub issuer: u64,
     pub currency: u64,
+    pub rating: u64,
     pub period: u64,
     pub rate: u64,
 }
@@ -39,6 +42,7 @@ pub fn leg_of(account: Account, h: Holding) -> Leg
         kind: row.kind,
         issuer: row.issuer,
         currency: row.currency,
+        rating: row.rating,
         period: rates::period(account, h.maturity),
         rate: rates::rate(account, h),
     }
@@ -96,6 +100,59 @@ fn domestic_rule(long: Leg, short: Leg) -> Rule
     Rule::NotAllowed
 }
 
+// Whether a leg is a corporation's.
+fn is_corporate(leg: Leg) -> bool
+    ensures { λ r. ⌜ r ≡ isCorporate leg ⌝ }
+{
+    let issuer = leg.issuer;
+    match issuer {
+        100..=355 => true,
+        _ => false,
+    }
+}
+
+// Whether exactly one of the two is a bond, and that one is rated single A or higher.
+fn rated_bond(long: Leg, short: Leg) -> bool
+    ensures { λ r. ⌜ r ≡ ratedBond long short ⌝ }
+{
+    let first = long.kind;
+    let second = short.kind;
+    match first {
+        0 => match second {
+            1..=2 => long.rating == 0,
+            _ => false,
+        },
+        1..=2 => match second {
+            0 => short.rating == 0,
+            _ => false,
+        },
+        _ => false,
+    }
+}
+
+// Paragraph 3: the greater rate, capped, where just one is a bond, that one is rated and the corporation is the same.
+fn corporate_rule(long: Leg, short: Leg) -> Rule
+    ensures { λ r. ⌜ r ≡ corporateRule long short ⌝ }
+{
+    if long.issuer != short.issuer {
+        return Rule::NotAllowed;
+    }
+    if rated_bond(long, short) {
+        return Rule::Capped;
+    }
+    Rule::NotAllowed
+}
+
+// In CAD: paragraph 3 for a corporation's long, paragraph 2 for any other.
+fn cad_rule(long: Leg, short: Leg) -> Rule
+    ensures { λ r. ⌜ r ≡ cadRule long short ⌝ }
+{
+    if is_corporate(long) {
+        return corporate_rule(long, short);
+    }
+    domestic_rule(long, short)
+}
+
 // Whether exactly one of the two is a bond.
 fn one_bond(long: Leg, short: Leg) -> bool
     ensures { λ r. ⌜ r ≡ oneBond long short ⌝ }
@@ -140,7 +197,7 @@ fn foreign_rule(long: Leg, short: Leg) -> Rule
     Rule::NotAllowed
 }
 
-// The rule by the number of the currency that both legs are in: paragraph 2 in CAD, paragraph 4 in a foreign one.
+// The rule by the number of the currency that both legs are in: paragraphs 2 and 3 in CAD, paragraph 4 in a foreign one.
 pub fn rule_of(long: Leg, short: Leg) -> Rule
     ensures { λ r. ⌜ r ≡ ruleOf long short ⌝ }
 {
@@ -149,7 +206,7 @@ pub fn rule_of(long: Leg, short: Leg) -> Rule
     }
     let currency = long.currency;
     match currency {
-        0 => domestic_rule(long, short),
+        0 => cad_rule(long, short),
         1..=2 => foreign_rule(long, short),
         _ => Rule::NotAllowed,
     }
@@ -161,8 +218,15 @@ fn is_permitted(rule: Rule) -> bool
     match rule {
         Rule::Difference => true,
         Rule::HalfSum => true,
+        Rule::Capped => true,
         Rule::NotAllowed => false,
     }
+}
+
+fn greater(a: u64, b: u64) -> u64
+    ensures { λ r. ⌜ r ≡ max a b ⌝ }
+{
+    if a < b { b } else { a }
 }
 
 // The rate that a rule makes of two rates.
@@ -179,6 +243,10 @@ fn rule_rate(rule: Rule, long: u64, short: u64) -> u64
             }
         }
         Rule::HalfSum => (long + short) / 2,
+        Rule::Capped => {
+            let rate = greater(long, short);
+            if 29200 < rate { 29200 } else { rate }
+        }
         Rule::NotAllowed => long + short,
     }
 }
