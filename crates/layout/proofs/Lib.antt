@@ -1,3 +1,4 @@
 pub mod Letters
+pub mod Ratings
 pub mod Found
 pub mod Parsing

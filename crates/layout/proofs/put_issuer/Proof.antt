@@ -1,0 +1,20 @@
+-- `put_issuer` writes the two numbers of the LEI behind the values. Assumes nothing.
+use mathlib.Core.Path.{_∙_}
+use Prim.Native.Nat.{_-_}
+use borrow.Author.Needs.{needs}
+use Rattle.csv.specs.Reading.{fieldCount}
+use Rattle.layout.proofs.Found.{behind}
+use Rattle.layout.proofs.put_issuer.Statement.{statement}
+use Rattle.layout.proofs.put_issuer.Tie as tie
+
+pub put-issuer-spec : {M : Type 1} → statement M
+put-issuer-spec =
+    tie.close
+    (tie.spec
+    (λ c κs. search needs)
+    (λ c. search needs)
+    (λ c. search needs)
+    (λ c. search needs)
+    (λ c κs. search needs)
+    (λ c. search needs)
+    (λ c. behind (fieldCount - 1) (c .before .before .before .args .values .now) _ _ (search needs) ∙ rw (c .before .high-of .ensures, c .low-of .ensures)))
