@@ -221,8 +221,9 @@ fn misrated(letter: usize, issuer: u64, rating: u64) -> bool
 fn put_issuer(issuer: &[u8], values: &mut [u64; VALUES])
     ensures { λ _. ⌜ now (values .exit) ≡ take (fieldCount - 1) (now (values .entry)) ++ leiNumbers (now (issuer .entry)) ⌝ }
 {
-    values[csv::FIELDS - 1] = lei::high_of(issuer);
-    values[csv::FIELDS] = lei::low_of(issuer);
+    let found = &mut values[..];
+    found[csv::FIELDS - 1] = lei::high_of(issuer);
+    found[csv::FIELDS] = lei::low_of(issuer);
 }
 
 // Whether a record of a letter may follow one of the letter before, or none: D comes first and only there.

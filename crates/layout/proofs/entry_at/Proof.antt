@@ -1,142 +1,104 @@
+-- `entry_at` judges a record: its form, the count of its fields, its letter, the values after it, its rating. Assumes nothing.
+use mathlib.Core.Path.{_≡_}
+use Prim.Native.Nat.{_-_}
+use lib.ListN.{getD}
 use borrow.Author.Needs.{needs}
+use Rattle.codes.specs.Codes.{cells}
+use Rattle.layout.specs.Layout.{misrated}
+use Rattle.layout.proofs.Parsing.{Lettered, entry-malformed, entry-other, lettered, entry-unknown, entry-wrong, entry-misrated, entry-good}
 use Rattle.layout.proofs.entry_at.Statement.{statement}
 use Rattle.layout.proofs.entry_at.Tie as tie
-use Rattle.layout.proofs.entry_at.Reads as reads
-use Rattle.layout.proofs.entry_at.Lts as lts
-use Rattle.codes.proofs.place_in.Reads as place-in-reads
-use Rattle.csv.proofs.field.Reads as field-reads
-use Rattle.csv.proofs.record.Reads as record-reads
-use Rattle.layout.proofs.misrated.Reads as misrated-reads
-use Rattle.layout.proofs.put_issuer.Reads as put-issuer-reads
-use Rattle.layout.proofs.refused.Reads as refused-reads
-use Rattle.layout.proofs.values_after.Reads as values-after-reads
 
--- src/lib.rt:254:9
-record-requires : tie.Need-record-requires
-record-requires c κs = search needs
+-- a record whose letter was looked up
+module _ (c : tie.After-place-in) where
+  abbrev field : tie.After-field
+  field = c .before .before
 
--- src/lib.rt:255:27
-enum-known-scanned : tie.Need-enum-known-scanned
-enum-known-scanned c = search needs
+  abbrev counted : tie.Else1
+  counted = field .before .before .before
 
--- src/lib.rt:256:9
-enum-told : tie.Need-enum-told
-enum-told c = search needs
+  abbrev scanned : tie.After-scanned
+  scanned = counted .before .before
 
--- src/lib.rt:256:9
-refused-requires : tie.Need-refused-requires
-refused-requires c κs = search needs
+  abbrev looked : tie.After-record
+  looked = scanned .before .before
 
--- src/lib.rt:256:9
+  abbrev start : tie.Start
+  start = looked .before .before .before .before
+
+  placed : Lettered (start .args .text .now) (start .args .at) (looked .«record» .last .1 .1 .0) (looked .«record» .last .1 .1 .1 .0)
+      (c .place-in .result) (scanned .scanned .given .0 .1 .0)
+  unfolding cells
+  placed = lettered _ _ _ _ _ _ (looked .«record» .ensures) (scanned .scanned .given .1) (counted .if1 .left) (field .field .ensures) (c .place-in .ensures)
+
+-- and whose values were looked for, after a known letter
+module _ (c : tie.After-values-after) where
+  abbrev named : tie.After-place
+  named = c .before .before .before .before .before
+
+  abbrev letter : tie.After-place-in
+  letter = named .before .before
+
 returns : tie.Need-returns
-returns c = ?
+returns c = rw (c .refused .ensures) (entry-malformed _ _ _ _ _ _ (c .before .before .before .«record» .ensures) (c .before .enum-told .given .1) _)
 
--- src/lib.rt:259:9
-refused-requires-2 : tie.Need-refused-requires-2
-refused-requires-2 c κs = search needs
-
--- src/lib.rt:259:9
 returns-2 : tie.Need-returns-2
-returns-2 c = ?
+returns-2 c =
+    let read = c .before .before .before in
+    rw (c .refused2 .ensures) (entry-other _ _ _ _ _ _ (read .before .before .«record» .ensures) (read .scanned .given .1) (c .before .if1 .taken) _)
 
--- src/lib.rt:261:33
-field-requires : tie.Need-field-requires
-field-requires c κs = search needs
-
--- src/lib.rt:261:77
-slice-aggregate-place-in : tie.Need-slice-aggregate-place-in
-slice-aggregate-place-in c = search needs
-
--- src/lib.rt:261:9
-place-in-requires : tie.Need-place-in-requires
-place-in-requires c κs = search needs
-
--- src/lib.rt:262:19
-enum-known-place : tie.Need-enum-known-place
-enum-known-place c = search needs
-
--- src/lib.rt:263:9
-enum-told-2 : tie.Need-enum-told-2
-enum-told-2 c = search needs
-
--- src/lib.rt:263:9
-refused-requires-3 : tie.Need-refused-requires-3
-refused-requires-3 c κs = search needs
-
--- src/lib.rt:263:9
 returns-3 : tie.Need-returns-3
-returns-3 c = ?
+returns-3 c = rw (c .refused3 .ensures) (entry-unknown (placed (c .before .before .before)) (c .before .enum-told2 .given .1) _)
 
--- src/lib.rt:265:9
-values-after-requires : tie.Need-values-after-requires
-values-after-requires c κs = search needs
-
--- src/lib.rt:267:9
-refused-requires-4 : tie.Need-refused-requires-4
-refused-requires-4 c κs = search needs
-
--- src/lib.rt:267:9
 returns-4 : tie.Need-returns-4
-returns-4 c = ?
+returns-4 c =
+    let found = c .before .before in
+    rw (c .refused4 .ensures) (entry-wrong (placed (letter found)) (named found .place .given .1) _ _ (found .values-after .ensures) (c .before .if2 .taken) _)
 
--- src/lib.rt:269:25
-element-copy-out-misrated : tie.Need-element-copy-out-misrated
-element-copy-out-misrated c = search needs
-
--- src/lib.rt:269:36
-element-copy-out-misrated-2 : tie.Need-element-copy-out-misrated-2
-element-copy-out-misrated-2 c = search needs
-
--- src/lib.rt:269:8
-misrated-requires : tie.Need-misrated-requires
-misrated-requires c κs = search needs
-
--- src/lib.rt:270:9
-refused-requires-5 : tie.Need-refused-requires-5
-refused-requires-5 c κs = search needs
-
--- src/lib.rt:270:9
 returns-5 : tie.Need-returns-5
-returns-5 c = ?
+returns-5 c =
+    let judged = c .before .before in
+    let good = judged .before .before .before in
+    let found = good .before in
+    rw (c .refused5 .ensures)
+    (entry-misrated (placed (letter found)) (named found .place .given .1) _ _ (found .values-after .ensures) (good .if2 .left) _ (judged .misrated .ensures) (c .before .if3 .taken) _)
 
--- src/lib.rt:272:16
-field-requires-2 : tie.Need-field-requires-2
-field-requires-2 c κs = search needs
-
--- src/lib.rt:272:5
-put-issuer-requires : tie.Need-put-issuer-requires
-put-issuer-requires c κs = search needs
-
--- src/lib.rt:249:1
 returns-6 : tie.Need-returns-6
-returns-6 c = ?
+returns-6 c =
+    let issuer = c .before .before in
+    let rated = issuer .before .before .before in
+    let judged = rated .before in
+    let good = judged .before .before .before in
+    let found = good .before in
+    entry-good (placed (letter found)) (named found .place .given .1) _ _ (found .values-after .ensures) (good .if2 .left) _ (judged .misrated .ensures) (rated .if3 .left)
+    (rw (counted (letter found) .if1 .left) at (issuer .field2 .ensures)) _ (c .put-issuer .ensures)
 
 pub entry-at-spec : {M : Type 1} → statement M
 entry-at-spec =
     tie.close
     (tie.spec
-    record-requires
-    enum-known-scanned
-    enum-told
-    refused-requires
+    (λ c κs. search needs)
+    (λ c. search needs)
+    (λ c. search needs)
+    (λ c κs. search needs)
     returns
-    refused-requires-2
+    (λ c κs. search needs)
     returns-2
-    field-requires
-    slice-aggregate-place-in
-    place-in-requires
-    enum-known-place
-    enum-told-2
-    refused-requires-3
+    (λ c κs. search needs)
+    (λ c. search needs)
+    (λ c κs. search needs)
+    (λ c. search needs)
+    (λ c. search needs)
+    (λ c κs. search needs)
     returns-3
-    values-after-requires
-    refused-requires-4
+    (λ c κs. search needs)
+    (λ c κs. search needs)
     returns-4
-    element-copy-out-misrated
-    element-copy-out-misrated-2
-    misrated-requires
-    refused-requires-5
+    (λ c. search needs)
+    (λ c. search needs)
+    (λ c κs. search needs)
+    (λ c κs. search needs)
     returns-5
-    field-requires-2
-    put-issuer-requires
+    (λ c κs. search needs)
+    (λ c κs. search needs)
     returns-6)

@@ -7,6 +7,11 @@ use Rattle.layout.proofs.Found.{behind}
 use Rattle.layout.proofs.put_issuer.Statement.{statement}
 use Rattle.layout.proofs.put_issuer.Tie as tie
 
+returns : tie.Need-returns
+returns c =
+    let start = c .before .before in
+    behind (fieldCount - 1) (start .before .before .args .values .now) _ _ (start .found .given .0 .1) ∙ rw (c .before .high-of .ensures, c .low-of .ensures)
+
 pub put-issuer-spec : {M : Type 1} → statement M
 put-issuer-spec =
     tie.close
@@ -17,4 +22,4 @@ put-issuer-spec =
     (λ c. search needs)
     (λ c κs. search needs)
     (λ c. search needs)
-    (λ c. behind (fieldCount - 1) (c .before .before .before .args .values .now) _ _ (search needs) ∙ rw (c .before .high-of .ensures, c .low-of .ensures)))
+    returns)
