@@ -1,6 +1,6 @@
 -- The values of texts, found one after another. Assumes nothing.
 use mathlib.Core.Path.{_≡_, refl, sym, _∙_}
-use mathlib.Core.Bool.{Bool, true, false, cond}
+use mathlib.Core.Bool.{cond}
 use mathlib.Core.List.{List, [], _∷_, _++_, append-assoc, append-nil}
 use Prim.Native.Nat.{ℕ, suc, _+_, _-_, _≤_, _<_, min}
 use native.Mathlib.Numerals.{add-one}
@@ -12,7 +12,7 @@ use borrow.Author.Tests.{eq-eqb, ne-eqb}
 use Rattle.lists.proofs.Tables.{length-to}
 use Rattle.lists.proofs.Tests.{same-or-not}
 use Rattle.csv.specs.Reading.{fieldCount, textsIn, HandsBack}
-use Rattle.layout.specs.Layout.{valueOf, sortsBy, Values, values, wrong, andValue, valuesOf, leiNumbers, sooner, Found}
+use Rattle.layout.specs.Layout.{valueOf, sortsBy, Values, values, wrong, andValue, valuesOf, sooner, Found}
 use Rattle.layout.specs.declared.Sort.{Sort}
 use Rattle.layout.specs.declared.Sort.the-variants.{Empty}
 use Rattle.layout.specs.declared.Value.{Value}

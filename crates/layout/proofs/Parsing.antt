@@ -14,7 +14,7 @@ use Rattle.csv.proofs.Places.{scanned-fields, scanned-malformed, all-texts}
 use Rattle.codes.specs.Codes.{placeOf}
 use Rattle.codes.specs.declared.Place.{Place}
 use Rattle.codes.specs.declared.Place.the-variants.{At, Nowhere}
-use Rattle.layout.specs.Layout.{letters, sortsBy, Values, values, wrong, valuesOf, good, refused, misrated, leiNumbers, meant, afterLetter, parsedOf, parse, readOf, nextOf}
+use Rattle.layout.specs.Layout.{letters, sortsBy, Values, values, wrong, valuesOf, refused, misrated, leiNumbers, meant, afterLetter, parsedOf, parse, readOf, nextOf}
 use Rattle.layout.specs.Layout.{Found, entry, EntryAt}
 use Rattle.layout.specs.declared.Parsed.the-variants.{Good, Refused}
 use Rattle.layout.proofs.Letters.{Sized, values-sized}

@@ -1,10 +1,6 @@
 -- `entry_at` judges a record: its form, the count of its fields, its letter, the values after it, its rating. Assumes nothing.
-use mathlib.Core.Path.{_≡_}
-use Prim.Native.Nat.{_-_}
-use lib.ListN.{getD}
 use borrow.Author.Needs.{needs}
 use Rattle.codes.specs.Codes.{cells}
-use Rattle.layout.specs.Layout.{misrated}
 use Rattle.layout.proofs.Parsing.{Lettered, entry-malformed, entry-other, lettered, entry-unknown, entry-wrong, entry-misrated, entry-good}
 use Rattle.layout.proofs.entry_at.Statement.{statement}
 use Rattle.layout.proofs.entry_at.Tie as tie
