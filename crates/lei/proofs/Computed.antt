@@ -1,7 +1,6 @@
 -- LEIs that are computed from the definitions: some that are in use, texts that are refused, and numbers by first appearance. Assumes nothing.
 use mathlib.Core.Path.{_≡_, refl}
 use mathlib.Core.List.{List, [], _∷_, map}
-use Prim.Native.Nat.{ℕ}
 use Prim.Native.String.{String}
 use lib.ListN.{replicate}
 use Rattle.lists.specs.Choice.{within}
