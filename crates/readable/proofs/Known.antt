@@ -102,17 +102,17 @@ pub issue : (known : List (List ℕ)) → Known known → (t : List ℕ) (v : �
 issue known m t v = ⊎-elim (λ named. (v, known, government named)) (λ (is, e). rw e (corporate known m t is))
 
 -- which is that of the values, and so are the LEIs that are known then
-pub issued-number : {known then : List (List ℕ)} {t vs : List ℕ} {v n : ℕ} → Issued known t v n then → Known known → issuerIn vs ≡ v → leiIn vs ≡ leiOf t
+pub issued-number : {known then : List (List ℕ)} {t : List ℕ} {v n : ℕ} → Issued known t v n then → Known known → (vs : List ℕ) → issuerIn vs ≡ v → leiIn vs ≡ leiOf t
     → (issuerNumber (map leiOf known) vs ≡ n) × (knownAfter (map leiOf known) vs ≡ map leiOf then)
 unfolding issuerNumber knownAfter
-issued-number {vs = vs} (government named) m e f =
+issued-number (government named) m vs e f =
     let no = ne-eqb (issuerIn vs) corporation (λ c. omega (arith, named .inside)) in
     (rw no e, rw no)
-issued-number {known} {t = t} {vs = vs} (known-corporation {k = k} is at) m e f =
+issued-number {known} {t = t} (known-corporation {k = k} is at) m vs e f =
     let yes = eq-eqb (issuerIn vs) corporation e in
     let here = place-known known m t is k at in
     (rw (yes, f, here), rw (yes, f) (enter-known (map leiOf known) (leiOf t) (omega (arith, many known m t is, at .inside))))
-issued-number {known} {t = t} {vs = vs} (new-corporation is new) m e f =
+issued-number {known} {t = t} (new-corporation is new) m vs e f =
     let yes = eq-eqb (issuerIn vs) corporation e in
     let end = place-new known m t is new in
     (rw (yes, f, end), rw (yes, f) (enter-new (map leiOf known) (leiOf t) (omega (arith, many known m t is)) ∙ sym (map-append leiOf known (t ∷ []))))
