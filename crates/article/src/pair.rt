@@ -101,7 +101,7 @@ fn domestic_rule(long: Leg, short: Leg) -> Rule
 }
 
 // Whether a leg is a corporation's.
-fn is_corporate(leg: Leg) -> bool
+pub fn is_corporate(leg: Leg) -> bool
     ensures { λ r. ⌜ r ≡ isCorporate leg ⌝ }
 {
     let issuer = leg.issuer;
