@@ -31,6 +31,7 @@ module _ (columns : List (List ℕ)) (k : ℕ) where
     maturity = ap (λ (r : Row). r .maturity) e ∙ number-at 3;
     value = ap (λ (r : Row). r .value) e ∙ number-at 4;
     currency = ap (λ (r : Row). r .currency) e ∙ number-at 5;
+    rating = ap (λ (r : Row). r .rating) e ∙ number-at 6;
   }
 
   pub line-at : (l : Line) → l ≡ lineBy (numbersAt columns k) → LineAt columns k l

@@ -78,18 +78,18 @@ module _ {A : Type 0} (numbers : A → List ℕ) (by : List ℕ → A) (back : (
       rw (count-filled (map numbers xs) olds, length-map xs numbers)
       (to-eq (length xs) _ _ (λ k h. sym (entry-read k h ([] ∷ olds) e)) ∙ to-back (length xs) xs none refl)
 
-six : (r : Row) → length (numbersOf r) ≡ 6
+seven : (r : Row) → length (numbersOf r) ≡ 7
 unfolding numbersOf
-six r = refl
+seven r = refl
 
 three : (l : Line) → length (lineNumbers l) ≡ 3
 unfolding lineNumbers
 three l = refl
 
 -- holdings, and lines, that were written are read back
-pub rows-read : (rows : List Row) → Each (λ r. Fits (numbersOf r)) rows → (k : ℕ) → k < length rows → (columns : List (List ℕ)) → length columns ≡ 6
+pub rows-read : (rows : List Row) → Each (λ r. Fits (numbersOf r)) rows → (k : ℕ) → k < length rows → (columns : List (List ℕ)) → length columns ≡ 7
     → RowAt (filledFrom 0 (map numbersOf rows) columns) k (getD rows k noRow)
-rows-read rows fit k h columns e = row-at _ k _ (entry-read numbersOf rowBy row-back 5 six noRow rows fit k h columns e)
+rows-read rows fit k h columns e = row-at _ k _ (entry-read numbersOf rowBy row-back 6 seven noRow rows fit k h columns e)
 
 pub lines-read : (lines : List Line) → Each (λ l. Fits (lineNumbers l)) lines → (k : ℕ) → k < length lines → (columns : List (List ℕ)) → length columns ≡ 3
     → LineAt (filledFrom 0 (map lineNumbers lines) columns) k (getD lines k noLine)
@@ -104,12 +104,12 @@ pub record SubmissionFits (s : Submission) : Type 0 where
 
 -- columns that hold nothing
 abbrev pub bare : Columns
-bare = makeColumns (replicate 6 []) [] (replicate 3 [])
+bare = makeColumns (replicate 7 []) [] (replicate 3 [])
 
 pub submission-filled : (s : Submission) → SubmissionFits s → submission (s .head) (filled s bare) ≡ s
 unfolding submission rowsIn linesIn filled
 submission-filled s fit =
-    let rows = entries-read numbersOf rowBy row-back 5 six noRow (s .rows) (fit .rows) (replicate 5 []) refl in
+    let rows = entries-read numbersOf rowBy row-back 6 seven noRow (s .rows) (fit .rows) (replicate 6 []) refl in
     let prices : decode (column (s .prices) []) ≡ s .prices = rw (bare-column (s .prices)) (decode-encode (s .prices) (fit .prices)) in
     let lines = entries-read lineNumbers lineBy line-back 2 three noLine (s .lines) (fit .lines) (replicate 2 []) refl in
     λ i. record { head = s .head; rows = rows i; prices = prices i; lines = lines i }

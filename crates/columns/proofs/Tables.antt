@@ -71,8 +71,8 @@ abbrev pub byTables : List (List ℕ) → List (List ℕ) → Columns
 byTables book lines = makeColumns (take 5 book ++ drop 6 book) (getD book 5 []) lines
 
 -- what is submitted by values fills them as the values fill the tables
-pub filled-values : (h : Head) (held lined book lines : List (List ℕ)) → length book ≡ 7 → length lines ≡ 3
+pub filled-values : (h : Head) (held lined book lines : List (List ℕ)) → length book ≡ 8 → length lines ≡ 3
     → filled (record { head = h; rows = map pricedRow held; prices = map rowPrice held; lines = map lineBy lined }) (byTables book lines)
     ≡ byTables (filledFrom 0 held book) (filledFrom 0 lined lines)
 unfolding filled filledFrom numbersOf lineNumbers listTo
-filled-values h held lined book lines e f = rw (← to-back 7 book [] e, ← to-back 3 lines [] f) (simp map-map)
+filled-values h held lined book lines e f = rw (← to-back 8 book [] e, ← to-back 3 lines [] f) (simp map-map)

@@ -9,7 +9,7 @@ use Rattle.pairing.specs.declared.Line.{Line}
 use Rattle.proposal.specs.Submission.{Submission, noRow, noLine, lineNumbers, lineBy}
 use Rattle.words.specs.Words.{wordAt, withWord, entries, decode, encode}
 
--- the columns of the holdings, side, kind, issuer, maturity, value, currency; of their prices; and of the lines, long, short, amount
+-- the columns of the holdings, side, kind, issuer, maturity, value, currency, rating; of their prices; and of the lines, long, short, amount
 pub record Columns : Type 0 where
   pub holdings : List (List ℕ)
   pub price : List ℕ
@@ -59,6 +59,7 @@ pub record RowAt (columns : List (List ℕ)) (k : ℕ) (row : Row) : Type 0 wher
   pub maturity : row .maturity ≡ wordAt (columnAt columns 3) k
   pub value : row .value ≡ wordAt (columnAt columns 4) k
   pub currency : row .currency ≡ wordAt (columnAt columns 5) k
+  pub rating : row .rating ≡ wordAt (columnAt columns 6) k
 
 pub record LineAt (columns : List (List ℕ)) (k : ℕ) (line : Line) : Type 0 where
   pub long : line .long ≡ wordAt (columnAt columns 0) k

@@ -39,12 +39,15 @@ pub fn copy_book(
     value: &mut [u8],
     price: &mut [u8],
     currency: &mut [u8],
+    rating: &mut [u8],
 )
     requires { ⌜ CopyRoom rows n (now table)
-        (now side ∷ now kind ∷ now issuer ∷ now maturity ∷ now value ∷ now price ∷ now currency ∷ []) ⌝ }
-    ensures { λ _. ⌜ (now (side .exit) ∷ now (kind .exit) ∷ now (issuer .exit) ∷ now (maturity .exit) ∷ now (value .exit) ∷ now (price .exit) ∷ now (currency .exit) ∷ [])
+        (now side ∷ now kind ∷ now issuer ∷ now maturity ∷ now value ∷ now price ∷ now currency ∷ now rating ∷ []) ⌝ }
+    ensures { λ _. ⌜ (now (side .exit) ∷ now (kind .exit) ∷ now (issuer .exit) ∷ now (maturity .exit)
+        ∷ now (value .exit) ∷ now (price .exit) ∷ now (currency .exit) ∷ now (rating .exit) ∷ [])
         ≡ copied rows n (now (table .entry)) 0
-        (now (side .entry) ∷ now (kind .entry) ∷ now (issuer .entry) ∷ now (maturity .entry) ∷ now (value .entry) ∷ now (price .entry) ∷ now (currency .entry) ∷ []) ⌝ }
+        (now (side .entry) ∷ now (kind .entry) ∷ now (issuer .entry) ∷ now (maturity .entry)
+        ∷ now (value .entry) ∷ now (price .entry) ∷ now (currency .entry) ∷ now (rating .entry) ∷ []) ⌝ }
 {
     lists::copy(column(table, rows, n, 0), side);
     lists::copy(column(table, rows, n, 1), kind);
@@ -53,6 +56,7 @@ pub fn copy_book(
     lists::copy(column(table, rows, n, 4), value);
     lists::copy(column(table, rows, n, 5), price);
     lists::copy(column(table, rows, n, 6), currency);
+    lists::copy(column(table, rows, n, 7), rating);
 }
 
 // The same of a table of lines.

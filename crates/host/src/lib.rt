@@ -19,6 +19,7 @@ pub extern "C" fn margin_check(
     value: &[u8],
     price: &[u8],
     currency: &[u8],
+    rating: &[u8],
     long: &[u8],
     short: &[u8],
     amount: &[u8],
@@ -28,7 +29,7 @@ pub extern "C" fn margin_check(
 ) -> u64
     ensures { λ r. ⌜ Checks (headBy (date ∷ []))
         (makeColumns
-        (now (side .entry) ∷ now (kind .entry) ∷ now (issuer .entry) ∷ now (maturity .entry) ∷ now (value .entry) ∷ now (currency .entry) ∷ [])
+        (now (side .entry) ∷ now (kind .entry) ∷ now (issuer .entry) ∷ now (maturity .entry) ∷ now (value .entry) ∷ now (currency .entry) ∷ now (rating .entry) ∷ [])
         (now (price .entry))
         (now (long .entry) ∷ now (short .entry) ∷ now (amount .entry) ∷ []))
         (makeLent (now (remainder .entry)) (now (ranking .entry)) (now (answer .entry)))
@@ -49,6 +50,7 @@ pub extern "C" fn margin_check(
             value,
             price,
             currency,
+            rating,
             long,
             short,
             amount,
@@ -75,6 +77,7 @@ pub extern "C" fn margin_check(
             value,
             price,
             currency,
+            rating,
             long,
             short,
             amount,
@@ -100,6 +103,7 @@ pub extern "C" fn margin_check(
         value,
         price,
         currency,
+        rating,
         long,
         short,
         amount,

@@ -30,6 +30,7 @@ pub fn judge(
     value: &[u8],
     price: &[u8],
     currency: &[u8],
+    rating: &[u8],
     long: &[u8],
     short: &[u8],
     amount: &[u8],
@@ -43,7 +44,7 @@ pub fn judge(
 ) -> u64
     requires { ⌜ ScratchRoom (entries (now side)) (now legs) (now left) (now margins) (now ranks) ⌝ }
     ensures { λ r. ⌜ Checks head (makeColumns
-        (now (side .entry) ∷ now (kind .entry) ∷ now (issuer .entry) ∷ now (maturity .entry) ∷ now (value .entry) ∷ now (currency .entry) ∷ [])
+        (now (side .entry) ∷ now (kind .entry) ∷ now (issuer .entry) ∷ now (maturity .entry) ∷ now (value .entry) ∷ now (currency .entry) ∷ now (rating .entry) ∷ [])
         (now (price .entry))
         (now (long .entry) ∷ now (short .entry) ∷ now (amount .entry) ∷ []))
         (makeLent (now (remainder .entry)) (now (ranking .entry)) (now (answer .entry)))
@@ -61,6 +62,7 @@ pub fn judge(
         value,
         price,
         currency,
+        rating,
         long,
         short,
         amount,

@@ -6,13 +6,14 @@ use Rattle.article.specs.declared.pair.Leg.{Leg}
 use Rattle.article.specs.Pair.{RateInRange}
 use Rattle.proposal.specs.Submission.{PricedBook}
 
--- the leg that a number is the code of: 16 bits for its rate, 8 for its period, 4 each for side and kind, 16 for its issuer, 4 for its currency; 12 are left
+-- the leg that a number is the code of: 16 bits for its rate, 8 for its period, 4 each for side and kind, 16 for its issuer, 4 each for currency and rating; 8 are left
 unfoldable pub legIn : ℕ → Leg
 legIn c = record {
   side = (c / 16777216) % 16;
   kind = (c / 268435456) % 16;
   issuer = (c / 4294967296) % 65536;
   currency = (c / 281474976710656) % 16;
+  rating = (c / 4503599627370496) % 16;
   period = (c / 65536) % 256;
   rate = c % 65536;
 }
@@ -23,6 +24,7 @@ pub record Small (l : Leg) : Type 0 where
   pub kind : l .kind < 16
   pub issuer : l .issuer < 65536
   pub currency : l .currency < 16
+  pub rating : l .rating < 16
   pub period : l .period < 256
   pub rate : l .rate < 65536
 

@@ -14,6 +14,7 @@ pub fn code_of(leg: Leg) -> u64
         + 268435456 * leg.kind
         + 4294967296 * leg.issuer
         + 281474976710656 * leg.currency
+        + 4503599627370496 * leg.rating
 }
 
 // The leg of a number.
@@ -25,6 +26,7 @@ pub fn leg_in(code: u64) -> Leg
         kind: code / 268435456 % 16,
         issuer: code / 4294967296 % 65536,
         currency: code / 281474976710656 % 16,
+        rating: code / 4503599627370496 % 16,
         period: code / 65536 % 256,
         rate: code % 65536,
     }

@@ -39,11 +39,13 @@ use Rattle.packed.proofs.Holdings.{small}
 use Rattle.positions.specs.Opens.{OpenRoom, Opens}
 
 -- a row whose numbers were read at an entry of the columns
-pub row-read : (side kind issuer maturity value currency : List ℕ) (i : ℕ) {a b c d e f : ℕ}
-    → a ≡ wordAt side i → b ≡ wordAt kind i → c ≡ wordAt issuer i → d ≡ wordAt maturity i → e ≡ wordAt value i → f ≡ wordAt currency i
-    → record { side = a; kind = b; issuer = c; maturity = d; value = e; currency = f } ≡ rowBy (numbersAt (side ∷ kind ∷ issuer ∷ maturity ∷ value ∷ currency ∷ []) i)
+pub row-read : (side kind issuer maturity value currency rating : List ℕ) (i : ℕ) {a b c d e f g : ℕ}
+    → a ≡ wordAt side i → b ≡ wordAt kind i → c ≡ wordAt issuer i → d ≡ wordAt maturity i → e ≡ wordAt value i → f ≡ wordAt currency i → g ≡ wordAt rating i
+    → record { side = a; kind = b; issuer = c; maturity = d; value = e; currency = f; rating = g }
+    ≡ rowBy (numbersAt (side ∷ kind ∷ issuer ∷ maturity ∷ value ∷ currency ∷ rating ∷ []) i)
 unfolding numbersAt
-row-read side kind issuer maturity value currency i a b c d e f = λ j. record { side = a j; kind = b j; issuer = c j; maturity = d j; value = e j; currency = f j }
+row-read side kind issuer maturity value currency rating i a b c d e f g =
+    λ j. record { side = a j; kind = b j; issuer = c j; maturity = d j; value = e j; currency = f j; rating = g j }
 
 -- the leg of a record that was made has a code
 pub small-leg : {a : Account} {row : Row} {b : Built} {h : Holding} {leg : Leg} → isDate (a .date) ≡ true → Builds a row b → b ≡ Made h → leg ≡ legOf a h → Small leg
@@ -166,7 +168,7 @@ module _ {a : Account} {columns : List (List ℕ)} {price legs₀ left₀ : List
           };
           legs = record { count = refl; leg = written };
           values = o .values ∙ ap (λ (xs : List ℕ). front xs left₀) all-values;
-          values-high = λ k q. rw (value-at book k) (in-limits .each-row k q .value-high);
+          values-high = λ k q. rw (value-at book k) (in-limits .each-row k q .value .high);
           prices-high = in-limits .prices;
         };
       })

@@ -7,7 +7,7 @@ use proposal::Fault;
 ghost use mathlib.Core.List.{[], _∷_};
 ghost use Rattle.positions.specs.Opens.{OpenRoom, Opens};
 
-// Each holding in turn, up to the first fault: 4, 5, 6, 24, 7, 8, 23, then a price above 43,800.
+// Each holding in turn, up to the first fault: 4, 5, 6, 24, 7, 8, 23, 25, then a price above 43,800.
 pub fn open(
     account: Account,
     side: &[u8],
@@ -17,12 +17,13 @@ pub fn open(
     value: &[u8],
     price: &[u8],
     currency: &[u8],
+    rating: &[u8],
     legs: &mut [u64],
     left: &mut [u64],
 ) -> Fault
-    requires { ⌜ OpenRoom account (now side ∷ now kind ∷ now issuer ∷ now maturity ∷ now value ∷ now currency ∷ []) (now price) (now legs) (now left) ⌝ }
+    requires { ⌜ OpenRoom account (now side ∷ now kind ∷ now issuer ∷ now maturity ∷ now value ∷ now currency ∷ now rating ∷ []) (now price) (now legs) (now left) ⌝ }
     ensures { λ r. ⌜ Opens account
-        (now (side .entry) ∷ now (kind .entry) ∷ now (issuer .entry) ∷ now (maturity .entry) ∷ now (value .entry) ∷ now (currency .entry) ∷ [])
+        (now (side .entry) ∷ now (kind .entry) ∷ now (issuer .entry) ∷ now (maturity .entry) ∷ now (value .entry) ∷ now (currency .entry) ∷ now (rating .entry) ∷ [])
         (now (price .entry)) (now (left .entry)) (now (legs .exit)) (now (left .exit)) r ⌝ }
 {
     let n = side.len() / 8;
@@ -35,6 +36,7 @@ pub fn open(
             maturity: words::word(maturity, i),
             value: words::word(value, i),
             currency: words::word(currency, i),
+            rating: words::word(rating, i),
         };
         let built = holding::holding_of(account, row);
         match built {

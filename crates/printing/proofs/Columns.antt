@@ -53,17 +53,17 @@ module _ (n m : ℕ) (book lines : List ℕ) where
   unfolding holdingSizes lineSizes
   tables-even h =
       differ-exactly _ _ .1
-      (equal n 7 book (h .few-holdings) (h .whole-book) 0 (1 ∷ 2 ∷ 3 ∷ 4 ∷ 6 ∷ 5 ∷ []) refl, equal m 3 lines (h .few-lines) (h .whole-lines) 0 (1 ∷ 2 ∷ []) refl)
+      (equal n 8 book (h .few-holdings) (h .whole-book) 0 (1 ∷ 2 ∷ 3 ∷ 4 ∷ 6 ∷ 7 ∷ 5 ∷ []) refl, equal m 3 lines (h .few-lines) (h .whole-lines) 0 (1 ∷ 2 ∷ []) refl)
 
   -- where values were entered they hold what these submit
   module _ (h : Head) (hs ls : List (List ℕ)) where
     abbrev submitted : Submission
     submitted = record { head = h; rows = map pricedRow hs; prices = map rowPrice hs; lines = map lineBy ls }
 
-    pub tables-submitted : {old oldLines : List ℕ} → Entered 7 512 hs old book → Entered 3 512 ls oldLines lines → length hs ≡ n → length ls ≡ m
+    pub tables-submitted : {old oldLines : List ℕ} → Entered 8 512 hs old book → Entered 3 512 ls oldLines lines → length hs ≡ n → length ls ≡ m
         → SubmissionFits submitted → submission h (columnsOf n m book lines) ≡ submitted
     unfolding listTo filledFrom
     tables-submitted e f p q fit =
         let filling : columnsOf n m book lines ≡ filled submitted bare =
-        (λ i. byTables (bare-columns e p i) (bare-columns f q i)) ∙ sym (filled-values h hs ls (replicate 7 []) (replicate 3 []) refl refl) in
+        (λ i. byTables (bare-columns e p i) (bare-columns f q i)) ∙ sym (filled-values h hs ls (replicate 8 []) (replicate 3 []) refl refl) in
         rw filling (submission-filled submitted fit)

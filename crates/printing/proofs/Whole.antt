@@ -111,7 +111,7 @@ module _ (text : List ℕ) where
         promised (rw line p) (rw line few)
 
     -- tables that the file was read into
-    module _ {h : Head} {n m : ℕ} (e : d ≡ Read h n m) (whole : length book ≡ 8 * (512 * 7)) (whole-lines : length lines ≡ 8 * (512 * 3)) where
+    module _ {h : Head} {n m : ℕ} (e : d ≡ Read h n m) (whole : length book ≡ 8 * (512 * 8)) (whole-lines : length lines ≡ 8 * (512 * 3)) where
       pub tables-hold : TablesHold n m book′ lines′
       tables-hold = record {
         few-holdings = few-holdings from-file e;

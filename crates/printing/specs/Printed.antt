@@ -25,7 +25,7 @@ abbrev pub columnsOf : ℕ → ℕ → List ℕ → List ℕ → Columns
 columnsOf n m book lines =
     let held : ℕ → List ℕ = columnIn 512 n book in
     let lined : ℕ → List ℕ = columnIn 512 m lines in
-    makeColumns (held 0 ∷ held 1 ∷ held 2 ∷ held 3 ∷ held 4 ∷ held 6 ∷ []) (held 5) (lined 0 ∷ lined 1 ∷ lined 2 ∷ [])
+    makeColumns (held 0 ∷ held 1 ∷ held 2 ∷ held 3 ∷ held 4 ∷ held 6 ∷ held 7 ∷ []) (held 5) (lined 0 ∷ lined 1 ∷ lined 2 ∷ [])
 
 pub record TablesHold (n m : ℕ) (book lines : List ℕ) : Type 0 where
   pub few-holdings : n ≤ 512

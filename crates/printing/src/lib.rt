@@ -16,13 +16,14 @@ fn print_columns(
     value: &[u8],
     price: &[u8],
     currency: &[u8],
+    rating: &[u8],
     long: &[u8],
     short: &[u8],
     amount: &[u8],
     out: &mut [u8],
 ) -> Printed
     ensures { λ r. ⌜ PrintsColumns head (makeColumns
-        (now (side .entry) ∷ now (kind .entry) ∷ now (issuer .entry) ∷ now (maturity .entry) ∷ now (value .entry) ∷ now (currency .entry) ∷ [])
+        (now (side .entry) ∷ now (kind .entry) ∷ now (issuer .entry) ∷ now (maturity .entry) ∷ now (value .entry) ∷ now (currency .entry) ∷ now (rating .entry) ∷ [])
         (now (price .entry))
         (now (long .entry) ∷ now (short .entry) ∷ now (amount .entry) ∷ []))
         (now (out .entry)) (now (out .exit)) r ⌝ }
@@ -41,6 +42,7 @@ fn print_columns(
         value,
         price,
         currency,
+        rating,
         long,
         short,
         amount,
@@ -74,6 +76,7 @@ fn print_tables(
         columns::column(book, 512, n, 4),
         columns::column(book, 512, n, 5),
         columns::column(book, 512, n, 6),
+        columns::column(book, 512, n, 7),
         columns::column(lines, 512, m, 0),
         columns::column(lines, 512, m, 1),
         columns::column(lines, 512, m, 2),

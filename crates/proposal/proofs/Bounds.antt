@@ -13,13 +13,13 @@ use Rattle.proposal.proofs.Demands.{lines-pair}
 
 module _ (s : Submission) where
   value-high : Limits s → (k : ℕ) → k < priced s .count → priced s .value k ≤ valueLimit
-  value-high l k h = rw (value-at s k) (l .each-row k (in-book s k h) .value-high)
+  value-high l k h = rw (value-at s k) (l .each-row k (in-book s k h) .value .high)
 
   few : Limits s → priced s .count ≤ 256
   unfolding priced bookOf
   few l = l .holdings
 
-  -- units are at most 256 times 10^11 times 21,900
+  -- units are at most 256 times 10^11 times 43,800
   pub units-fit : Acceptable s → unitsOf (priced s) (s .lines) ≤ 256 * marginLimit
   unfolding termsOf
   units-fit a =
@@ -27,11 +27,11 @@ module _ (s : Submission) where
         arith,
         units-sum (priced s) (s .lines),
         units-high (termsOf (priced s)) (s .lines) rateLimit valueLimit (fair (priced s)) (lines-pair s a)
-            (λ k h. rate-at s (a .in-limits) k (in-book s k h)) (value-high (a .in-limits)),
+            (λ k h. rate-at s (a .in-limits) k (in-book s k h) .high) (value-high (a .in-limits)),
         few (a .in-limits),
       )
 
-  -- and the priced total is at most 256 times 10^11 times 43,800
+  -- and so is the priced total
   pub priced-fits : Limits s → pricedTotal (termsOf (priced s)) (priced s .price) ≤ 256 * savedLimit
   unfolding termsOf
   priced-fits l =

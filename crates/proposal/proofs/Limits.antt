@@ -1,4 +1,4 @@
--- What the tests of 3 to 10, 23 and 24 say of the limits, and the ranges of each holding of its tests; a row is judged before its price. Assumes nothing.
+-- What the tests of 3 to 10 and 23 to 25 say of the limits, and the ranges of each holding of its tests; a row is judged before its price. Assumes nothing.
 use mathlib.Core.Path.{_≡_, sym, _∙_}
 use mathlib.Core.Bool.{Bool}
 use mathlib.Core.List.{List, [], _∷_}

@@ -8,7 +8,7 @@ use Rattle.holding.specs.declared.Row.{Row}
 use Rattle.holding.proofs.Ranges.{none-fault, in-range}
 use Rattle.article.specs.Pair.{legOf, ruleOf, pairRateOf, RateInRange}
 use Rattle.article.proofs.PairRates.{rule-rate-le}
-use Rattle.rates.proofs.Rates.{rate-high}
+use Rattle.article.proofs.LegRates.{leg-rates}
 use Rattle.article.specs.Pair as article
 use Rattle.pairing.specs.Pairing.{savingRate, Fair}
 use Rattle.pairing.specs.declared.Line.{Line}
@@ -38,7 +38,7 @@ module _ (s : Submission) where
   value-at k = List·getD-map (λ (r : Row). r .value) (s .rows) k noRow
 
   pub rate-at : Limits s → (k : ℕ) → k < length (s .rows) → RateInRange (priced s .leg k)
-  rate-at l k h = rw (leg-at k h) (unfold legOf in rate-high (accountIn s) (holdingAt s k) (holding-in-range l k h))
+  rate-at l k h = rw (leg-at k h) (leg-rates (accountIn s) (holdingAt s k) (holding-in-range l k h))
 
 -- a pair's rate is no more than its two rates
 pub fair : (b : PricedBook) → Fair (termsOf b)

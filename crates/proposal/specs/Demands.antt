@@ -1,4 +1,4 @@
--- THE PAGE TO READ FIRST: what document 01, with document 02 a) and b), demands of the check's answer, in its own words; proofs/Demands.antt proves it. Assumes nothing.
+-- THE PAGE TO READ FIRST: what document 01, with document 02 a), b) and d), demands of the check's answer, in its own words; proofs/Demands.antt proves it. Assumes nothing.
 use mathlib.Core.{Path._≡_, Bool.Bool, Bool.true, Bool.false, Logic._↔_}
 use Prim.Native.Nat.{ℕ, _-_, _*_, _≤_, _<_}
 use lib.ListN.{length, getD}
@@ -13,7 +13,7 @@ use Rattle.proposal.specs.Submission.{Submission, accountIn, termsOf, pr
 use Rattle.proposal.specs.{Submission.RoundedUp, Outcome.outcome}
 
 module _ (s : Submission) where
-  -- the limits: none of 3 to 10, 23 and 24 holds
+  -- the limits: none of 3 to 10 and 23 to 25 holds
   pub record Limits : Type 0 where
     pub valued : isDate (s .head .date) ≡ true
     pub holdings : length (s .rows) ≤ 256
@@ -51,7 +51,7 @@ module _ (s : Submission) where
     pub rate : termsOf (priced s) .rate i ≡ rateOf (accountIn s) (holdingAt s i)
     pub allowed : (termsOf (priced s) .allowed i j ≡ true) ↔ MayPair (accountIn s) (holdingAt s i) (holdingAt s j)
     pub pair-rate : termsOf (priced s) .pairRate i j ≡ pairRateOf (legOf (accountIn s) (holdingAt s i)) (legOf (accountIn s) (holdingAt s j))
-    -- the difference, the half sum and the saving of the two
+    -- the difference, the half sum, the capped rate and the saving of the two
     pub pair : Pairing (accountIn s) (holdingAt s i) (holdingAt s j)
 
   -- a holding's remainder is its value less its amounts over all lines, and its margin the rate times that

@@ -1,4 +1,4 @@
--- Document 01, "Who can be refused, and for what", with document 02 a) and b): the first that holds of one list of refusals, or the figures. Assumes nothing.
+-- Document 01, "Who can be refused, and for what", with document 02 a), b) and d): the first that holds of one list of refusals, or the figures. Assumes nothing.
 use mathlib.Core.{Bool.Bool, Bool.not, Bool._&&_, Bool._||_, List.List, List.[], List._∷_, List._++_, List.map}
 use Prim.Native.Nat.{ℕ, _+_}
 use lib.{Dec.ltb, Dec.eqb, ListN.length, ListN.getD, ListN.take}
@@ -24,7 +24,7 @@ faultAnswer f = makeAnswer (f .number) (f .place) (f .second)
 unfoldable pub atPlace : ℕ → List (Bool × ℕ) → List (Bool × Answer)
 atPlace place faults = map (λ f. (f .0, makeAnswer (f .1) place 0)) faults
 
--- of a holding 4 to 8, 24 and 23, then 10 price above the highest, 43,800
+-- of a holding 4 to 8, 24, 23 and 25, then 10 price above the highest, 43,800
 unfoldable pub holdingFaults : Account → Row → ℕ → List (Bool × ℕ)
 holdingFaults a row price = rowFaults a row ++ ((ltb priceLimit price, 10) ∷ [])
 
@@ -43,7 +43,7 @@ lineFaults b earlier l =
     (not (ltb (l .long) (b .count) && ltb (l .short) (b .count)), 11)
     ∷ pairFaults (b .leg (l .long)) (b .leg (l .short)) (l .amount) (remainder b earlier (l .long)) (remainder b earlier (l .short))
 
--- each holding in turn 4, 5, 6, 24, 7, 8, 23, 10
+-- each holding in turn 4, 5, 6, 24, 7, 8, 23, 25, 10
 unfoldable pub atHolding : Account → List Row → List ℕ → ℕ → List (Bool × Answer)
 atHolding a rows prices k = atPlace k (holdingFaults a (getD rows k noRow) (getD prices k 0))
 

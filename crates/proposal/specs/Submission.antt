@@ -28,23 +28,31 @@ lineBy xs = record { long = getD xs 0 0; short = getD xs 1 0; amount = getD xs 2
 -- the numbers of a holding and its price in the order of the file's fields and of the exported columns, where the price is the sixth; and the row and the
 -- price of such a list
 unfoldable pub pricedNumbers : Row → ℕ → List ℕ
-pricedNumbers r price = r .side ∷ r .kind ∷ r .issuer ∷ r .maturity ∷ r .value ∷ price ∷ r .currency ∷ []
+pricedNumbers r price = r .side ∷ r .kind ∷ r .issuer ∷ r .maturity ∷ r .value ∷ price ∷ r .currency ∷ r .rating ∷ []
 
 abbrev pub pricedRow : List ℕ → Row
-pricedRow xs = record { side = getD xs 0 0; kind = getD xs 1 0; issuer = getD xs 2 0; maturity = getD xs 3 0; value = getD xs 4 0; currency = getD xs 6 0 }
+pricedRow xs = record {
+  side = getD xs 0 0;
+  kind = getD xs 1 0;
+  issuer = getD xs 2 0;
+  maturity = getD xs 3 0;
+  value = getD xs 4 0;
+  currency = getD xs 6 0;
+  rating = getD xs 7 0;
+}
 
 abbrev pub rowPrice : List ℕ → ℕ
 rowPrice xs = getD xs 5 0
 
 -- what is read where nothing stands
 abbrev pub noRow : Row
-noRow = record { side = 0; kind = 0; issuer = 0; maturity = 0; value = 0; currency = 0 }
+noRow = record { side = 0; kind = 0; issuer = 0; maturity = 0; value = 0; currency = 0; rating = 0 }
 
 abbrev pub noLine : Line
 noLine = record { long = 0; short = 0; amount = 0 }
 
 abbrev pub noLeg : Leg
-noLeg = record { side = 0; kind = 0; issuer = 0; currency = 0; period = 0; rate = 0 }
+noLeg = record { side = 0; kind = 0; issuer = 0; currency = 0; rating = 0; period = 0; rate = 0 }
 
 -- a priced book by the numbers of its holdings: what a pair asks of each, its market value, and its price
 pub record PricedBook : Type 0 where

@@ -12,12 +12,13 @@ pub fn lengths(
     value: usize,
     price: usize,
     currency: usize,
+    rating: usize,
     long: usize,
     short: usize,
     amount: usize,
     two: bool,
 ) -> u64
-    ensures { λ r. ⌜ r ≡ lengthFault (side ∷ kind ∷ issuer ∷ maturity ∷ value ∷ currency ∷ price ∷ []) (long ∷ short ∷ amount ∷ []) two ⌝ }
+    ensures { λ r. ⌜ r ≡ lengthFault (side ∷ kind ∷ issuer ∷ maturity ∷ value ∷ currency ∷ rating ∷ price ∷ []) (long ∷ short ∷ amount ∷ []) two ⌝ }
 {
     let n = side / 8;
     let m = long / 8;
@@ -29,6 +30,7 @@ pub fn lengths(
         | (maturity != book)
         | (value != book)
         | (currency != book)
+        | (rating != book)
         | (price != book)
         | (long != lines)
         | (short != lines)
@@ -67,13 +69,15 @@ pub fn columns_too_short(
     value: usize,
     price: usize,
     currency: usize,
+    rating: usize,
     long: usize,
     short: usize,
     amount: usize,
     answer: usize,
 ) -> bool
     ensures { λ r. ⌜ r ≡ tooShort ((1, head)
-        ∷ (holdings, side) ∷ (holdings, kind) ∷ (holdings, issuer) ∷ (holdings, maturity) ∷ (holdings, value) ∷ (holdings, currency) ∷ (holdings, price)
+        ∷ (holdings, side) ∷ (holdings, kind) ∷ (holdings, issuer) ∷ (holdings, maturity)
+        ∷ (holdings, value) ∷ (holdings, currency) ∷ (holdings, rating) ∷ (holdings, price)
         ∷ (lines, long) ∷ (lines, short) ∷ (lines, amount) ∷ []) answer ⌝ }
 {
     (head / 8 < 1)
@@ -83,6 +87,7 @@ pub fn columns_too_short(
         | (maturity / 8 < holdings)
         | (value / 8 < holdings)
         | (currency / 8 < holdings)
+        | (rating / 8 < holdings)
         | (price / 8 < holdings)
         | (long / 8 < lines)
         | (short / 8 < lines)

@@ -43,6 +43,7 @@ pub fn check(
     value: &[u8],
     price: &[u8],
     currency: &[u8],
+    rating: &[u8],
     long: &[u8],
     short: &[u8],
     amount: &[u8],
@@ -53,7 +54,7 @@ pub fn check(
 ) -> Verdict
     requires { ⌜ ScratchRoom (entries (now side)) (now legs) (now left) (now margins) (now ranks) ⌝ }
     ensures { λ r. ⌜ Judges two head (makeColumns
-        (now (side .entry) ∷ now (kind .entry) ∷ now (issuer .entry) ∷ now (maturity .entry) ∷ now (value .entry) ∷ now (currency .entry) ∷ [])
+        (now (side .entry) ∷ now (kind .entry) ∷ now (issuer .entry) ∷ now (maturity .entry) ∷ now (value .entry) ∷ now (currency .entry) ∷ now (rating .entry) ∷ [])
         (now (price .entry))
         (now (long .entry) ∷ now (short .entry) ∷ now (amount .entry) ∷ []))
         (makeScratch (now (left .entry)) (now (margins .entry)) (now (ranks .entry)))
@@ -67,6 +68,7 @@ pub fn check(
         value.len(),
         price.len(),
         currency.len(),
+        rating.len(),
         long.len(),
         short.len(),
         amount.len(),
@@ -89,6 +91,7 @@ pub fn check(
         value,
         price,
         currency,
+        rating,
         legs,
         left,
     );

@@ -43,9 +43,9 @@ margin-check-spec =
     (λ c κs.
     let few = c .before .before .before .before .before .before .before .if1 .taken in
     unfold entries in room 4 refl refl refl refl (λ _. omega arith))
-    (λ c. tiny c .judge .kept .1 .1 .1 .1 .1 .1 .1 .1 .1 .1 .1 .0)
     (λ c. tiny c .judge .kept .1 .1 .1 .1 .1 .1 .1 .1 .1 .1 .1 .1 .0)
     (λ c. tiny c .judge .kept .1 .1 .1 .1 .1 .1 .1 .1 .1 .1 .1 .1 .1 .0)
+    (λ c. tiny c .judge .kept .1 .1 .1 .1 .1 .1 .1 .1 .1 .1 .1 .1 .1 .1 .0)
     (λ c. tiny c .judge .ensures)
     (λ c. refl)
     (λ c. refl)
@@ -54,9 +54,9 @@ margin-check-spec =
     (λ c κs.
     let few = c .before .before .before .before .before .before .before .if2 .taken in
     unfold entries in room 16 refl refl refl refl (λ _. omega arith))
-    (λ c. small c .judge2 .kept .1 .1 .1 .1 .1 .1 .1 .1 .1 .1 .1 .0)
     (λ c. small c .judge2 .kept .1 .1 .1 .1 .1 .1 .1 .1 .1 .1 .1 .1 .0)
     (λ c. small c .judge2 .kept .1 .1 .1 .1 .1 .1 .1 .1 .1 .1 .1 .1 .1 .0)
+    (λ c. small c .judge2 .kept .1 .1 .1 .1 .1 .1 .1 .1 .1 .1 .1 .1 .1 .1 .0)
     (λ c. small c .judge2 .ensures)
     (λ c κs. tt)
     (λ c κs. tt)
@@ -69,7 +69,7 @@ margin-check-spec =
     (λ c κs.
     let four = made c in
     room 256 (many (four .before .before .before .zeros .ensures)) (many (four .before .before .zeros2 .ensures)) (many (four .before .zeros3 .ensures)) (many (four .zeros4 .ensures)) (λ h. h))
-    (λ c. large c .judge3 .kept .1 .1 .1 .1 .1 .1 .1 .1 .1 .1 .1 .0)
     (λ c. large c .judge3 .kept .1 .1 .1 .1 .1 .1 .1 .1 .1 .1 .1 .1 .0)
     (λ c. large c .judge3 .kept .1 .1 .1 .1 .1 .1 .1 .1 .1 .1 .1 .1 .1 .0)
+    (λ c. large c .judge3 .kept .1 .1 .1 .1 .1 .1 .1 .1 .1 .1 .1 .1 .1 .1 .0)
     (λ c. large c .judge3 .ensures))

@@ -10,21 +10,21 @@ use Rattle.lent.proofs.judge.Statement.{statement}
 use Rattle.lent.proofs.judge.Tie as tie
 
 -- from where the check's case is looked at back to the check, and to what 2 is
-abbrev checked : tie.After-slice-known11 → tie.After-check
+abbrev checked : tie.After-slice-known12 → tie.After-check
 checked c = c .before .before .before .before .before .before .before .before
 
 abbrev tested : tie.After-check → tie.After-lists-too-short
 tested c = c .before .before .before .before .before
 
 -- from the two ends back to the check's case
-abbrev accepted : tie.After-slice-known14 → tie.After-verdict
+abbrev accepted : tie.After-slice-known15 → tie.After-verdict
 accepted c = c .before .before .before .before .before .before .before .before .before .before .before .before .before .before .before
 
-abbrev refused : tie.After-slice-known15 → tie.After-verdict2
+abbrev refused : tie.After-slice-known16 → tie.After-verdict2
 refused c = c .before .before .before .before .before
 
 abbrev begun : tie.After-lists-too-short → tie.Start
-begun c = c .before .before .before .before .before .before .before .before .before .before .before .before .before .before .before .before .before .before
+begun c = c .before .before .before .before .before .before .before .before .before .before .before .before .before .before .before .before .before .before .before
 
 -- the lists as they were lent
 abbrev lists : tie.After-lists-too-short → Lent
@@ -61,18 +61,18 @@ judge-spec =
     (λ c. c .before .before .before .before .before .before .before .before .before .before .before .write-words .kept .1 .1 .0)
     (λ c. c .before .before .before .before .before .before .write-words2 .kept .1 .1 .0)
     (λ c. c .before .before .put-answer .kept .1 .1 .1 .0)
-    (λ c. checked (accepted c .before .before) .check .kept .1 .1 .1 .1 .1 .1 .1 .1 .1 .1 .1 .1 .0)
     (λ c. checked (accepted c .before .before) .check .kept .1 .1 .1 .1 .1 .1 .1 .1 .1 .1 .1 .1 .1 .0)
     (λ c. checked (accepted c .before .before) .check .kept .1 .1 .1 .1 .1 .1 .1 .1 .1 .1 .1 .1 .1 .1 .0)
     (λ c. checked (accepted c .before .before) .check .kept .1 .1 .1 .1 .1 .1 .1 .1 .1 .1 .1 .1 .1 .1 .1 .0)
+    (λ c. checked (accepted c .before .before) .check .kept .1 .1 .1 .1 .1 .1 .1 .1 .1 .1 .1 .1 .1 .1 .1 .1 .0)
     returns
     (λ c. search needs)
     (λ _ _. tt)
     (λ c. c .before .before .put-answer2 .kept .1 .1 .1 .0)
-    (λ c. checked (refused c .before .before) .check .kept .1 .1 .1 .1 .1 .1 .1 .1 .1 .1 .1 .1 .0)
     (λ c. checked (refused c .before .before) .check .kept .1 .1 .1 .1 .1 .1 .1 .1 .1 .1 .1 .1 .1 .0)
     (λ c. checked (refused c .before .before) .check .kept .1 .1 .1 .1 .1 .1 .1 .1 .1 .1 .1 .1 .1 .1 .0)
     (λ c. checked (refused c .before .before) .check .kept .1 .1 .1 .1 .1 .1 .1 .1 .1 .1 .1 .1 .1 .1 .1 .0)
+    (λ c. checked (refused c .before .before) .check .kept .1 .1 .1 .1 .1 .1 .1 .1 .1 .1 .1 .1 .1 .1 .1 .1 .0)
     (λ c.
     let v = refused c in
     let k = checked (v .before .before) in

@@ -6,7 +6,8 @@ use Rattle.printing.proofs.print_tables.Tie as tie
 returns : tie.Need-returns
 returns c =
     let printed = c .before .before in
-    let c10 = printed .before .before in
+    let c11 = printed .before .before in
+    let c10 = c11 .before in
     let c9 = c10 .before in
     let c8 = c9 .before in
     let c7 = c8 .before in
@@ -27,6 +28,7 @@ returns c =
       c8 .column8 .ensures,
       c9 .column9 .ensures,
       c10 .column10 .ensures,
+      c11 .column11 .ensures,
     ) at (printed .print-columns .ensures)
 
 pub print-tables-spec : {M : Type 1} → statement M
@@ -42,7 +44,8 @@ print-tables-spec =
     (λ c κs. search needs)
     (λ c κs. search needs)
     (λ c κs. search needs)
-    (λ c κs. let start = c .before .before .before .before .before .before .before .before .before .before .before .before in search needs)
+    (λ c κs. search needs)
+    (λ c κs. let start = c .before .before .before .before .before .before .before .before .before .before .before .before .before in search needs)
     (λ c κs. search needs)
     (λ c. search needs)
     returns)

@@ -15,13 +15,13 @@ use Rattle.verdict.proofs.check.Statement.{statement}
 use Rattle.verdict.proofs.check.Tie as tie
 
 abbrev start : tie.After-lengths → tie.Start
-start c = c .before .before .before .before .before .before .before .before .before .before .before .before .before .before .before
+start c = c .before .before .before .before .before .before .before .before .before .before .before .before .before .before .before .before
 
 -- the columns of the holdings after the side's
 abbrev others : tie.Start → List (List ℕ)
 others c =
     let a = c .args in
-    a .kind .now ∷ a .issuer .now ∷ a .maturity .now ∷ a .value .now ∷ a .currency .now ∷ []
+    a .kind .now ∷ a .issuer .now ∷ a .maturity .now ∷ a .value .now ∷ a .currency .now ∷ a .rating .now ∷ []
 
 abbrev SizedAt : tie.Start → Type 0
 SizedAt c =
@@ -49,10 +49,10 @@ abbrev before-open : tie.After-open → tie.Else1
 before-open c = c .before .before .before .before .before .before .before
 
 abbrev legs : tie.After-open → List ℕ
-legs c = c .«open» .last .1 .1 .1 .1 .1 .1 .1 .1 .0
+legs c = c .«open» .last .1 .1 .1 .1 .1 .1 .1 .1 .1 .0
 
 abbrev left : tie.After-open → List ℕ
-left c = c .«open» .last .1 .1 .1 .1 .1 .1 .1 .1 .1 .0
+left c = c .«open» .last .1 .1 .1 .1 .1 .1 .1 .1 .1 .1 .0
 
 abbrev HeldAt : tie.After-open → Type 0
 HeldAt c =
@@ -96,10 +96,10 @@ all-taken c = before-pairs (before-total (compared (c .before .before .before .b
 
 -- the lists that were lent are as long as before
 abbrev legs-long : (c : tie.After-open) → length (legs c) ≡ length (start (before-open c .before) .args .legs .now)
-legs-long c = c .«open» .kept .1 .1 .1 .1 .1 .1 .1 .1 .0
+legs-long c = c .«open» .kept .1 .1 .1 .1 .1 .1 .1 .1 .1 .0
 
 abbrev left-long : (c : tie.After-open) → length (left c) ≡ length (start (before-open c .before) .args .left .now)
-left-long c = c .«open» .kept .1 .1 .1 .1 .1 .1 .1 .1 .1 .0
+left-long c = c .«open» .kept .1 .1 .1 .1 .1 .1 .1 .1 .1 .1 .0
 
 abbrev left-after : (c : tie.After-take-lines) → length (c .take-lines .last .1 .1 .0) ≡ length (begun (c .before .before .before) .args .left .now)
 left-after c = c .take-lines .kept .1 .1 .0 ∙ left-long (opened (c .before .before .before))
