@@ -42,18 +42,18 @@ both : {A B : Type 0} (t u : Bool) → (t ≡ true → A) → (u ≡ true → B)
 both t u f g e = let (x, y) = and-eq-true-iff t u .0 e in (f x, g y)
 
 module _ (l s : Leg) where
-  abbrev Governments : Type 0
+  abbrev pub Governments : Type 0
   Governments = (isCorporate l ≡ false) × (isCorporate s ≡ false)
 
-  of-one-class : sameClass l s ≡ true → Governments
+  pub of-one-class : sameClass l s ≡ true → Governments
   unfolding sameClass
   of-one-class e = ⊎-elim (both _ _ (canada l) (canada s)) (both _ _ (province l) (province s)) (one-of _ _ e)
 
-  of-two-classes : mixedClass l s ≡ true → Governments
+  pub of-two-classes : mixedClass l s ≡ true → Governments
   unfolding mixedClass
   of-two-classes e = ⊎-elim (both _ _ (canada l) (province s)) (both _ _ (province l) (canada s)) (one-of _ _ e)
 
-  of-one-government : sameGovernment l s ≡ true → Governments
+  pub of-one-government : sameGovernment l s ≡ true → Governments
   unfolding sameGovernment
   of-one-government e = ⊎-elim (λ o. ⊎-elim (both _ _ (canada l) (canada s)) (both _ _ (us l) (us s)) (one-of _ _ o)) (both _ _ (gb l) (gb s)) (one-of _ _ e)
 

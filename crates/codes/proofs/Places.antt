@@ -8,8 +8,8 @@ use native.Mathlib.Nat.{add-zero, zero-add}
 use native.Mathlib.Omega.{arith}
 use lib.ListN.{length, getD}
 use borrow.Author.Tests.{not-true}
-use Rattle.lists.specs.Choice.{same}
-use Rattle.lists.proofs.Entries.{every, each-by, each-at, same-false, eq-same, ne-same, one-or-not}
+use Rattle.lists.specs.Choice.{same, every}
+use Rattle.lists.proofs.Entries.{each-by, each-at, same-false, eq-same, ne-same, one-or-not}
 use Rattle.codes.specs.Codes.{placeFrom, placeOf, Named}
 use Rattle.codes.specs.declared.Place.the-variants.{At, Nowhere}
 

@@ -94,7 +94,7 @@ recordAt text i = fieldsFrom text (suc (length text)) i
 
 -- the number of fields that a record of the file has
 abbrev pub fieldCount : ℕ
-fieldCount = 8
+fieldCount = 9
 
 -- a record that was looked at: counted, with the places of its first fields at the front of two lists; outside the grammar, what they hold is free
 abbrev pub Scans : Split → List ℕ → List ℕ → List ℕ → List ℕ → Scanned → Type 0

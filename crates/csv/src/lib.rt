@@ -5,7 +5,7 @@ ghost use Rattle.csv.specs.Grammar.{isText, isQuotable};
 ghost use Rattle.csv.specs.Reading.{span, part, textEnd, closeAt, followed, opens, fieldAt, recordAt, Scans, HandsBack};
 
 // The number of fields that a record of the file has.
-pub const FIELDS: usize = 8;
+pub const FIELDS: usize = 9;
 
 // From a place of a text to another, which is outside.
 pub struct Span {

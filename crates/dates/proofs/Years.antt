@@ -11,9 +11,10 @@ use lib.Dec.{eqb, leb, ltb}
 use lib.ListN.{length, getD, take, List·getD-eq-default}
 use lib.Seq.{take-all}
 use borrow.Author.Tests.{eq-eqb, ne-eqb, eqb-true, eqb-false, leb-true, ltb-true, ltb-false}
+use Rattle.lists.specs.Choice.{every}
 use Rattle.lists.specs.Tables.{sumOf}
 use Rattle.lists.proofs.Tests.{by-test, either-way}
-use Rattle.lists.proofs.Entries.{bounded, every, each-by, each-at}
+use Rattle.lists.proofs.Entries.{bounded, each-by, each-at}
 use Rattle.dates.specs.Calendar.{isLeap, leapDay, monthLengths, monthLength, yearStart, monthStart}
 
 -- one number is below another, or it is not

@@ -1,7 +1,7 @@
 -- The letters of a record, the sorts and the values after each, and the numbers of the refusals. Assumes nothing.
 use mathlib.Core.Path.{_≡_, refl, sym, _∙_}
 use mathlib.Core.List.{List, [], _∷_, _++_}
-use Prim.Native.Nat.{ℕ, zero, suc, _-_, _≤_, _<_}
+use Prim.Native.Nat.{ℕ, zero, suc, _+_, _-_, _≤_, _<_}
 use native.Mathlib.Omega.{arith}
 use lib.Dec.{ltb, eqb}
 use lib.ListN.{length, getD, replicate, length-append, length-replicate, List·getD-eq-default}
@@ -13,11 +13,21 @@ use Rattle.codes.specs.Codes.{placeOf}
 use Rattle.codes.specs.declared.Place.{Place}
 use Rattle.codes.specs.declared.Place.the-variants.{At, Nowhere}
 use Rattle.codes.proofs.Places.{place-exactly}
-use Rattle.layout.specs.Layout.{valueOf, padded, layouts, letters, sortsBy, Values, values, wrong, andValue, valuesOf, Meaning, good, refused, meant, afterLetter, parsedOf, parse}
+use Rattle.numerals.specs.Numerals.{numeralOf}
+use Rattle.numerals.specs.declared.Numeral.{Numeral}
+use Rattle.numerals.specs.declared.Numeral.the-variants.{Number, NotANumeral}
+use Rattle.dates.specs.Text.{readDate}
+use Rattle.dates.specs.declared.text.Reading.{Reading}
+use Rattle.dates.specs.declared.text.Reading.the-variants.{Number as Dated, NotADate}
+use Rattle.lei.specs.Lei.{judgedOf}
+use Rattle.lei.specs.declared.Judged.{Judged}
+use Rattle.lei.specs.declared.Judged.the-variants.{Lei, WrongForm, WrongRemainder}
+use Rattle.layout.specs.Layout.{sides, kinds, issuers, currencies, ratings, byPlace, byNumeral, byDate, byIssuer, valueOf, padded, layouts, letters, sortsBy}
+use Rattle.layout.specs.Layout.{Values, values, wrong, andValue, valuesOf, Meaning, good, refused, issuerIn, ratingIn, misrated, leiNumbers, meant, afterLetter, parsedOf, parse}
 use Rattle.layout.specs.declared.Sort.{Sort}
-use Rattle.layout.specs.declared.Sort.the-variants.{Empty}
+use Rattle.layout.specs.declared.Sort.the-variants.{Side, Kind, Issuer, Currency, Rating, Date, Six, Twelve, Empty}
 use Rattle.layout.specs.declared.Value.{Value}
-use Rattle.layout.specs.declared.Value.the-variants.{Of, Wrong}
+use Rattle.layout.specs.declared.Value.the-variants.{Of, Refused}
 
 module _ {A : Type 0} (x : A) where
   -- what pads a list is what is read past its end
@@ -62,34 +72,71 @@ past-letters k j h = past-listed k j (rw (List·getD-eq-default layouts ([], [])
 pub letter-known : (text : List ℕ) (k : ℕ) → placeOf text letters ≡ At k → k < length letters
 letter-known text k e = place-exactly text letters k .0 e .named .inside
 
--- of good values there is one for each sort
-abbrev Long : ℕ → Values → Type 0
-Long n (values vs) = length vs ≡ n
-Long n wrong = Unit {0}
+-- a field is refused with 21 or more
+abbrev pub Late : Value → Type 0
+Late (Of v) = Unit {0}
+Late (Refused number) = 21 ≤ number
 
-and-long : (v : Value) (n : ℕ) (vs : Values) → Long n vs → Long (suc n) (andValue v vs)
-and-long (Of v) n (values vs) h = omega (arith, h)
-and-long (Of v) n wrong h = tt
-and-long Wrong n vs h = tt
+place-late : (p : Place) → Late (byPlace p)
+place-late (At n) = tt
+place-late Nowhere = omega arith
 
-values-long : (ss : List Sort) (ts : List (List ℕ)) → Long (length ss) (valuesOf ss ts)
+numeral-late : (n : Numeral) → Late (byNumeral n)
+numeral-late (Number x) = tt
+numeral-late NotANumeral = omega arith
+
+date-late : (r : Reading) → Late (byDate r)
+date-late (Dated n) = tt
+date-late NotADate = omega arith
+
+issuer-late : (p : Place) (j : Judged) → Late (byIssuer p j)
+issuer-late (At n) j = tt
+issuer-late Nowhere Lei = tt
+issuer-late Nowhere WrongForm = omega arith
+issuer-late Nowhere WrongRemainder = omega arith
+
+pub value-late : (s : Sort) (t : List ℕ) → Late (valueOf s t)
+unfolding valueOf
+value-late Side t = place-late (placeOf t sides)
+value-late Kind t = place-late (placeOf t kinds)
+value-late Issuer t = issuer-late (placeOf t issuers) (judgedOf t)
+value-late Currency t = place-late (placeOf t currencies)
+value-late Rating t = place-late (placeOf t ratings)
+value-late Date t = date-late (readDate t)
+value-late Six t = numeral-late (numeralOf 6 t)
+value-late Twelve t = numeral-late (numeralOf 12 t)
+value-late Empty t = by-test Late (eqb (length t) 0) (λ _. tt) (λ _. omega arith)
+
+-- of good values there is one for each sort, and wrong ones are refused with 21 or more
+abbrev pub Sized : ℕ → Values → Type 0
+Sized n (values vs) = length vs ≡ n
+Sized n (wrong number) = 21 ≤ number
+
+and-sized : (v : Value) (n : ℕ) (vs : Values) → Late v → Sized n vs → Sized (suc n) (andValue v vs)
+and-sized (Of v) n (values vs) l h = omega (arith, h)
+and-sized (Of v) n (wrong number) l h = h
+and-sized (Refused first) n (values vs) l h = l
+and-sized (Refused first) n (wrong number) l h = omega (arith, l, h)
+
+pub values-sized : (ss : List Sort) (ts : List (List ℕ)) → Sized (length ss) (valuesOf ss ts)
 unfolding valuesOf
-values-long [] [] = refl
-values-long [] (t ∷ ts) = tt
-values-long (s ∷ ss) [] = tt
-values-long (s ∷ ss) (t ∷ ts) = and-long (valueOf s t) (length ss) (valuesOf ss ts) (values-long ss ts)
+values-sized [] [] = refl
+values-sized [] (t ∷ ts) = omega arith
+values-sized (s ∷ ss) [] = omega arith
+values-sized (s ∷ ss) (t ∷ ts) = and-sized (valueOf s t) (length ss) (valuesOf ss ts) (value-late s t) (values-sized ss ts)
 
--- a good record has a known letter and a value for each field after it; a refusal is 19 or more
+-- a good record has a known letter, a value for each field after it, and two for the LEI; a refusal is 19 or more
 abbrev Known : Meaning → Type 0
-Known (good k vs) = (k < length letters) × (length vs ≡ fieldCount - 1)
+Known (good k vs) = (k < length letters) × (length vs ≡ fieldCount + 1)
 Known (refused number) = 19 ≤ number
 
-meant-known : (k : ℕ) (vs : Values) → k < length letters → Long (fieldCount - 1) vs → Known (meant k vs)
-meant-known k (values vs) h l = (h, l)
-meant-known k wrong h l = omega arith
+meant-known : (k : ℕ) (texts : List (List ℕ)) (vs : Values) → k < length letters → Sized (fieldCount - 1) vs → Known (meant k texts vs)
+meant-known k texts (values vs) h l =
+    by-test Known (misrated k (issuerIn vs) (ratingIn vs)) (λ _. omega arith) (λ _. (h, omega (arith, l, length-append vs (leiNumbers (getD texts 2 [])))))
+meant-known k texts (wrong number) h l = omega (arith, l)
 
 after-known : (p : Place) (texts : List (List ℕ)) → ((k : ℕ) → p ≡ At k → k < length letters) → Known (afterLetter p texts)
-after-known (At k) texts h = meant-known k (valuesOf (sortsBy k) texts) (h k refl) (rw (length-sorts k) at (values-long (sortsBy k) texts))
+after-known (At k) texts h = meant-known k texts (valuesOf (sortsBy k) texts) (h k refl) (rw (length-sorts k) at (values-sized (sortsBy k) texts))
 after-known Nowhere texts h = omega arith
 
 parsed-known : (texts : List (List ℕ)) → Known (parsedOf texts)
@@ -107,7 +154,7 @@ module _ (r : Read) where
     pub parse-good : k < length letters
     parse-good = (rw e at (parse-known r)) .0
 
-    pub good-length : length vs ≡ fieldCount - 1
+    pub good-length : length vs ≡ fieldCount + 1
     good-length = (rw e at (parse-known r)) .1
 
   pub parse-refused : {number : ℕ} → parse r ≡ refused number → 19 ≤ number

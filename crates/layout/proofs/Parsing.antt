@@ -1,10 +1,11 @@
 -- What a record that was looked at is parsed as, by the tests on its fields. Assumes nothing.
 use mathlib.Core.Path.{_≡_, refl, sym, _∙_}
-use mathlib.Core.Bool.{Bool, true, false, cond}
-use mathlib.Core.List.{List, [], _∷_}
-use Prim.Native.Nat.{ℕ}
+use mathlib.Core.Bool.{Bool, true, false}
+use mathlib.Core.List.{List, [], _∷_, _++_}
+use Prim.Native.Nat.{ℕ, _-_, _<_}
 use native.Mathlib.Omega.{arith}
-use lib.ListN.{length, getD, drop, length-map}
+use lib.ListN.{length, getD, take, drop, length-map}
+use lib.Seq.{getD-take, getD-drop}
 use borrow.Author.Tests.{eq-eqb, ne-eqb}
 use Rattle.csv.specs.Reading.{part, recordAt, fieldCount, Scans, textsIn, HandsBack, Read, formed}
 use Rattle.csv.specs.declared.Scanned.{Scanned}
@@ -13,8 +14,10 @@ use Rattle.csv.proofs.Places.{scanned-fields, scanned-malformed, all-texts}
 use Rattle.codes.specs.Codes.{placeOf}
 use Rattle.codes.specs.declared.Place.{Place}
 use Rattle.codes.specs.declared.Place.the-variants.{At, Nowhere}
-use Rattle.layout.specs.Layout.{letters, sortsBy, Values, values, wrong, valuesOf, good, refused, meant, afterLetter, parsedOf, parse, readOf, nextOf, Found, entry, EntryAt}
+use Rattle.layout.specs.Layout.{letters, sortsBy, Values, values, wrong, valuesOf, refused, misrated, leiNumbers, meant, afterLetter, parsedOf, parse, readOf, nextOf}
+use Rattle.layout.specs.Layout.{Found, entry, EntryAt}
 use Rattle.layout.specs.declared.Parsed.the-variants.{Good, Refused}
+use Rattle.layout.proofs.Letters.{Sized, values-sized}
 
 -- of as many fields as a record has, the first is the letter
 first : (ts : List (List ℕ)) → length ts ≡ fieldCount → parsedOf ts ≡ afterLetter (placeOf (getD ts 0 []) letters) (drop 1 ts)
@@ -60,16 +63,41 @@ module _ {text : List ℕ} {at : ℕ} {starts ends : List ℕ} {place : Place} {
   entry-unknown n vs = record { means = rw n at (l .means); next = l .onward }
 
   -- after the letter of number k
-  module _ {k : ℕ} (n : place ≡ At k) (found : List ℕ) (all : Bool) (f : Found (valuesOf (sortsBy k) (drop 1 (textsIn text fieldCount starts ends))) found all) where
-    values-mean : cond all (good k found) (refused 21) ≡ parse (readOf text (recordAt text at))
-    values-mean = by (valuesOf (sortsBy k) (drop 1 (textsIn text fieldCount starts ends))) f ∙ rw n at (l .means)
+  module _ {k : ℕ} (n : place ≡ At k) (found : List ℕ) (refusal : ℕ) (f : Found (valuesOf (sortsBy k) (drop 1 (textsIn text fieldCount starts ends))) found refusal) where
+    abbrev texts : List (List ℕ)
+    texts = drop 1 (textsIn text fieldCount starts ends)
+
+    means-by : (vs : Values) → valuesOf (sortsBy k) texts ≡ vs → meant k texts vs ≡ parse (readOf text (recordAt text at))
+    means-by vs e = rw (n, e) at (l .means)
+
+    pub entry-wrong : (refusal ≡ 0 → ⊥) → (vs : List ℕ) → EntryAt text at vs (entry (Refused refusal) next)
+    entry-wrong w vs = record { means = by (valuesOf (sortsBy k) texts) refl f; next = l .onward }
       where
-        by : (vs : Values) → Found vs found all → cond all (good k found) (refused 21) ≡ meant k vs
-        by (values vs) w = rw (w .0, w .1)
-        by wrong w = rw w
+        by : (vs : Values) → valuesOf (sortsBy k) texts ≡ vs → Found vs found refusal → refused refusal ≡ parse (readOf text (recordAt text at))
+        by (values us) e g = absurd (w (g .0))
+        by (wrong number) e g = rw g (means-by (wrong number) e)
 
-    pub entry-wrong : all ≡ false → EntryAt text at found (entry (Refused 21) next)
-    entry-wrong g = record { means = rw g at values-mean; next = l .onward }
+    -- no refusal was found
+    module _ (z : refusal ≡ 0) where
+      all-good : valuesOf (sortsBy k) texts ≡ values (take (fieldCount - 1) found)
+      all-good = by (valuesOf (sortsBy k) texts) refl f (values-sized (sortsBy k) texts)
+        where
+          by : (vs : Values) → valuesOf (sortsBy k) texts ≡ vs → Found vs found refusal → Sized (length (sortsBy k)) vs → valuesOf (sortsBy k) texts ≡ values (take (fieldCount - 1) found)
+          by (values us) e g h = rw (g .1) e
+          by (wrong number) e g h = absurd (omega (arith, g, h))
 
-    pub entry-good : all ≡ true → EntryAt text at found (entry (Good k) next)
-    entry-good g = record { means = rw g at values-mean; next = l .onward }
+      first-values : (j : ℕ) → j < fieldCount - 1 → getD (take (fieldCount - 1) found) j 0 ≡ getD found j 0
+      first-values j h = getD-take (fieldCount - 1) found j 0 h
+
+      module _ (bad : Bool) (e : bad ≡ misrated k (getD found 2 0) (getD found 7 0)) where
+        rates : misrated k (getD (take (fieldCount - 1) found) 2 0) (getD (take (fieldCount - 1) found) 7 0) ≡ bad
+        rates = rw (first-values 2 (omega arith), first-values 7 (omega arith)) (sym e)
+
+        pub entry-misrated : bad ≡ true → (vs : List ℕ) → EntryAt text at vs (entry (Refused 25) next)
+        entry-misrated g vs = record { means = rw (rates ∙ g) at (means-by _ all-good); next = l .onward }
+
+        pub entry-good : bad ≡ false → {issuer : List ℕ} → HandsBack text fieldCount starts ends 3 issuer → (vs : List ℕ) → vs ≡ take (fieldCount - 1) found ++ leiNumbers issuer
+            → EntryAt text at vs (entry (Good k) next)
+        entry-good g q vs h =
+            let third : getD texts 2 [] ≡ _ = getD-drop 1 (textsIn text fieldCount starts ends) 2 [] ∙ sym (q .by-places) in
+            record { means = rw h (rw (rates ∙ g, third) at (means-by _ all-good)); next = l .onward }

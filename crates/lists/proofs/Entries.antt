@@ -1,20 +1,16 @@
 -- What holds of every entry of a list: at each place, and from one computed test. Assumes nothing.
 use mathlib.Core.Path.{_≡_, refl, sym, _∙_}
 use mathlib.Core.Logic.{_↔_}
-use mathlib.Core.Bool.{Bool, true, false, _&&_, _||_, and-eq-true-iff, false≢true}
+use mathlib.Core.Bool.{Bool, true, false, _||_, and-eq-true-iff, false≢true}
 use mathlib.Core.List.{List, [], _∷_, _++_, map}
 use Prim.Native.Nat.{ℕ, zero, suc, _≤_, _<_}
 use native.Mathlib.Omega.{arith}
 use lib.Dec.{leb, eqb}
 use lib.ListN.{length, getD}
 use borrow.Author.Tests.{leb-true, eq-eqb, eqb-true}
-use Rattle.lists.specs.Choice.{same, some}
+use Rattle.lists.specs.Choice.{same, every, some}
 use Rattle.lists.specs.Tables.{Each}
 use Rattle.lists.proofs.Tests.{neither, either-way}
-
-abbrev pub every : {A : Type 0} → (A → Bool) → List A → Bool
-every test [] = true
-every test (x ∷ xs) = test x && every test xs
 
 -- a test that passes everywhere gives each entry what it gives one
 pub each-by : {A : Type 0} (P : A → Type 0) (test : A → Bool) → ((x : A) → test x ≡ true → P x) → (xs : List A) → every test xs ≡ true → Each P xs
@@ -22,6 +18,11 @@ each-by P test f [] e = tt
 each-by P test f (x ∷ xs) e =
     let (a, b) = and-eq-true-iff (test x) (every test xs) .0 e in
     (f x a, each-by P test f xs b)
+
+-- and back
+pub each-every : {A : Type 0} (P : A → Type 0) (test : A → Bool) → ((x : A) → P x → test x ≡ true) → (xs : List A) → Each P xs → every test xs ≡ true
+each-every P test f [] h = refl
+each-every P test f (x ∷ xs) h = rw (f x (h .0)) (each-every P test f xs (h .1))
 
 -- no entry passes a test exactly when each has what failing it gives
 pub none-some : {A : Type 0} (P : A → Type 0) (test : A → Bool) → ((x : A) → (test x ≡ false) ↔ P x) → (xs : List A) → (some test xs ≡ false) ↔ Each P xs

@@ -44,7 +44,7 @@ module _ {A : Type 0} where
       (rw (take-at kept rest n long, drop-at kept rest n long, drop-drop (length ys) n old)
       (rw (overwrite-parts at (xs ++ ys) old, more, ← append-assoc (take at old) xs ys)))
 
-  length-overwrite : (at : ℕ) (xs old : List A) → at + length xs ≤ length old → length (overwrite at xs old) ≡ length old
+  pub length-overwrite : (at : ℕ) (xs old : List A) → at + length xs ≤ length old → length (overwrite at xs old) ≡ length old
   length-overwrite at xs old h =
       rw (overwrite-parts at xs old) (length-append (take at old ++ xs) (drop (at + length xs) old) ∙ omega (arith, before at xs old (omega arith), length-drop (at + length xs) old))
 

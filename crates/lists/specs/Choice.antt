@@ -19,6 +19,11 @@ unfoldable pub firstOf : {A : Type 0} → List (Bool × A) → A → A
 firstOf [] last = last
 firstOf (t ∷ ts) last = cond (t .0) (t .1) (firstOf ts last)
 
+-- whether every element of a list passes a test
+abbrev pub every : {A : Type 0} → (A → Bool) → List A → Bool
+every test [] = true
+every test (x ∷ xs) = test x && every test xs
+
 -- whether an element of a list passes a test
 unfoldable pub some : {A : Type 0} → (A → Bool) → List A → Bool
 some test [] = false

@@ -7,8 +7,9 @@ use native.Mathlib.Omega.{arith}
 use lib.Dec.{ltb}
 use lib.ListN.{length, replicate}
 use borrow.Author.Tests.{ltb-true}
+use Rattle.lists.specs.Choice.{every}
 use Rattle.lists.specs.Tables.{listTo}
-use Rattle.lists.proofs.Entries.{every, each-by, each-map}
+use Rattle.lists.proofs.Entries.{each-by, each-map}
 use Rattle.lists.proofs.Tables.{to-eq}
 use Rattle.holding.specs.declared.Head.{Head}
 use Rattle.proposal.specs.Submission.{Submission, lineBy, pricedRow, rowPrice}

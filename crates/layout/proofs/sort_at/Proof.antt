@@ -29,6 +29,7 @@ sort-at-spec =
     (λ c. search needs)
     (λ c. search needs)
     (λ c. search needs)
+    (λ c. search needs)
     (λ c. rw (c .before .if2 .taken) (past-listed 1 _ (from-end _ _ (c .match2 .rest))))
     (λ c. search needs)
     (λ c. search needs)

@@ -1,5 +1,6 @@
--- `values_after` reads the fields in turn: before each turn the first j values are found. Assumes nothing.
+-- `values_after` reads the fields in turn: before each turn the first j values are found, or a refusal among them. Assumes nothing.
 use mathlib.Core.Path.{_≡_, _∙_}
+use mathlib.Core.Logic.{⊎-elim}
 use mathlib.Core.List.{[]}
 use Prim.Native.Nat.{_-_}
 use native.Mathlib.Omega.{arith}
@@ -13,10 +14,10 @@ use Rattle.layout.proofs.values_after.Statement.{statement}
 use Rattle.layout.proofs.values_after.Tie as tie
 
 abbrev Inv-loop : tie.InvT-loop
-Inv-loop text starts ends letter found₀ j₀ found j = Finding letter (drop 1 (textsIn text fieldCount starts ends)) found j
+Inv-loop text starts ends letter found₀ refusal₀ j₀ found refusal j = Finding letter (drop 1 (textsIn text fieldCount starts ends)) found refusal j
 
 abbrev μ-loop : tie.MeasureT-loop
-μ-loop text starts ends letter found₀ j₀ found j = fieldCount - 1 - j
+μ-loop text starts ends letter found₀ refusal₀ j₀ found refusal j = fieldCount - 1 - j
 
 -- a turn, from the value that it found
 module _ (c : tie.After-value-in Inv-loop μ-loop) where
@@ -33,14 +34,16 @@ module _ (c : tie.After-value-in Inv-loop μ-loop) where
 loop-holds : tie.Need-loop-holds Inv-loop μ-loop
 loop-holds c = finding-none _ _ _ (texts-after _ _ _) (c .found .given .0 .1)
 
-returns : tie.Need-returns Inv-loop μ-loop
-returns c = finding-wrong (at (c .before .before) .loop .inv) (search needs) (value (c .before .before) ∙ c .enum-told .given .1)
-
 loop-again : tie.Need-loop-again Inv-loop μ-loop
-loop-again c = finding-more (at (c .before .before .before) .loop .inv) (search needs) _ (value (c .before .before .before) ∙ c .before .value .given .1)
+loop-again c =
+    ⊎-elim
+    (λ (arm, is, fits, found, refusal). rw (found, refusal) (finding-more (at (c .before) .loop .inv) (search needs) _ (value (c .before) ∙ is .given .1)))
+    (λ (arm, is, fits, sooner, found, refusal).
+    rw (found, refusal, sooner .ensures) (finding-wrong (at (c .before) .loop .inv) (search needs) _ (value (c .before) ∙ is .given .1)))
+    (c .match .came)
 
-returns-2 : tie.Need-returns-2 Inv-loop μ-loop
-returns-2 c = finding-all (c .before .loop .inv) (omega arith)
+returns : tie.Need-returns Inv-loop μ-loop
+returns c = finding-all (c .before .loop .inv) (omega arith)
 
 pub values-after-spec : {M : Type 1} → statement M
 values-after-spec =
@@ -49,16 +52,17 @@ values-after-spec =
     Inv-loop
     μ-loop
     loop-holds
-    (λ c κs. search needs)
     (λ c. search needs)
     (λ c κs. search needs)
+    (λ c. search needs)
+    (λ c κs. search needs)
     (λ c κs. search needs)
     (λ c. search needs)
     (λ c. search needs)
     (λ c. search needs)
     (λ c. search needs)
-    returns
+    (λ c κs. search needs)
     (λ c. search needs)
     (λ c. search needs)
     loop-again
-    returns-2)
+    returns)

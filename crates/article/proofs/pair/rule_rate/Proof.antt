@@ -18,16 +18,11 @@ unfolding ruleRate
 returns-3 c = (rw (c .enum-told2 .given .1), omega arith)
 
 returns-4 : tie.Need-returns-4
-unfolding ruleRate
-returns-4 c = let rate = c .before .greater .ensures in (rw (c .before .before .enum-told3 .given .1) (omega (arith, rate)), omega (arith, rate))
+returns-4 c = let rate = c .capped .ensures in (rw (c .before .enum-told3 .given .1) (rate .0), rate .1)
 
 returns-5 : tie.Need-returns-5
 unfolding ruleRate
-returns-5 c = let rate = c .before .greater .ensures in (rw (c .before .before .enum-told3 .given .1) (omega (arith, rate)), omega (arith, rate))
-
-returns-6 : tie.Need-returns-6
-unfolding ruleRate
-returns-6 c = (rw (c .enum-told4 .given .1), omega arith)
+returns-5 c = (rw (c .enum-told4 .given .1), omega arith)
 
 pub rule-rate-spec : {M : Type 1} → statement M
 rule-rate-spec =
@@ -45,5 +40,4 @@ rule-rate-spec =
     returns-2
     returns-3
     returns-4
-    returns-5
-    returns-6)
+    returns-5)

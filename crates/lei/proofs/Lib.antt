@@ -1,0 +1,14 @@
+pub mod Tests
+pub mod Characters
+pub mod Remainders
+pub mod Halves
+pub mod Judging
+pub mod Places
+pub mod Written
+pub mod Texts
+pub mod Numbers
+pub mod Forms
+pub mod Damage
+pub mod Identifiers
+pub mod Entered
+pub mod Computed

@@ -1,0 +1,59 @@
+-- THE PAGE OF LEIS: what ISO 17442, ISO 7064 and document 02 d) say of them, over the definitions beside it; proofs/Identifiers.antt proves it.
+-- Assumes nothing.
+use mathlib.Core.{Path._≡_, Logic._↔_, Logic._≢_, Bool.true, List.List, List.[], List._∷_, List._++_}
+use Prim.Native.Nat.{ℕ, _+_, _/_, _%_, _^_, _≤_, _<_}
+use lib.ListN.{length, getD}
+use Rattle.lei.specs.Lei.{Key, Form, IsLei, isCharacter, isCapital, digitsOf, remainder, remainderFrom, noKey, leiOf, leiText, judgedOf}
+use Rattle.lei.specs.Numbering.{isNew, newBefore, numbersOf}
+use Rattle.lei.specs.declared.Judged.the-variants.{Lei, WrongForm, WrongRemainder}
+
+-- ISO 7064 MOD 97-10
+pub record CheckDigits : Type 0 where
+  -- a digit is itself, and `A` to `Z` are the numbers 10 to 35 in two digits
+  pub digit : (k : ℕ) → k < 10 → digitsOf ((48 + k) ∷ []) ≡ k ∷ []
+  pub capital : (k : ℕ) → k < 26 → digitsOf ((65 + k) ∷ []) ≡ ((10 + k) / 10) ∷ ((10 + k) % 10) ∷ []
+  -- one text behind another has its digits behind the other's
+  pub join : (t u : List ℕ) → digitsOf (t ++ u) ≡ digitsOf t ++ digitsOf u
+  -- Horner's rule gives the remainder
+  pub horner : (t : List ℕ) → remainderFrom 0 t ≡ remainder t
+  -- a digit for another digit, or a capital for another capital, changes the remainder
+  pub damage : (t u : List ℕ) (c d : ℕ) → isCharacter c ≡ true → isCharacter d ≡ true → isCapital c ≡ isCapital d → c ≢ d
+      → remainder (t ++ c ∷ u) ≢ remainder (t ++ d ∷ u)
+
+-- what a text is judged to be: an LEI, or the first of two refusals
+pub record Judging (t : List ℕ) : Type 0 where
+  pub lei : (judgedOf t ≡ Lei) ↔ IsLei t
+  pub wrong-form : (judgedOf t ≡ WrongForm) ↔ (Form t → ⊥)
+  pub wrong-remainder : (judgedOf t ≡ WrongRemainder) ↔ (Form t × (remainder t ≢ 1))
+
+-- an LEI as two numbers: they write its text, so that two texts in form are one exactly when their numbers are; a text that is too short or too long has none
+pub record TwoNumbers : Type 0 where
+  pub none : (t : List ℕ) → length t ≢ 20 → leiOf t ≡ noKey
+  pub back : (t : List ℕ) → Form t → leiText (leiOf t) ≡ t
+  pub equal : (t u : List ℕ) → Form t → Form u → (leiOf t ≡ leiOf u) ↔ (t ≡ u)
+  pub small : (t : List ℕ) → Form t → (leiOf t .0 < 36 ^ 10) × (leiOf t .1 < 36 ^ 10)
+  pub again : (high low : ℕ) → high < 36 ^ 10 → low < 36 ^ 10 → leiOf (leiText (high, low)) ≡ (high, low)
+
+-- the numbers of a list of LEIs, by first appearance
+module _ (xs : List Key) where
+  pub record ByFirst (i : ℕ) : Type 0 where
+    -- the same number exactly for the same LEI
+    pub same : (j : ℕ) → j < length xs → (getD (numbersOf xs) i 0 ≡ getD (numbersOf xs) j 0) ↔ (getD xs i noKey ≡ getD xs j noKey)
+    -- one that stands at no place before is new
+    pub new : (isNew xs i ≡ true) ↔ ((k : ℕ) → k < i → getD xs k noKey ≢ getD xs i noKey)
+    -- a new one has 100 and as many as are new before it: 100, 101, and so on
+    pub next : isNew xs i ≡ true → getD (numbersOf xs) i 0 ≡ 100 + newBefore xs i
+    -- so that there are at most as many numbers as LEIs
+    pub least : 100 ≤ getD (numbersOf xs) i 0
+    pub most : getD (numbersOf xs) i 0 ≤ 100 + i
+
+  pub record Numbered : Type 0 where
+    pub each : length (numbersOf xs) ≡ length xs
+    pub by-first : (i : ℕ) → i < length xs → ByFirst i
+
+-- the page
+pub record Identifiers : Type 0 where
+  pub check-digits : CheckDigits
+  pub judging : (t : List ℕ) → Judging t
+  pub two-numbers : TwoNumbers
+  pub numbered : (xs : List Key) → Numbered xs
