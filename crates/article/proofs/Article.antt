@@ -4,44 +4,58 @@ use mathlib.Core.Logic.{_⊎_, inl, inr, ⊎-elim}
 use mathlib.Core.Bool.{Bool, true, false, and-false, false≢true}
 use Prim.Native.Nat.{ℕ, _+_, min, max}
 use native.Mathlib.Omega.{arith}
+use borrow.Author.Tests.{eqb-true}
 use Rattle.lists.specs.Choice.{within}
 use Rattle.lists.proofs.Tests.{either-way}
 use Rattle.holding.proofs.Heads.{head-kept}
 use Rattle.holding.proofs.Ranges.{fault-none, none-fault, row-refused, row-kept, holding-kept, side-back}
 use Rattle.holding.proofs.Numbers.{numbers}
 use Rattle.rates.proofs.RateTable.{rate-table}
-use Rattle.rates.proofs.Rates.{rate-high}
 use Rattle.rates.proofs.Periods.{periods}
-use Rattle.article.proofs.PairRates.{difference-excess, half-exact, rate-and-saving, saving-high}
-use Rattle.article.proofs.Legs.{allowed-meets, meets-allowed, Permitted, one-class, two-classes, one-government, permitted}
-use Rattle.article.proofs.Paragraphs.{by-paragraph, abroad, class-one, class-two}
+use Rattle.article.proofs.PairRates.{difference-excess, half-exact, rate-and-saving}
+use Rattle.article.proofs.Saved.{saving-high}
+use Rattle.article.proofs.LegRates.{leg-rates}
+use Rattle.article.proofs.Legs.{allowed-meets, meets-allowed, Permitted, one-class, two-classes, one-corporation, one-government, permitted}
+use Rattle.article.proofs.Paragraphs.{by-paragraph, abroad, class-one, class-two, capped}
 use Rattle.article.specs.Article.{MayPair, OneClass, both-canada, both-provincial, TwoClasses, canada-long, canada-short, SameForeign, both-usd, both-gbp}
-use Rattle.article.specs.Article.{SameGovernment, of-canada, of-us, of-gb, Pairing, Unpaired, UnknownIssuer, StayUnpaired, Article}
-use Rattle.holding.specs.Holding.{InRange, sideNumber, sideOf, noIssuer, issuerNumber, rowOf}
+use Rattle.article.specs.Article.{SameGovernment, of-canada, of-us, of-gb, SameCorporation, of-corporation, Paragraph2, Paragraph3, Paragraph4, ByParagraph, by-2, by-3, by-4}
+use Rattle.article.specs.Article.{Pairing, Unpaired, UnknownIssuer, StayUnpaired, Article}
+use Rattle.holding.specs.Holding.{InRange, Government, Corporate, isCorporation, sideNumber, sideOf, noIssuer, issuerNumber, rowOf}
 use Rattle.rates.specs.Rate.{rateOf}
-use Rattle.article.specs.Pair.{legOf, isCanada, isProvince, isUs, isGb, sameClass, mixedClass, sameGovernment, ruleOf, ruleRate, permits, allowed, pairRateOf}
+use Rattle.article.specs.Pair.{legOf, isCanada, isProvince, isUs, isGb, isCorporate, sameClass, mixedClass, sameGovernment, ruleOf, ruleRate, permits, allowed, pairRateOf}
 use Rattle.holding.specs.declared.Issuer.{Issuer}
-use Rattle.holding.specs.declared.Issuer.the-variants.{Canada, Province, UnitedStates, UnitedKingdom}
+use Rattle.holding.specs.declared.Issuer.the-variants.{Canada, Province, UnitedStates, UnitedKingdom, Corporation}
 use Rattle.holding.specs.declared.Currency.{Currency}
 use Rattle.holding.specs.declared.Currency.the-variants.{Cad, Usd, Gbp}
+use Rattle.holding.specs.declared.Kind.the-variants.{Bond}
+use Rattle.holding.specs.declared.Rating.the-variants.{SingleA}
 use Rattle.holding.specs.declared.Holding.{Holding}
 use Rattle.holding.specs.declared.Account.{Account}
 use Rattle.article.specs.declared.pair.Rule.{Rule}
-use Rattle.article.specs.declared.pair.Rule.the-variants.{Difference, HalfSum}
+use Rattle.article.specs.declared.pair.Rule.the-variants.{Difference, HalfSum, Capped}
 use Rattle.article.specs.declared.pair.Leg.{Leg}
 
--- paragraph 2 has Canada and the provinces alone, paragraph 4 Canada, US and GB, in USD and GBP alone
+-- paragraph 2 has Canada and the provinces alone, paragraph 3 corporations alone, both in CAD, paragraph 4 Canada, US and GB, in USD and GBP alone
 abbrev domestic : Issuer → Bool
 domestic Canada = true
 domestic (Province p) = true
 domestic UnitedStates = false
 domestic UnitedKingdom = false
+domestic (Corporation c) = false
+
+abbrev corporate : Issuer → Bool
+corporate Canada = false
+corporate (Province p) = false
+corporate UnitedStates = false
+corporate UnitedKingdom = false
+corporate (Corporation c) = true
 
 abbrev government : Issuer → Bool
 government Canada = true
 government (Province p) = false
 government UnitedStates = true
 government UnitedKingdom = true
+government (Corporation c) = false
 
 abbrev foreign : Currency → Bool
 foreign Cad = false
@@ -59,6 +73,9 @@ governments of-canada = (refl, refl)
 governments of-us = (refl, refl)
 governments of-gb = (refl, refl)
 
+corporations : {i j : Issuer} → SameCorporation i j → (corporate i ≡ true) × (corporate j ≡ true)
+corporations (of-corporation c) = (refl, refl)
+
 foreigners : {c d : Currency} → SameForeign c d → (foreign c ≡ true) × (foreign d ≡ true)
 foreigners both-usd = (refl, refl)
 foreigners both-gbp = (refl, refl)
@@ -67,7 +84,20 @@ never-both : {i j : Issuer} → TwoClasses i j → SameGovernment i j → ⊥
 never-both (canada-long p) e = false≢true (governments e .1)
 never-both (canada-short p) e = false≢true (governments e .0)
 
--- an allowed pair is one of the two paragraphs'
+-- nor are two classes one corporation's, nor one class
+no-corporation : {i j : Issuer} → OneClass i j ⊎ TwoClasses i j → SameCorporation i j → ⊥
+no-corporation (inl both-canada) e = false≢true (corporations e .0)
+no-corporation (inl (both-provincial p q)) e = false≢true (corporations e .0)
+no-corporation (inr (canada-long p)) e = false≢true (corporations e .0)
+no-corporation (inr (canada-short p)) e = false≢true (corporations e .0)
+
+-- what follows from each of the paragraphs
+by-each : {A : Type 0} {l s : Holding} → (Paragraph2 l s → A) → (Paragraph3 l s → A) → (Paragraph4 l s → A) → ByParagraph l s → A
+by-each f g h (by-2 p) = f p
+by-each f g h (by-3 p) = g p
+by-each f g h (by-4 p) = h p
+
+-- an allowed pair is one of the paragraphs'
 allowed-may : (a : Account) (l s : Holding) → allowed (legOf a l) (legOf a s) ≡ true → MayPair a l s
 unfolding legOf rowOf sideOf
 allowed-may a l s e =
@@ -82,15 +112,17 @@ allowed-may a l s e =
 module _ (a : Account) (l s : Holding) (f : InRange a l) (g : InRange a s) where
   -- the rule that two holdings have if they may be paired
   difference-rule : MayPair a l s → OneClass (l .issuer) (s .issuer) → ruleOf (legOf a l) (legOf a s) ≡ Difference
-  difference-rule m e = ⊎-elim (λ p. class-one a l s f g p e) (λ p. abroad a l s p) (m .paragraph)
+  difference-rule m e = by-each (λ p. class-one a l s f g p e) (λ p. absurd (no-corporation (inl e) (p .corporation))) (λ p. abroad a l s p) (m .paragraph)
 
   half-rule : MayPair a l s → TwoClasses (l .issuer) (s .issuer) → ruleOf (legOf a l) (legOf a s) ≡ HalfSum
-  half-rule m e = ⊎-elim (λ p. class-two a l s f g p e) (λ p. absurd (never-both e (p .government))) (m .paragraph)
+  half-rule m e =
+      by-each (λ p. class-two a l s f g p e) (λ p. absurd (no-corporation (inr e) (p .corporation))) (λ p. absurd (never-both e (p .government))) (m .paragraph)
 
   may-permit : MayPair a l s → permits (ruleOf (legOf a l) (legOf a s)) ≡ true
   may-permit m =
-      ⊎-elim
+      by-each
       (λ p. ⊎-elim (λ e. ap permits (difference-rule m e)) (λ e. ap permits (half-rule m e)) (p .classes))
+      (λ p. ap permits (capped a l s f g p))
       (λ p. ap permits (abroad a l s p))
       (m .paragraph)
 
@@ -117,8 +149,9 @@ module _ (a : Account) (l s : Holding) (f : InRange a l) (g : InRange a s) where
     difference = λ m e. excess (difference-rule m e);
     half-sum = λ m e. rw (rate-by HalfSum (half-rule m e)) (half-exact a l s);
     foreign = λ _ p. excess (abroad a l s p);
+    corporate = λ _ p. rate-by Capped (capped a l s f g p) ∙ (unfold ruleRate in refl);
     saving = unfold legOf in rate-and-saving (legOf a l) (legOf a s);
-    saving-range = saving-high (legOf a l) (legOf a s) (unfold legOf in rate-high a l f) (unfold legOf in rate-high a s g);
+    saving-range = saving-high (legOf a l) (legOf a s) (leg-rates a l f) (leg-rates a s g);
   }
 
 -- what may be in no pair is in none
@@ -131,13 +164,15 @@ never-paired h f g = record {
 -- an issuer of no number is in none either
 module _ (l : Leg) (e : l .issuer ≡ noIssuer) (s : Leg) where
   not-long : {r : Rule} → Permitted l s r → ⊥
-  unfolding sameClass mixedClass sameGovernment isCanada isProvince isUs isGb within
+  unfolding sameClass mixedClass sameGovernment isCanada isProvince isUs isGb isCorporate isCorporation within
+  not-long (one-corporation _ n _ _) = false≢true (rw e at n)
   not-long (one-class _ _ f) = false≢true (rw e at f)
   not-long (two-classes _ _ f) = false≢true (rw e at f)
   not-long (one-government _ _ f) = false≢true (rw e at f)
 
   not-short : {r : Rule} → Permitted s l r → ⊥
-  unfolding sameClass mixedClass sameGovernment isCanada isProvince isUs isGb within
+  unfolding sameClass mixedClass sameGovernment isCanada isProvince isUs isGb isCorporate isCorporation within
+  not-short (one-corporation _ n i _) = false≢true (rw (eqb-true (s .issuer) (l .issuer) i, e) at n)
   not-short (one-class _ _ f) = false≢true (rw (e, and-false (isCanada s), and-false (isProvince s)) at f)
   not-short (two-classes _ _ f) = false≢true (rw (e, and-false (isCanada s), and-false (isProvince s)) at f)
   not-short (one-government _ _ f) = false≢true (rw (e, and-false (isCanada s), and-false (isUs s), and-false (isGb s)) at f)
@@ -145,16 +180,17 @@ module _ (l : Leg) (e : l .issuer ≡ noIssuer) (s : Leg) where
 no-pair : (l s : Leg) → (Permitted l s (ruleOf l s) → ⊥) → allowed l s ≡ false
 no-pair l s f = either-way (allowed l s) (λ e. absurd (f (permitted l s (allowed-meets l s e .rule)))) (λ e. e)
 
-module _ (p : ℕ) (stray : within 1 10 p ≡ false) where
-  stray-number : (i : Issuer) → i ≡ Province p → issuerNumber i ≡ noIssuer
-  stray-number i e = ap issuerNumber e ∙ rw stray
+no-number : {n : ℕ} → n ≡ noIssuer → Government n ⊎ Corporate n → ⊥
+no-number e (inl h) = omega (arith, e, h)
+no-number e (inr h) = omega (arith, e, h .1)
 
-  unknown-issuer : UnknownIssuer p
+module _ (i : Issuer) (stray : issuerNumber i ≡ noIssuer) where
+  unknown-issuer : UnknownIssuer i
   unfolding legOf rowOf
   unknown-issuer = record {
-    out-of-range = λ a h e g. omega (arith, g .ranges .issuer, stray-number (h .issuer) e);
+    out-of-range = λ a h e g. no-number (ap issuerNumber e ∙ stray) (g .ranges .identity .issuer);
     unpaired = λ h e.
-        let number = stray-number (h .issuer) e in
+        let number = ap issuerNumber e ∙ stray in
         record {
           as-long = λ a s. no-pair (legOf a h) (legOf a s) (not-long (legOf a h) number (legOf a s));
           as-short = λ a l. no-pair (legOf a l) (legOf a h) (not-short (legOf a h) number (legOf a l));
@@ -162,21 +198,39 @@ module _ (p : ℕ) (stray : within 1 10 p ≡ false) where
   }
 
 module _ (h : Holding) where
-  -- a holding that neither paragraph has
-  in-neither : (domestic (h .issuer) ≡ true → h .currency ≡ Cad → ⊥) → (government (h .issuer) ≡ true → foreign (h .currency) ≡ true → ⊥) → Unpaired h
-  in-neither f g =
-      never-paired h
-      (λ _ s m. ⊎-elim (λ p. f (domestics (p .classes) .0) (p .first-cad)) (λ p. g (governments (p .government) .0) (foreigners (p .currency) .0)) (m .paragraph))
-      (λ _ l m. ⊎-elim (λ p. f (domestics (p .classes) .1) (p .second-cad)) (λ p. g (governments (p .government) .1) (foreigners (p .currency) .1)) (m .paragraph))
+  -- what paragraph 3 has of one of its two
+  record Corporate3 : Type 0 where
+    issuer : corporate (h .issuer) ≡ true
+    cad : h .currency ≡ Cad
+    rated : h .kind ≡ Bond → h .rating ≡ SingleA
 
-  in-cad : h .currency ≡ Cad → domestic (h .issuer) ≡ false → Unpaired h
-  in-cad c f = in-neither (λ d _. false≢true (sym f ∙ d)) (λ _ e. false≢true (sym (ap foreign c) ∙ e))
+  -- a holding that no paragraph has
+  in-none : (domestic (h .issuer) ≡ true → h .currency ≡ Cad → ⊥) → (Corporate3 → ⊥) → (government (h .issuer) ≡ true → foreign (h .currency) ≡ true → ⊥) → Unpaired h
+  in-none f c g =
+      never-paired h
+      (λ _ s m.
+      by-each
+      (λ p. f (domestics (p .classes) .0) (p .first-cad))
+      (λ p. c (record { issuer = corporations (p .corporation) .0; cad = p .first-cad; rated = p .long-rated }))
+      (λ p. g (governments (p .government) .0) (foreigners (p .currency) .0))
+      (m .paragraph))
+      (λ _ l m.
+      by-each
+      (λ p. f (domestics (p .classes) .1) (p .second-cad))
+      (λ p. c (record { issuer = corporations (p .corporation) .1; cad = p .second-cad; rated = p .short-rated }))
+      (λ p. g (governments (p .government) .1) (foreigners (p .currency) .1))
+      (m .paragraph))
+
+  in-cad : h .currency ≡ Cad → domestic (h .issuer) ≡ false → corporate (h .issuer) ≡ false → Unpaired h
+  in-cad c f n = in-none (λ d _. false≢true (sym f ∙ d)) (λ p. false≢true (sym n ∙ p .issuer)) (λ _ e. false≢true (sym (ap foreign c) ∙ e))
 
   stay-unpaired : StayUnpaired h
   stay-unpaired = record {
-    province = λ p e c. in-neither (λ _ d. c d) (λ g _. false≢true (sym (ap government e) ∙ g));
-    us = λ e c. in-cad c (ap domestic e);
-    gb = λ e c. in-cad c (ap domestic e);
+    province = λ p e c. in-none (λ _ d. c d) (λ q. false≢true (sym (ap corporate e) ∙ q .issuer)) (λ g _. false≢true (sym (ap government e) ∙ g));
+    corporation = λ n e c. in-none (λ d _. false≢true (sym (ap domestic e) ∙ d)) (λ q. c (q .cad)) (λ g _. false≢true (sym (ap government e) ∙ g));
+    unrated = λ n e k r. in-none (λ d _. false≢true (sym (ap domestic e) ∙ d)) (λ q. r (q .rated k)) (λ g _. false≢true (sym (ap government e) ∙ g));
+    us = λ e c. in-cad c (ap domestic e) (ap corporate e);
+    gb = λ e c. in-cad c (ap domestic e) (ap corporate e);
   }
 
 pub article : Article
@@ -186,7 +240,8 @@ article = record {
   refusals = row-refused;
   records = holding-kept;
   numbered = numbers;
-  unknown-issuers = unknown-issuer;
+  unknown-provinces = λ p w. unknown-issuer (Province p) (rw w);
+  unknown-corporations = λ c w. unknown-issuer (Corporation c) (unfold isCorporation in rw w);
   ends = periods;
   rates = rate-table;
   pairs = pairing;

@@ -1,30 +1,34 @@
--- What the tests on two legs say of their records, and back: the two paragraphs of the page. Assumes nothing.
+-- What the tests on two legs say of their records, and back: the paragraphs of the page. Assumes nothing.
 use mathlib.Core.Path.{_≡_, refl, sym, ap, _∙_}
 use mathlib.Core.Logic.{_⊎_, inl, inr, ⊎-elim}
 use mathlib.Core.Bool.{Bool, true, false, _&&_, and-eq-true-iff, false≢true}
 use Prim.Native.Nat.{ℕ, _≤_}
 use native.Mathlib.Omega.{arith}
 use lib.Dec.{eqb}
-use borrow.Author.Tests.{ne-eqb, eqb-true}
+use borrow.Author.Tests.{eq-eqb, ne-eqb, eqb-true}
 use Rattle.lists.specs.Choice.{within, firstOf}
-use Rattle.lists.proofs.Tests.{within-true, one-of}
-use Rattle.holding.proofs.Ranges.{kind-back, issuer-back, currency-back, province-range}
-use Rattle.holding.specs.Holding.{kindNumber, issuerNumber, currencyNumber, kindOf, issuerOf, currencyOf, rowOf, InRange}
-use Rattle.article.proofs.Legs.{Permitted, one-class, two-classes, one-government}
+use Rattle.lists.proofs.Tests.{within-true, one-of, either-way}
+use Rattle.holding.proofs.Ranges.{issuer-back, currency-back, rating-back, province-range, corporation-range}
+use Rattle.holding.proofs.Issuers.{no-corporation, corporation-is}
+use Rattle.holding.specs.Holding.{Government, Corporate, isCorporation, kindNumber, issuerNumber, currencyNumber, ratingNumber, issuerOf, currencyOf, ratingOf, rowOf, InRange}
+use Rattle.article.proofs.ByKind.{bond-of, strip-of}
+use Rattle.article.proofs.Legs.{Permitted, one-class, two-classes, one-corporation, one-government}
 use Rattle.article.specs.Article.{OneClass, both-canada, both-provincial, TwoClasses, canada-long, canada-short, SameForeign, both-usd, both-gbp}
-use Rattle.article.specs.Article.{SameGovernment, of-canada, of-us, of-gb, OneBond, Paragraph2, Paragraph4}
+use Rattle.article.specs.Article.{SameGovernment, of-canada, of-us, of-gb, OneBond, SameCorporation, of-corporation, Paragraph2, Paragraph3, Paragraph4, ByParagraph, by-2, by-3, by-4}
 use Rattle.article.specs.Pair.{legOf, isBond, isStrip, isCanada, isProvince, isUs, isGb, inCad, inUsd, inGbp, kindsPair, sameClass, mixedClass, classRule, domesticRule}
-use Rattle.article.specs.Pair.{oneBond, sameGovernment, foreignRule, bothCad, sameForeign, ruleOf}
+use Rattle.article.specs.Pair.{isCorporate, isSingleA, ratedBond, corporateRule, cadRule, oneBond, sameGovernment, foreignRule, bothCad, sameForeign, ruleOf}
 use Rattle.holding.specs.declared.Kind.{Kind}
 use Rattle.holding.specs.declared.Kind.the-variants.{Bond, Coupon, Residual}
 use Rattle.holding.specs.declared.Issuer.{Issuer}
-use Rattle.holding.specs.declared.Issuer.the-variants.{Canada, Province, UnitedStates, UnitedKingdom}
+use Rattle.holding.specs.declared.Issuer.the-variants.{Canada, Province, UnitedStates, UnitedKingdom, Corporation}
 use Rattle.holding.specs.declared.Currency.{Currency}
 use Rattle.holding.specs.declared.Currency.the-variants.{Cad}
+use Rattle.holding.specs.declared.Rating.{Rating}
+use Rattle.holding.specs.declared.Rating.the-variants.{SingleA}
 use Rattle.holding.specs.declared.Holding.{Holding}
 use Rattle.holding.specs.declared.Account.{Account}
 use Rattle.article.specs.declared.pair.Rule.{Rule}
-use Rattle.article.specs.declared.pair.Rule.the-variants.{Difference, HalfSum}
+use Rattle.article.specs.declared.pair.Rule.the-variants.{Difference, HalfSum, Capped}
 use Rattle.article.specs.declared.pair.Leg.{Leg}
 
 -- the case that a number is of
@@ -34,7 +38,7 @@ currency-of c n e = sym (currency-back c) ∙ ap currencyOf (eqb-true _ _ e)
 issuer-of : (i : Issuer) (n : ℕ) → n ≤ 12 → eqb (issuerNumber i) n ≡ true → i ≡ issuerOf n
 issuer-of i n h e =
     let number : issuerNumber i ≡ n = eqb-true _ _ e in
-    sym (issuer-back i (rw number h)) ∙ ap issuerOf number
+    sym (issuer-back i (inl (rw number h))) ∙ ap issuerOf number
 
 canada-of : (i : Issuer) → eqb (issuerNumber i) 0 ≡ true → i ≡ Canada
 unfolding issuerOf firstOf
@@ -52,16 +56,24 @@ province-of : (i : Issuer) → within 1 10 (issuerNumber i) ≡ true → i ≡ P
 unfolding issuerOf firstOf
 province-of i e =
     let (low, high) = within-true 1 10 (issuerNumber i) e in
-    sym (issuer-back i (omega arith))
-    ∙ rw (ne-eqb (issuerNumber i) 0 (λ z. omega arith), ne-eqb (issuerNumber i) 11 (λ z. omega arith), ne-eqb (issuerNumber i) 12 (λ z. omega arith))
+    sym (issuer-back i (inl (omega arith)))
+    ∙ rw (
+      ne-eqb (issuerNumber i) 0 (λ z. omega arith),
+      ne-eqb (issuerNumber i) 11 (λ z. omega arith),
+      ne-eqb (issuerNumber i) 12 (λ z. omega arith),
+      no-corporation (issuerNumber i) (omega arith),
+    )
 
-bond-of : (k : Kind) → eqb (kindNumber k) 0 ≡ true → k ≡ Bond
-unfolding kindOf
-bond-of k e = sym (kind-back k) ∙ ap kindOf (eqb-true (kindNumber k) 0 e)
+corporation-of : (i : Issuer) → isCorporation (issuerNumber i) ≡ true → i ≡ Corporation (issuerNumber i)
+unfolding issuerOf firstOf
+corporation-of i e =
+    let (low, high) = corporation-is (issuerNumber i) e in
+    sym (issuer-back i (inr (low, high)))
+    ∙ rw (ne-eqb (issuerNumber i) 0 (λ z. omega arith), ne-eqb (issuerNumber i) 11 (λ z. omega arith), ne-eqb (issuerNumber i) 12 (λ z. omega arith), e)
 
-strip-of : (k : Kind) → within 1 2 (kindNumber k) ≡ true → k ≡ Bond → ⊥
-unfolding within
-strip-of k e b = false≢true (sym (ap (λ (x : Kind). within 1 2 (kindNumber x)) b) ∙ e)
+single-a-of : (r : Rating) → eqb (ratingNumber r) 0 ≡ true → r ≡ SingleA
+unfolding ratingOf
+single-a-of r e = sym (rating-back r) ∙ ap ratingOf (eqb-true (ratingNumber r) 0 e)
 
 -- what follows where two tests hold
 both : {A : Type 0} (t u : Bool) → (t ≡ true → u ≡ true → A) → (t && u) ≡ true → A
@@ -120,11 +132,55 @@ module _ (a : Account) (l s : Holding) where
   unfolding kindsPair oneBond isBond isStrip legOf rowOf
   not-bonds e m n = ⊎-elim (λ f. one-bond f .not-both m n) (λ f. strip-of (l .kind) (and-eq-true-iff _ _ .0 f .0) m) (one-of _ _ e)
 
-  -- one of the two paragraphs has a pair that is permitted
-  pub by-paragraph : {r : Rule} → Permitted (legOf a l) (legOf a s) r → Paragraph2 l s ⊎ Paragraph4 l s
-  by-paragraph (one-class c k e) = inl (record { first-cad = both-cad c .0; second-cad = both-cad c .1; classes = inl (same-class e); not-bonds = not-bonds k })
-  by-paragraph (two-classes c k e) = inl (record { first-cad = both-cad c .0; second-cad = both-cad c .1; classes = inr (mixed-class e); not-bonds = not-bonds k })
-  by-paragraph (one-government c k e) = inr (record { currency = same-foreign c; government = same-government e; one-bond = one-bond k })
+  same-corporation : isCorporate (legOf a l) ≡ true → eqb (legOf a l .issuer) (legOf a s .issuer) ≡ true → SameCorporation (l .issuer) (s .issuer)
+  unfolding isCorporate legOf rowOf
+  same-corporation n e =
+      let same = eqb-true (issuerNumber (l .issuer)) (issuerNumber (s .issuer)) e in
+      let first = corporation-of (l .issuer) n in
+      let second = corporation-of (s .issuer) (rw same at n) in
+      rw (first, second, same) (of-corporation (issuerNumber (s .issuer)))
+
+  -- just one is a bond, and it is rated
+  record RatedBond : Type 0 where
+    one : OneBond (l .kind) (s .kind)
+    long-rated : l .kind ≡ Bond → l .rating ≡ SingleA
+    short-rated : s .kind ≡ Bond → s .rating ≡ SingleA
+
+  rated-bond : ratedBond (legOf a l) (legOf a s) ≡ true → RatedBond
+  unfolding ratedBond isBond isStrip isSingleA legOf rowOf
+  rated-bond e =
+      either-way (eqb (kindNumber (l .kind)) 0)
+      (λ x.
+      let (y, r) = and-eq-true-iff _ _ .0 (rw x at e) in
+      record {
+        one = record { some = inl (bond-of (l .kind) x); not-both = λ _ n. strip-of (s .kind) y n };
+        long-rated = λ _. single-a-of (l .rating) r;
+        short-rated = λ n. absurd (strip-of (s .kind) y n);
+      })
+      (λ f.
+      let (k, r) = and-eq-true-iff _ _ .0 (rw f at e) in
+      let (x, y) = and-eq-true-iff _ _ .0 k in
+      record {
+        one = record { some = inr (bond-of (s .kind) y); not-both = λ m _. strip-of (l .kind) x m };
+        long-rated = λ m. absurd (strip-of (l .kind) x m);
+        short-rated = λ _. single-a-of (s .rating) r;
+      })
+
+  -- one of the paragraphs has a pair that is permitted
+  pub by-paragraph : {r : Rule} → Permitted (legOf a l) (legOf a s) r → ByParagraph l s
+  by-paragraph (one-corporation c n i k) =
+      let rated = rated-bond k in
+      by-3 (record {
+        first-cad = both-cad c .0;
+        second-cad = both-cad c .1;
+        corporation = same-corporation n i;
+        one-bond = rated .one;
+        long-rated = rated .long-rated;
+        short-rated = rated .short-rated;
+      })
+  by-paragraph (one-class c k e) = by-2 (record { first-cad = both-cad c .0; second-cad = both-cad c .1; classes = inl (same-class e); not-bonds = not-bonds k })
+  by-paragraph (two-classes c k e) = by-2 (record { first-cad = both-cad c .0; second-cad = both-cad c .1; classes = inr (mixed-class e); not-bonds = not-bonds k })
+  by-paragraph (one-government c k e) = by-4 (record { currency = same-foreign c; government = same-government e; one-bond = one-bond k })
 
 -- and what two records say of the tests
 module _ (l s : Leg) where
@@ -141,6 +197,18 @@ module _ (l s : Leg) where
   kinds Residual Coupon a b f = (rw (a, b), λ o. absurd (⊎-elim (strip-of Residual refl) (strip-of Coupon refl) o))
   kinds Residual Residual a b f = (rw (a, b), λ o. absurd (⊎-elim (strip-of Residual refl) (strip-of Residual refl) o))
 
+  rated : (k m : Kind) → l .kind ≡ kindNumber k → s .kind ≡ kindNumber m → OneBond k m → (k ≡ Bond → l .rating ≡ 0) → (m ≡ Bond → s .rating ≡ 0) → ratedBond l s ≡ true
+  unfolding ratedBond isBond isStrip isSingleA within
+  rated Bond Bond a b o f g = absurd (o .not-both refl refl)
+  rated Bond Coupon a b o f g = rw (a, b, f refl)
+  rated Bond Residual a b o f g = rw (a, b, f refl)
+  rated Coupon Bond a b o f g = rw (a, b, g refl)
+  rated Coupon Coupon a b o f g = absurd (⊎-elim (strip-of Coupon refl) (strip-of Coupon refl) (o .some))
+  rated Coupon Residual a b o f g = absurd (⊎-elim (strip-of Coupon refl) (strip-of Residual refl) (o .some))
+  rated Residual Bond a b o f g = rw (a, b, g refl)
+  rated Residual Coupon a b o f g = absurd (⊎-elim (strip-of Residual refl) (strip-of Coupon refl) (o .some))
+  rated Residual Residual a b o f g = absurd (⊎-elim (strip-of Residual refl) (strip-of Residual refl) (o .some))
+
   foreigners : {c d : Currency} → SameForeign c d → l .currency ≡ currencyNumber c → s .currency ≡ currencyNumber d → (bothCad l s ≡ false) × (sameForeign l s ≡ true)
   unfolding bothCad sameForeign inCad inUsd inGbp
   foreigners both-usd a b = (rw a, rw (a, b))
@@ -156,7 +224,7 @@ canada-leg : (l : Leg) → l .issuer ≡ 0 → (isCanada l ≡ true) × (isProvi
 unfolding isCanada isProvince within
 canada-leg l e = (rw e, rw e)
 
-province-leg : (l : Leg) (p : ℕ) → l .issuer ≡ issuerNumber (Province p) → issuerNumber (Province p) ≤ 12 → (isCanada l ≡ false) × (isProvince l ≡ true)
+province-leg : (l : Leg) (p : ℕ) → l .issuer ≡ issuerNumber (Province p) → Government (issuerNumber (Province p)) ⊎ Corporate (issuerNumber (Province p)) → (isCanada l ≡ false) × (isProvince l ≡ true)
 unfolding isCanada isProvince
 province-leg l p e h =
     let w = province-range p h in
@@ -164,15 +232,20 @@ province-leg l p e h =
     let (low, _) = within-true 1 10 p w in
     (ne-eqb (l .issuer) 0 (λ z. omega arith), ap (within 1 10) number ∙ w)
 
+of-province : (p : ℕ) → Government (issuerNumber (Province p)) ⊎ Corporate (issuerNumber (Province p)) → isCorporation (issuerNumber (Province p)) ≡ false
+of-province p h =
+    let w = province-range p h in
+    rw w (no-corporation p (omega (arith, within-true 1 10 p w .1)))
+
 -- both Canada or both provincial: the difference; one Canada, one provincial: half the sum
 one-class-rule : (l s : Leg) {i j : Issuer} → OneClass i j → l .issuer ≡ issuerNumber i → s .issuer ≡ issuerNumber j
-    → issuerNumber i ≤ 12 → issuerNumber j ≤ 12 → classRule l s ≡ Difference
+    → Government (issuerNumber i) ⊎ Corporate (issuerNumber i) → Government (issuerNumber j) ⊎ Corporate (issuerNumber j) → classRule l s ≡ Difference
 unfolding classRule sameClass firstOf
 one-class-rule l s both-canada a b f g = rw (canada-leg l a .0, canada-leg s b .0)
 one-class-rule l s (both-provincial p q) a b f g = let (c, n) = province-leg l p a f in rw (c, n, province-leg s q b g .1)
 
 two-class-rule : (l s : Leg) {i j : Issuer} → TwoClasses i j → l .issuer ≡ issuerNumber i → s .issuer ≡ issuerNumber j
-    → issuerNumber i ≤ 12 → issuerNumber j ≤ 12 → classRule l s ≡ HalfSum
+    → Government (issuerNumber i) ⊎ Corporate (issuerNumber i) → Government (issuerNumber j) ⊎ Corporate (issuerNumber j) → classRule l s ≡ HalfSum
 unfolding classRule sameClass mixedClass firstOf
 two-class-rule l s (canada-long p) a b f g =
     let (c, n) = canada-leg l a in
@@ -193,9 +266,29 @@ module _ (a : Account) (l s : Holding) where
   unfolding legOf rowOf
   pairs f = kinds (legOf a l) (legOf a s) (l .kind) (s .kind) refl refl f
 
-  in-cad : Paragraph2 l s → {r : Rule} → classRule (legOf a l) (legOf a s) ≡ r → ruleOf (legOf a l) (legOf a s) ≡ r
-  unfolding ruleOf domesticRule
-  in-cad p e = rw (cads p, pairs (p .not-bonds) .0) e
+  cads3 : Paragraph3 l s → bothCad (legOf a l) (legOf a s) ≡ true
+  unfolding bothCad inCad legOf rowOf
+  cads3 p = rw (p .first-cad, p .second-cad)
+
+  bond : Paragraph3 l s → ratedBond (legOf a l) (legOf a s) ≡ true
+  unfolding legOf rowOf
+  bond p =
+      rated (legOf a l) (legOf a s) (l .kind) (s .kind) refl refl (p .one-bond) (λ k. ap ratingNumber (p .long-rated k)) (λ k. ap ratingNumber (p .short-rated k))
+
+  in-cad : Paragraph2 l s → isCorporate (legOf a l) ≡ false → {r : Rule} → classRule (legOf a l) (legOf a s) ≡ r → ruleOf (legOf a l) (legOf a s) ≡ r
+  unfolding ruleOf cadRule domesticRule
+  in-cad p n e = rw (cads p, n, pairs (p .not-bonds) .0) e
+
+  -- paragraph 2 has no corporation's long
+  no-corporate : InRange a l → OneClass (l .issuer) (s .issuer) ⊎ TwoClasses (l .issuer) (s .issuer) → isCorporate (legOf a l) ≡ false
+  unfolding isCorporate legOf rowOf
+  no-corporate f c = by c (f .ranges .identity .issuer)
+    where
+      by : {i j : Issuer} → OneClass i j ⊎ TwoClasses i j → Government (issuerNumber i) ⊎ Corporate (issuerNumber i) → isCorporation (issuerNumber i) ≡ false
+      by (inl both-canada) h = no-corporation 0 (omega arith)
+      by (inl (both-provincial p q)) h = of-province p h
+      by (inr (canada-long p)) h = no-corporation 0 (omega arith)
+      by (inr (canada-short p)) h = of-province p h
 
   pub abroad : Paragraph4 l s → ruleOf (legOf a l) (legOf a s) ≡ Difference
   unfolding ruleOf foreignRule legOf rowOf
@@ -206,8 +299,23 @@ module _ (a : Account) (l s : Holding) where
   module _ (f : InRange a l) (g : InRange a s) where
     pub class-one : Paragraph2 l s → OneClass (l .issuer) (s .issuer) → ruleOf (legOf a l) (legOf a s) ≡ Difference
     unfolding legOf rowOf
-    class-one p e = in-cad p (one-class-rule (legOf a l) (legOf a s) e refl refl (f .ranges .issuer) (g .ranges .issuer))
+    class-one p e = in-cad p (no-corporate f (inl e)) (one-class-rule (legOf a l) (legOf a s) e refl refl (f .ranges .identity .issuer) (g .ranges .identity .issuer))
 
     pub class-two : Paragraph2 l s → TwoClasses (l .issuer) (s .issuer) → ruleOf (legOf a l) (legOf a s) ≡ HalfSum
     unfolding legOf rowOf
-    class-two p e = in-cad p (two-class-rule (legOf a l) (legOf a s) e refl refl (f .ranges .issuer) (g .ranges .issuer))
+    class-two p e = in-cad p (no-corporate f (inr e)) (two-class-rule (legOf a l) (legOf a s) e refl refl (f .ranges .identity .issuer) (g .ranges .identity .issuer))
+
+    corporates : SameCorporation (l .issuer) (s .issuer) → (isCorporate (legOf a l) ≡ true) × (eqb (legOf a l .issuer) (legOf a s .issuer) ≡ true)
+    unfolding legOf rowOf isCorporate
+    corporates c = by c (f .ranges .identity .issuer)
+      where
+        by : {i j : Issuer} → SameCorporation i j → Government (issuerNumber i) ⊎ Corporate (issuerNumber i)
+            → (isCorporation (issuerNumber i) ≡ true) × (eqb (issuerNumber i) (issuerNumber j) ≡ true)
+        by (of-corporation c) h = let w = corporation-range c h in (rw w w, eq-eqb (issuerNumber (Corporation c)) (issuerNumber (Corporation c)) refl)
+
+    -- of one corporation
+    pub capped : Paragraph3 l s → ruleOf (legOf a l) (legOf a s) ≡ Capped
+    unfolding ruleOf cadRule corporateRule
+    capped p =
+        let (n, e) = corporates (p .corporation) in
+        rw (cads3 p, n, e, bond p)

@@ -84,7 +84,7 @@ domesticRule l s = cond (kindsPair l s) (classRule l s) NotAllowed
 
 -- exactly one is a bond, and that one is rated single A or higher
 unfoldable pub ratedBond : Leg → Leg → Bool
-ratedBond l s = (isBond l && isStrip s && isSingleA l) || (isStrip l && isBond s && isSingleA s)
+ratedBond l s = cond (isBond l) (isStrip s && isSingleA l) (isStrip l && isBond s && isSingleA s)
 
 -- paragraph 3, of two legs in CAD, the long a corporation's: of the same issuer, the lesser of 20 percent and the greater rate
 unfoldable pub corporateRule : Leg → Leg → Rule

@@ -101,7 +101,7 @@ fn domestic_rule(long: Leg, short: Leg) -> Rule
 }
 
 // Whether a leg is a corporation's.
-fn is_corporate(leg: Leg) -> bool
+pub fn is_corporate(leg: Leg) -> bool
     ensures { λ r. ⌜ r ≡ isCorporate leg ⌝ }
 {
     let issuer = leg.issuer;
@@ -229,6 +229,14 @@ fn greater(a: u64, b: u64) -> u64
     if a < b { b } else { a }
 }
 
+// The lesser of 29,200, which is 20 percent, and the greater of two rates.
+pub fn capped(a: u64, b: u64) -> u64
+    ensures { λ r. ⌜ (r ≡ ruleRate Rule.Capped a b) × (r ≤ a + b) ⌝ }
+{
+    let rate = greater(a, b);
+    if 29200 < rate { 29200 } else { rate }
+}
+
 // The rate that a rule makes of two rates.
 fn rule_rate(rule: Rule, long: u64, short: u64) -> u64
     requires { ⌜ (long ≤ rateLimit) × (short ≤ rateLimit) ⌝ }
@@ -243,10 +251,7 @@ fn rule_rate(rule: Rule, long: u64, short: u64) -> u64
             }
         }
         Rule::HalfSum => (long + short) / 2,
-        Rule::Capped => {
-            let rate = greater(long, short);
-            if 29200 < rate { 29200 } else { rate }
-        }
+        Rule::Capped => capped(long, short),
         Rule::NotAllowed => long + short,
     }
 }

@@ -7,11 +7,11 @@ use lib.ListN.{getD, set, length-set}
 use lib.Seq.{getD-set-same, getD-set-other}
 use borrow.Author.Count.{below-more}
 use Rattle.words.specs.Words.{wordAt}
-use Rattle.article.specs.Pair.{rateLimit}
+use Rattle.article.specs.Pair.{RateInRange}
 use Rattle.article.specs.declared.pair.Leg.{Leg}
 use Rattle.packed.specs.Packed.{legAt}
 use Rattle.savings.specs.Savings.{savingOf}
-use Rattle.marks.specs.Marks.{soughtMark, shortMark}
+use Rattle.marks.specs.Marks.{soughtMark, shortMark, scanRate, scanLimit}
 use Rattle.cover.specs.Cover.{PairCovered, Priced, Covered, RowCovered, Places, Shorts}
 use Rattle.cover.proofs.Written.{unmet, row-kept, row-added, rate-low}
 
@@ -26,7 +26,7 @@ module _ {n : ℕ} {legs price marks strips rates prices : List ℕ} where
   filling-none p = record {
     few = omega arith;
     places = p;
-    shorts = record { few = omega arith; rates-high = λ k h. absurd (omega arith); all = λ l p c j h. absurd (omega arith) };
+    shorts = record { few = omega arith; rates-high = λ k h. absurd (omega arith); all = λ l p fair c j h. absurd (omega arith) };
   }
 
   module _ {m j : ℕ} (f : Filling n legs price marks strips rates prices m j) where
@@ -44,56 +44,57 @@ module _ {n : ℕ} {legs price marks strips rates prices : List ℕ} where
         shorts = record {
           few = omega (arith, f .shorts .few);
           rates-high = f .shorts .rates-high;
-          all = λ l p c. below-more _ _ (f .shorts .all l p c) (rw (unmet l (legAt legs j) (λ m. rw found at e (m .short))) (omega arith));
+          all = λ l p fair c. below-more _ _ (f .shorts .all l p fair c) (rw (unmet l (legAt legs j) (λ m. rw found at e (m .short))) (omega arith));
         };
       }
 
       -- one more short
-      module _ (priced : Priced n legs price) {x y z : ℕ} (mark : x ≡ shortMark leg) (strip : (leg .kind ≡ 0 → ⊥) → y ≡ x) (e : z ≡ wordAt price j) where
+      module _ (priced : Priced n legs price) {x y r z : ℕ} (mark : x ≡ shortMark leg) (strip : (leg .kind ≡ 0 → ⊥) → y ≡ x) (rate : (r ≡ scanRate leg) × (r ≤ scanLimit))
+          (e : z ≡ wordAt price j) where
         room : m < 256
         room = omega (arith, priced .bounded .few, f .shorts .few)
 
-        new-rate : getD (set rates m (leg .rate)) m 0 ≡ leg .rate
-        new-rate = getD-set-same rates m (leg .rate) 0 (omega (arith, room, f .places .rates-held))
+        new-rate : getD (set rates m r) m 0 ≡ r
+        new-rate = getD-set-same rates m r 0 (omega (arith, room, f .places .rates-held))
 
-        old-rate : (k : ℕ) → k < m → getD (set rates m (leg .rate)) k 0 ≡ getD rates k 0
-        old-rate k l = getD-set-other rates m k (leg .rate) 0 (λ q. omega (arith, q))
+        old-rate : (k : ℕ) → k < m → getD (set rates m r) k 0 ≡ getD rates k 0
+        old-rate k l = getD-set-other rates m k r 0 (λ q. omega (arith, q))
 
-        module _ {l : Leg} {p : ℕ} (c : RowCovered l p (set marks m x) (set strips m y) (set rates m (leg .rate)) (set prices m z) 0 (m + 1)) where
+        module _ {l : Leg} {p : ℕ} (fair : RateInRange l) (c : RowCovered l p (set marks m x) (set strips m y) (set rates m r) (set prices m z) 0 (m + 1)) where
           row-old : RowCovered l p marks strips rates prices 0 m
-          row-old = row-kept m rates prices (leg .rate) z marks strips x y c (omega arith) (λ k _ g q. omega (arith, g, q))
+          row-old = row-kept m rates prices r z marks strips x y c (omega arith) (λ k _ g q. omega (arith, g, q))
 
           row-new : savingOf l (legAt legs j) ≤ p + wordAt price j
           row-new =
-              rw (← found, ← e) (row-added m rates prices (leg .rate) z marks strips x y c (omega arith) (omega arith)
+              rw (← found, ← e) (row-added m rates prices r z marks strips x y c fair (omega arith) (omega arith)
               (rw (f .places .marks-held) room) (rw (f .places .strips-held) room) (rw (f .places .rates-held) room) (rw (f .places .prices-held) room)
-              leg (record { marked = mark; rated = refl }) strip)
+              leg (record { marked = mark; rated = rate .0; in-range = rate-low j priced h found }) strip)
 
-        pub filling-more : Filling n legs price (set marks m x) (set strips m y) (set rates m (leg .rate)) (set prices m z) (m + 1) (j + 1)
+        pub filling-more : Filling n legs price (set marks m x) (set strips m y) (set rates m r) (set prices m z) (m + 1) (j + 1)
         filling-more = record {
           few = omega arith;
           places = record {
             marks-held = length-set marks m x ∙ f .places .marks-held;
             strips-held = length-set strips m y ∙ f .places .strips-held;
-            rates-held = length-set rates m (leg .rate) ∙ f .places .rates-held;
+            rates-held = length-set rates m r ∙ f .places .rates-held;
             prices-held = length-set prices m z ∙ f .places .prices-held;
           };
           shorts = record {
             few = omega (arith, f .shorts .few);
             rates-high =
-                below-more (λ (k : ℕ). getD (set rates m (leg .rate)) k 0 ≤ rateLimit) m
-                (λ k l. rw (old-rate k l) (f .shorts .rates-high k l)) (rw new-rate (rate-low j priced h found));
-            all = λ l p c. below-more _ _ (f .shorts .all l p (row-old c)) (row-new c);
+                below-more (λ (k : ℕ). getD (set rates m r) k 0 ≤ scanLimit) m
+                (λ k l. rw (old-rate k l) (f .shorts .rates-high k l)) (rw new-rate (rate .1));
+            all = λ l p fair c. below-more _ _ (f .shorts .all l p fair (row-old fair c)) (row-new fair c);
           };
         }
 
 -- the row of a long by the mark that it seeks: a bond's and any other's
-module _ (l : Leg) {mark price from to : ℕ} {marks strips rates prices : List ℕ} (sought : mark ≡ soughtMark l) where
-  pub bond-row : l .kind ≡ 0 → Covered mark (l .rate) price strips rates prices from to → RowCovered l price marks strips rates prices from to
-  bond-row b c = record { bond = λ _. rw (← sought) c; other = λ f. absurd (f b) }
+module _ (l : Leg) {mark rate price from to : ℕ} {marks strips rates prices : List ℕ} (sought : mark ≡ soughtMark l) (scanned : rate ≡ scanRate l) where
+  pub bond-row : l .kind ≡ 0 → Covered mark rate price strips rates prices from to → RowCovered l price marks strips rates prices from to
+  bond-row b c = record { bond = λ _. rw (← sought, ← scanned) c; other = λ f. absurd (f b) }
 
-  pub other-row : (l .kind ≡ 0 → ⊥) → Covered mark (l .rate) price marks rates prices from to → RowCovered l price marks strips rates prices from to
-  other-row f c = record { bond = λ b. absurd (f b); other = λ _. rw (← sought) c }
+  pub other-row : (l .kind ≡ 0 → ⊥) → Covered mark rate price marks rates prices from to → RowCovered l price marks strips rates prices from to
+  other-row f c = record { bond = λ b. absurd (f b); other = λ _. rw (← sought, ← scanned) c }
 
 -- what the scan finds covered is covered with every holding
 pub scan-closed : {n : ℕ} (legs price : List ℕ) (i : ℕ) {first : ℕ} {leg : Leg} → leg ≡ legAt legs i → first ≡ wordAt price i

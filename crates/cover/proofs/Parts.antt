@@ -12,7 +12,8 @@ use Rattle.words.specs.Words.{wordAt}
 use Rattle.article.specs.declared.pair.Leg.{Leg}
 use Rattle.packed.specs.Packed.{legAt}
 use Rattle.savings.specs.Savings.{savingOf}
-use Rattle.marks.specs.Marks.{shortMark}
+use Rattle.marks.specs.Marks.{shortMark, scanRate, scanLimit}
+use Rattle.article.specs.Pair.{RateInRange}
 use Rattle.cover.specs.Cover.{Priced, RowCovered, partOf, Parts, Free, ShortsByPart}
 use Rattle.cover.proofs.Written.{unmet, row-kept, row-added, rate-low}
 
@@ -39,7 +40,7 @@ module _ {n : ℕ} {legs price counts marks strips rates prices : List ℕ} wher
     few = omega arith;
     priced = priced;
     parts = p;
-    shorts = record { few = λ b h. omega (arith, e .none b h); all = λ l p c j h. absurd (omega arith) };
+    shorts = record { few = λ b h. omega (arith, e .none b h); all = λ l p fair c j h. absurd (omega arith) };
   }
 
   module _ {j : ℕ} (f : Parting n legs price counts marks strips rates prices j) where
@@ -57,7 +58,7 @@ module _ {n : ℕ} {legs price counts marks strips rates prices : List ℕ} wher
         parts = f .parts;
         shorts = record {
           few = λ b l. omega (arith, f .shorts .few b l);
-          all = λ l p c. below-more _ _ (f .shorts .all l p c) (rw (unmet l (legAt legs j) (λ m. rw found at e (m .short))) (omega arith));
+          all = λ l p fair c. below-more _ _ (f .shorts .all l p fair c) (rw (unmet l (legAt legs j) (λ m. rw found at e (m .short))) (omega arith));
         };
       }
 
@@ -70,8 +71,8 @@ module _ {n : ℕ} {legs price counts marks strips rates prices : List ℕ} wher
       place-low = omega (arith, part-room (leg .period % 8) (omega arith))
 
       -- one more short, at place k, after the m in the part b of its period
-      module _ {b m k x y z : ℕ} (own : b ≡ partOf leg) (count : m ≡ getD counts b 0) (at : k ≡ 256 * b + m)
-          (mark : x ≡ shortMark leg) (strip : (leg .kind ≡ 0 → ⊥) → y ≡ x) (e : z ≡ wordAt price j) where
+      module _ {b m k x y r z : ℕ} (own : b ≡ partOf leg) (count : m ≡ getD counts b 0) (at : k ≡ 256 * b + m)
+          (mark : x ≡ shortMark leg) (strip : (leg .kind ≡ 0 → ⊥) → y ≡ x) (rate : (r ≡ scanRate leg) × (r ≤ scanLimit)) (e : z ≡ wordAt price j) where
         -- the place is in each column, and no short before stands there
         place : k < 2048
         unfolding partOf
@@ -91,16 +92,16 @@ module _ {n : ℕ} {legs price counts marks strips rates prices : List ℕ} wher
             same-or-not q b (λ t. rw (t, own-count, count) (omega arith, omega arith)) (λ t. rw (getD-set-other counts b q (m + 1) 0 t) (omega arith, omega arith))
 
         -- a long of its part is covered with it, and one of another part saves nothing with it
-        new-covered : (l : Leg) (p : ℕ) → RowCovered l p (set marks k x) (set strips k y) (set rates k (leg .rate)) (set prices k z)
+        new-covered : (l : Leg) (p : ℕ) → RateInRange l → RowCovered l p (set marks k x) (set strips k y) (set rates k r) (set prices k z)
             (256 * partOf l) (256 * partOf l + getD (set counts b (m + 1)) (partOf l) 0) → savingOf l (legAt legs j) ≤ p + wordAt price j
-        new-covered l p c =
+        new-covered l p fair c =
             same-or-not (partOf l) b
-            (λ t. rw (← found, ← e) (row-added k rates prices (leg .rate) z marks strips x y (rw (t, own-count) at c) (omega (arith, at)) (omega (arith, at))
+            (λ t. rw (← found, ← e) (row-added k rates prices r z marks strips x y (rw (t, own-count) at c) fair (omega (arith, at)) (omega (arith, at))
             (rw (f .parts .marks-held) place) (rw (f .parts .strips-held) place) (rw (f .parts .rates-held) place) (rw (f .parts .prices-held) place)
-            leg (record { marked = mark; rated = refl }) strip))
+            leg (record { marked = mark; rated = rate .0; in-range = rate-low j (f .priced) h found }) strip))
             (λ t. rw (apart l (legAt legs j) (λ u. t (u ∙ sym (own ∙ ap partOf found)))) (omega arith))
 
-        pub parting-more : Parting n legs price (set counts b (m + 1)) (set marks k x) (set strips k y) (set rates k (leg .rate)) (set prices k z) (j + 1)
+        pub parting-more : Parting n legs price (set counts b (m + 1)) (set marks k x) (set strips k y) (set rates k r) (set prices k z) (j + 1)
         parting-more = record {
           few = omega arith;
           priced = f .priced;
@@ -108,18 +109,18 @@ module _ {n : ℕ} {legs price counts marks strips rates prices : List ℕ} wher
             counts-held = length-set counts b (m + 1) ∙ f .parts .counts-held;
             marks-held = length-set marks k x ∙ f .parts .marks-held;
             strips-held = length-set strips k y ∙ f .parts .strips-held;
-            rates-held = length-set rates k (leg .rate) ∙ f .parts .rates-held;
+            rates-held = length-set rates k r ∙ f .parts .rates-held;
             prices-held = length-set prices k z ∙ f .parts .prices-held;
             rates-high = λ i l.
                 same-or-not i k
-                (λ t. rw (t, getD-set-same rates k (leg .rate) 0 (rw (f .parts .rates-held) place)) (rate-low j (f .priced) h found))
-                (λ t. rw (getD-set-other rates k i (leg .rate) 0 t) (f .parts .rates-high i l));
+                (λ t. rw (t, getD-set-same rates k r 0 (rw (f .parts .rates-held) place)) (rate .1))
+                (λ t. rw (getD-set-other rates k i r 0 t) (f .parts .rates-high i l));
           };
           shorts = record {
             few = λ q l. omega (arith, counts-up q .1, f .shorts .few q l);
-            all = λ l p c. below-more _ _
-                (f .shorts .all l p
-                (row-kept k rates prices (leg .rate) z marks strips x y c (omega (arith, counts-up (partOf l) .0)) (untaken (partOf l) (part-low l))))
-                (new-covered l p c);
+            all = λ l p fair c. below-more _ _
+                (f .shorts .all l p fair
+                (row-kept k rates prices r z marks strips x y c (omega (arith, counts-up (partOf l) .0)) (untaken (partOf l) (part-low l))))
+                (new-covered l p fair c);
           };
         }

@@ -10,6 +10,7 @@ use lib.ListN.{getD, replicate, length-replicate, getD-replicate}
 use borrow.Author.Count.{below-more}
 use borrow.Author.Tests.{ltb-false}
 use Rattle.words.specs.Words.{wordAt}
+use Rattle.article.specs.Pair.{RateInRange}
 use Rattle.article.specs.declared.pair.Leg.{Leg}
 use Rattle.packed.specs.Packed.{legAt}
 use Rattle.savings.specs.Savings.{savingOf}
@@ -56,11 +57,11 @@ module _ {n : ℕ} {legs price counts marks strips rates prices : List ℕ} (sho
   pub part-few : Priced n legs price → 256 * (leg .period % 8) + (getD counts (leg .period % 8) 0 + 15) / 16 * 16 ≤ 2048
   part-few priced = omega (arith, priced .bounded .few, shorts .few (leg .period % 8) (omega arith))
 
-  pub part-closed : {first : ℕ} → first ≡ wordAt price i
+  pub part-closed : {first : ℕ} → RateInRange leg → first ≡ wordAt price i
       → RowCovered leg first marks strips rates prices (256 * (leg .period % 8)) (256 * (leg .period % 8) + (getD counts (leg .period % 8) 0 + 15) / 16 * 16)
       → (j : ℕ) → j < n → PairCovered legs price i j
   unfolding partOf
-  part-closed first c = scan-closed legs price i found first (shorts .all leg _ (row-fewer (omega arith) c))
+  part-closed fair first c = scan-closed legs price i found first (shorts .all leg _ fair (row-fewer (omega arith) c))
 
 -- columns of zeros: parts of which no place is taken
 pub parts-blank : Parts (replicate 8 0) (replicate 2048 0) (replicate 2048 0) (replicate 2048 0) (replicate 2048 0)

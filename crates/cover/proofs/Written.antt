@@ -10,16 +10,11 @@ use Rattle.lists.proofs.Tests.{by-test, same-or-not}
 use Rattle.article.specs.Pair.{allowed, RateInRange}
 use Rattle.article.proofs.Legs.{Meets, allowed-meets}
 use Rattle.article.specs.declared.pair.Leg.{Leg}
-use Rattle.packed.specs.Packed.{legIn, legAt}
+use Rattle.packed.specs.Packed.{legAt}
 use Rattle.savings.specs.Savings.{savingOf}
-use Rattle.marks.specs.Marks.{soughtMark, Seeks, Marked}
+use Rattle.marks.specs.Marks.{soughtMark, scanRate, Seeks, Marked}
 use Rattle.marks.proofs.Estimate.{two-bonds}
 use Rattle.cover.specs.Cover.{Priced, Covered, RowCovered}
-
--- the period of a packed leg is small
-pub period-low : (code : ℕ) → legIn code .period < 256
-unfolding legIn
-period-low code = omega arith
 
 -- a leg in the list has a rate within the article's
 pub rate-low : {n : ℕ} {legs price : List ℕ} (j : ℕ) {leg : Leg} → Priced n legs price → j < n → leg ≡ legAt legs j → RateInRange leg
@@ -56,10 +51,10 @@ module _ (k : ℕ) (rates prices : List ℕ) (r z : ℕ) where
     row-kept h others = record { bond = λ b. column-kept strips y (c .bond b) h others; other = λ b. column-kept marks x (c .other b) h others }
 
     -- a bond saves nothing with a bond, and the strips hold any other short
-    pub row-added : from ≤ k → k < more → k < length marks → k < length strips → k < length rates → k < length prices → (s : Leg) → Marked s x r
+    pub row-added : RateInRange l → from ≤ k → k < more → k < length marks → k < length strips → k < length rates → k < length prices → (s : Leg) → Marked s x r
         → ((s .kind ≡ 0 → ⊥) → y ≡ x) → savingOf l s ≤ p + z
-    row-added f g a a′ b d s ms strip =
-        let own : Seeks l (soughtMark l) (l .rate) = record { marked = refl; rated = refl } in
+    row-added fair f g a a′ b d s ms strip =
+        let own : Seeks l (soughtMark l) (scanRate l) = record { marked = refl; rated = refl; in-range = fair } in
         same-or-not (l .kind) 0
         (λ e. same-or-not (s .kind) 0
         (λ t. rw (two-bonds l s e t) (omega arith))

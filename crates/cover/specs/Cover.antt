@@ -5,22 +5,22 @@ use lib.ListN.{length, getD}
 use Rattle.words.specs.Words.{wordAt, entries}
 use Rattle.article.specs.declared.pair.Leg.{Leg}
 use Rattle.savings.specs.Savings.{savingOf}
-use Rattle.marks.specs.Marks.{soughtMark, Seeks, Marked}
-use Rattle.article.specs.Pair.{rateLimit}
+use Rattle.marks.specs.Marks.{soughtMark, scanRate, scanLimit, Seeks, Marked}
+use Rattle.article.specs.Pair.{RateInRange}
 use Rattle.packed.specs.Packed.{legAt, AtMost, entry, Legs, LegsOf, Same}
 use Rattle.holding.specs.Holding.{valueLimit}
 use Rattle.pairing.specs.Pairing.{pricedTotal}
 use Rattle.proposal.specs.{Submission.PricedBook, Submission.termsOf, Submission.priceLimit, Outcome.faultAnswer, Outcome.uncoveredPairs, Outcome.firstFault}
 use Rattle.proposal.specs.declared.Fault.{Fault}
 
--- a long with this mark, rate and price is covered with each of the shorts that stand from one place to another
+-- a long with this mark, scanned by this rate, at this price is covered with each of the shorts that stand from one place to another
 pub record Covered (mark rate price : ℕ) (marks rates prices : List ℕ) (from to : ℕ) : Type 0 where
   pub covered : (k : ℕ) → from ≤ k → k < to → (l s : Leg) → Seeks l mark rate → Marked s (getD marks k 0) (getD rates k 0) → savingOf l s ≤ price + getD prices k 0
 
 -- a long at this price is covered with each of those shorts: a bond by the column of the strips, any other long by that of all shorts
 pub record RowCovered (l : Leg) (price : ℕ) (marks strips rates prices : List ℕ) (from to : ℕ) : Type 0 where
-  pub bond : l .kind ≡ 0 → Covered (soughtMark l) (l .rate) price strips rates prices from to
-  pub other : (l .kind ≡ 0 → ⊥) → Covered (soughtMark l) (l .rate) price marks rates prices from to
+  pub bond : l .kind ≡ 0 → Covered (soughtMark l) (scanRate l) price strips rates prices from to
+  pub other : (l .kind ≡ 0 → ⊥) → Covered (soughtMark l) (scanRate l) price marks rates prices from to
 
 -- 256 places in each column
 pub record Places (marks strips rates prices : List ℕ) : Type 0 where
@@ -32,8 +32,8 @@ pub record Places (marks strips rates prices : List ℕ) : Type 0 where
 -- the m shorts in columns are those of the first n holdings: a long that is covered with each of them is covered with every holding
 pub record Shorts (n : ℕ) (legs price marks strips rates prices : List ℕ) (m : ℕ) : Type 0 where
   pub few : m ≤ n
-  pub rates-high : AtMost rateLimit m (entry rates)
-  pub all : (l : Leg) (p : ℕ) → RowCovered l p marks strips rates prices 0 m → (j : ℕ) → j < n → savingOf l (legAt legs j) ≤ p + wordAt price j
+  pub rates-high : AtMost scanLimit m (entry rates)
+  pub all : (l : Leg) (p : ℕ) → RateInRange l → RowCovered l p marks strips rates prices 0 m → (j : ℕ) → j < n → savingOf l (legAt legs j) ≤ p + wordAt price j
 
 -- the part of the columns in which shorts of a leg's period stand: one of eight, of 256 places each
 unfoldable pub partOf : Leg → ℕ
@@ -46,7 +46,7 @@ pub record Parts (counts marks strips rates prices : List ℕ) : Type 0 where
   pub strips-held : length strips ≡ 2048
   pub rates-held : length rates ≡ 2048
   pub prices-held : length prices ≡ 2048
-  pub rates-high : AtMost rateLimit 2048 (entry rates)
+  pub rates-high : AtMost scanLimit 2048 (entry rates)
 
 -- none is taken
 pub record Free (counts : List ℕ) : Type 0 where
@@ -55,7 +55,7 @@ pub record Free (counts : List ℕ) : Type 0 where
 -- the shorts in the parts are those of the first n holdings: a long that is covered with each of its part is covered with every holding
 pub record ShortsByPart (n : ℕ) (legs price counts marks strips rates prices : List ℕ) : Type 0 where
   pub few : (b : ℕ) → b < 8 → getD counts b 0 ≤ n
-  pub all : (l : Leg) (p : ℕ) → RowCovered l p marks strips rates prices (256 * partOf l) (256 * partOf l + getD counts (partOf l) 0)
+  pub all : (l : Leg) (p : ℕ) → RateInRange l → RowCovered l p marks strips rates prices (256 * partOf l) (256 * partOf l + getD counts (partOf l) 0)
       → (j : ℕ) → j < n → savingOf l (legAt legs j) ≤ p + wordAt price j
 
 -- n legs, each with a price that is not too high

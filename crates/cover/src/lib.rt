@@ -5,7 +5,8 @@ ghost use mathlib.Core.Path.{_≡_};
 ghost use mathlib.Core.Bool.{false};
 ghost use Prim.Native.Nat.{_-_, _*_, _≤_, _<_};
 ghost use lib.ListN.{length};
-ghost use Rattle.article.specs.Pair.{rateLimit};
+ghost use Rattle.article.specs.Pair.{RateInRange};
+ghost use Rattle.marks.specs.Marks.{scanLimit};
 ghost use Rattle.packed.specs.Packed.{AtMost, entry};
 ghost use Rattle.cover.specs.Cover.{Priced, FirstOpen, Finds, Valued, Totals, Covered, RowCovered, Places, Shorts, Parts, Free, ShortsByPart};
 
@@ -20,7 +21,7 @@ fn row_open(
     rate: u16,
     price: u16,
 ) -> bool
-    requires { ⌜ (m ≤ 256) × ((rate ≤ rateLimit) × (AtMost rateLimit m (entry (now rates)))) ⌝ }
+    requires { ⌜ (m ≤ 256) × ((rate ≤ scanLimit) × (AtMost scanLimit m (entry (now rates)))) ⌝ }
     ensures { λ r. ⌜ (r ≡ false → Covered mark rate price (now (marks .entry)) (now (rates .entry)) (now (prices .entry)) 0 m) ⌝ }
 {
     let mut worst: u16 = 0;
@@ -44,11 +45,11 @@ fn long_open(
     long: Leg,
     price: u16,
 ) -> bool
-    requires { ⌜ (m ≤ 256) × ((long .period < 256) × ((long .rate ≤ rateLimit) × (AtMost rateLimit m (entry (now rates))))) ⌝ }
+    requires { ⌜ (m ≤ 256) × (RateInRange long × (AtMost scanLimit m (entry (now rates)))) ⌝ }
     ensures { λ r. ⌜ (r ≡ false → RowCovered long price (now (marks .entry)) (now (strips .entry)) (now (rates .entry)) (now (prices .entry)) 0 m) ⌝ }
 {
     let mark = marks::mark_of(long.kind != 0, long);
-    let rate = long.rate as u16;
+    let rate = marks::scan_rate(long);
     if long.kind == 0 {
         return row_open(m, strips, rates, prices, mark, rate, price);
     }
@@ -76,7 +77,7 @@ fn shorts_of(
             let mark = marks::mark_of(leg.kind == 0, leg);
             marks[m] = mark;
             strips[m] = marks::strip_mark(leg.kind, mark);
-            rates[m] = leg.rate as u16;
+            rates[m] = marks::scan_rate(leg);
             prices[m] = words::word(price, j) as u16;
             m = m + 1;
         }
@@ -185,7 +186,7 @@ fn part_open(
     rate: u16,
     price: u16,
 ) -> bool
-    requires { ⌜ (to ≤ length (now marks)) × ((to ≤ length (now rates)) × ((to ≤ length (now prices)) × ((rate ≤ rateLimit) × (AtMost rateLimit to (entry (now rates)))))) ⌝ }
+    requires { ⌜ (to ≤ length (now marks)) × ((to ≤ length (now rates)) × ((to ≤ length (now prices)) × ((rate ≤ scanLimit) × (AtMost scanLimit to (entry (now rates)))))) ⌝ }
     ensures { λ r. ⌜ (r ≡ false → Covered mark rate price (now (marks .entry)) (now (rates .entry)) (now (prices .entry)) from to) ⌝ }
 {
     let mut worst: u16 = 0;
@@ -211,11 +212,11 @@ fn long_part_open(
     price: u16,
 ) -> bool
     requires { ⌜ (to ≤ length (now marks)) × ((to ≤ length (now strips)) × ((to ≤ length (now rates)) × ((to ≤ length (now prices))
-        × ((long .period < 256) × ((long .rate ≤ rateLimit) × (AtMost rateLimit to (entry (now rates)))))))) ⌝ }
+        × (RateInRange long × (AtMost scanLimit to (entry (now rates))))))) ⌝ }
     ensures { λ r. ⌜ (r ≡ false → RowCovered long price (now (marks .entry)) (now (strips .entry)) (now (rates .entry)) (now (prices .entry)) from to) ⌝ }
 {
     let sought = marks::mark_of(long.kind != 0, long);
-    let rate = long.rate as u16;
+    let rate = marks::scan_rate(long);
     if long.kind == 0 {
         return part_open(from, to, strips, rates, prices, sought, rate, price);
     }
@@ -248,7 +249,7 @@ fn shorts_by_part(
             let mark = marks::mark_of(leg.kind == 0, leg);
             marks[k] = mark;
             strips[k] = marks::strip_mark(leg.kind, mark);
-            rates[k] = leg.rate as u16;
+            rates[k] = marks::scan_rate(leg);
             prices[k] = words::word(price, j) as u16;
             counts[part] = m + 1;
         }

@@ -1,20 +1,24 @@
 -- What a pair saves at most, by the marks and the rates of its legs: the law of the scan's estimate. Assumes nothing.
 use mathlib.Core.Path.{_≡_, refl, sym, ap, _∙_}
-use mathlib.Core.Logic.{⊎-elim}
-use mathlib.Core.Bool.{Bool, true, false, not, _&&_, _||_, and-eq-true-iff}
-use Prim.Native.Nat.{ℕ, _+_, _-_, _*_, _/_, _≤_, min}
+use mathlib.Core.Logic.{_⊎_, inl, inr, ⊎-elim}
+use mathlib.Core.Bool.{Bool, true, false, cond, not, _&&_, _||_, and-eq-true-iff, and-false}
+use Prim.Native.Nat.{ℕ, _+_, _-_, _*_, _/_, _%_, _≤_, min, max}
 use native.Mathlib.Omega.{arith}
-use lib.Dec.{eqb, ltb}
-use borrow.Author.Tests.{ne-eqb, eqb-true}
+use lib.Dec.{eqb}
+use borrow.Author.Tests.{ne-eqb, eqb-true, eq-eqb}
 use Rattle.lists.specs.Choice.{within}
-use Rattle.lists.proofs.Tests.{within-true, by-test, one-of}
-use Rattle.article.specs.Pair.{isBond, isStrip, isCanada, isProvince, isUs, isGb, inCad, inUsd, inGbp, sameClass, mixedClass, oneBond, sameGovernment, bothCad, sameForeign}
+use Rattle.lists.proofs.Tests.{within-true, by-test, one-of, either-way}
+use Rattle.holding.proofs.Issuers.{corporation-is, above-range}
+use Rattle.rates.specs.Rate.{flatRate, percents}
+use Rattle.rates.proofs.FlatRates.{flat-high}
+use Rattle.article.proofs.Saved.{of-one-class, of-two-classes, of-one-government, one-bond-of}
+use Rattle.article.specs.Pair.{isBond, isStrip, isCanada, isProvince, isUs, isGb, inCad, inUsd, inGbp, sameClass, mixedClass, oneBond, sameGovernment, bothCad, sameForeign, isCorporate, isSingleA, ratedBond, RateInRange}
 use Rattle.article.specs.Pair.{permits, allowed, ruleRate, pairRateOf, savingRateOf}
-use Rattle.article.proofs.Legs.{allowed-meets, bonds-no-rule, no-rule, Permitted, one-class, two-classes, one-government, permitted}
+use Rattle.article.proofs.Legs.{allowed-meets, bonds-no-rule, no-rule, Permitted, one-class, two-classes, one-corporation, one-government, permitted}
 use Rattle.article.specs.declared.pair.Rule.{Rule}
 use Rattle.article.specs.declared.pair.Leg.{Leg}
 use Rattle.savings.specs.Savings.{savingOf}
-use Rattle.marks.specs.Marks.{isDomestic, isForeign, keyOf, markOf, shortMark, soughtMark, OtherClass, Asks}
+use Rattle.marks.specs.Marks.{isDomestic, isOffered, isGovernment, hasPartner, keyOf, markOf, shortMark, soughtMark, scanRate, scanLimit, OtherClass, Asks}
 
 -- two bonds save nothing
 pub two-bonds : (l s : Leg) → l .kind ≡ 0 → s .kind ≡ 0 → savingOf l s ≡ 0
@@ -38,22 +42,88 @@ one-pair a b c d e p q =
 
 -- the mark of a leg in CAD, of Canada or of a province, whichever kind is asked
 module _ (bond : Bool) (l : Leg) (cad : inCad l ≡ true) where
-  canada-mark : isCanada l ≡ true → markOf bond l ≡ 4 * l .period + 0
+  canada-mark : isCanada l ≡ true → markOf bond l ≡ 4 * (l .period % 8) + 0
   unfolding markOf keyOf isDomestic
   canada-mark e = rw (cad, e) (omega arith)
 
-  province-mark : isProvince l ≡ true → markOf bond l ≡ 4 * l .period + 1
+  province-mark : isProvince l ≡ true → markOf bond l ≡ 4 * (l .period % 8) + 1
   unfolding markOf keyOf isDomestic isCanada isProvince
   province-mark e = rw (cad, e, positive 10 (l .issuer) e) (omega arith)
+
+-- the mark of a leg that is not domestic and may have a pair
+outside-mark : (bond : Bool) (l : Leg) → isDomestic l ≡ false → hasPartner l ≡ true
+    → markOf bond l ≡ 4 * (l .period % 8 + 8 * (l .currency % 4 + 4 * (l .issuer % 512))) + cond bond 0 2
+unfolding markOf keyOf
+outside-mark bond l d h = rw (d, h)
+
+-- a corporation's leg is not domestic; in CAD it may have a pair if paragraph 3 can have it
+no-domestic : (l : Leg) → isCorporate l ≡ true → isDomestic l ≡ false
+unfolding isDomestic isCorporate isCanada isProvince
+no-domestic l n =
+    let (low, _) = corporation-is (l .issuer) n in
+    rw (ne-eqb (l .issuer) 0 (λ z. omega arith), above-range 1 10 (l .issuer) (omega arith)) (and-false (inCad l))
+
+partner : (l : Leg) → inCad l ≡ true → isOffered l ≡ true → hasPartner l ≡ true
+unfolding hasPartner
+partner l c o = rw (c, o)
+
+-- of two legs of a corporation, one the rated bond, paragraph 3 can have both, and just one is a bond
+offered : (l s : Leg) → isCorporate l ≡ true → isCorporate s ≡ true → ratedBond l s ≡ true → (isOffered l ≡ true) × ((isOffered s ≡ true) × (isBond s ≡ not (isBond l)))
+unfolding isOffered ratedBond isStrip isBond
+offered l s n m k =
+    either-way (isBond l)
+    (λ b.
+    let (strip, a) = and-eq-true-iff (isStrip s) (isSingleA l) .0 (rw b at k) in
+    let other = positive 2 (s .kind) strip in
+    (rw (n, b, a), (rw (m, other), rw (b, other))))
+    (λ b.
+    let (kinds, a) = and-eq-true-iff (isStrip l && isBond s) (isSingleA s) .0 (rw b at k) in
+    let (_, bond) = and-eq-true-iff (isStrip l) (isBond s) .0 kinds in
+    (rw (n, b), (rw (m, bond, a), rw (b, bond))))
+
+-- the rate that a leg is scanned by: of a government its own, of a corporation's bond too, of its strip a third
+pub own-rate : (l : Leg) → isCorporate l ≡ false → scanRate l ≡ l .rate
+unfolding scanRate
+own-rate l n = rw n (by-test (λ (x : ℕ). x ≡ l .rate) (isBond l) (λ _. refl) (λ _. refl))
+
+pub bond-rate : (l : Leg) → isBond l ≡ true → scanRate l ≡ l .rate
+unfolding scanRate
+bond-rate l b = rw b
+
+strip-rate : (l : Leg) → isCorporate l ≡ true → isStrip l ≡ true → scanRate l ≡ l .rate / 3
+unfolding scanRate isStrip isBond
+strip-rate l n k = rw (positive 2 (l .kind) k, n)
+
+-- it is at most 21,900
+pub bond-low : (l : Leg) → RateInRange l → isBond l ≡ true → scanRate l ≤ scanLimit
+bond-low l f b =
+    either-way (isCorporate l)
+    (λ n. omega (arith, bond-rate l b, f .bond n b, flat-high 2 (l .period)))
+    (λ n. omega (arith, bond-rate l b, f .government n))
+
+-- what a bond and a strip of one corporation and one period save: twice the lesser of the bond's rate and a third of the strip's
+capped-saving : {b s : ℕ} (period : ℕ) → b ≡ flatRate 2 period → (2 * s ≡ 3 * flatRate 2 period) ⊎ ((period ≡ 5) × (s ≡ 43800))
+    → (b + s - min 29200 (max b s) ≤ 2 * min b (s / 3)) × (s + b - min 29200 (max s b) ≤ 2 * min (s / 3) b)
+capped-saving {b} {s} period e (inl f) =
+    thirds (s - b) (omega (arith, e, f)) (omega (arith, e, f)) (omega (arith, flat-high 2 period, e))
+  where
+    thirds : {b s : ℕ} (k : ℕ) → b ≡ 2 * k → s ≡ 3 * k → b ≤ 14600
+        → (b + s - min 29200 (max b s) ≤ 2 * min b (s / 3)) × (s + b - min 29200 (max s b) ≤ 2 * min (s / 3) b)
+    thirds k e f h = rw (e, f) (omega (arith, e), omega (arith, e))
+capped-saving {b} {s} period e (inr (five, f)) =
+    let flat : b ≡ 14600 = e ∙ ap (flatRate 2) five ∙ (unfold flatRate percents in refl) in
+    (omega (arith, flat, f), omega (arith, flat, f))
 
 -- the marks of two legs of one period
 module _ (l s : Leg) (p : l .period ≡ s .period) where
   -- marks of one class, and of two
-  alike : {x y : ℕ} (c : ℕ) → x ≡ 4 * l .period + c → y ≡ 4 * s .period + c → y ≡ x
-  alike c e f = omega (arith, p, e, f)
+  alike : {x y : ℕ} (c : ℕ) → x ≡ 4 * (l .period % 8) + c → y ≡ 4 * (s .period % 8) + c → y ≡ x
+  alike c e f = f ∙ rw (← p) (sym e)
 
-  crossed : {x y : ℕ} (c d : ℕ) → x ≡ 4 * l .period + c → y ≡ 4 * s .period + d → c + d ≡ 1 → OtherClass x y
-  crossed c d e f h = record { key = omega (arith, p, e, f, h); class = omega (arith, p, e, f, h) }
+  crossed : {x y : ℕ} (c d : ℕ) → x ≡ 4 * (l .period % 8) + c → y ≡ 4 * (s .period % 8) + d → c + d ≡ 1 → OtherClass x y
+  crossed {y = y} c d e f h =
+      let g : y ≡ 4 * (l .period % 8) + d = rw p f in
+      record { key = omega (arith, e, g, h); class = omega (arith, e, g, h) }
 
   -- in CAD, of one class
   one-mark : bothCad l s ≡ true → sameClass l s ≡ true → shortMark s ≡ soughtMark l
@@ -86,27 +156,56 @@ module _ (l s : Leg) (p : l .period ≡ s .period) where
       let Other : ℕ → Type 0 = λ n. eqb n 0 ≡ false in
       ⊎-elim (both Other _ _ 1 refl) (both Other _ _ 2 refl) (one-of _ _ e)
 
-  issuer : sameGovernment l s ≡ true → (l .issuer ≡ s .issuer) × ((isCanada s || ltb 10 (s .issuer)) ≡ true)
-  unfolding sameGovernment isCanada isUs isGb
+  issuer : sameGovernment l s ≡ true → (l .issuer ≡ s .issuer) × (isGovernment s ≡ true)
+  unfolding sameGovernment isGovernment isCanada isUs isGb
   issuer e =
-      let Has : ℕ → Type 0 = λ n. (eqb n 0 || ltb 10 n) ≡ true in
+      let Has : ℕ → Type 0 = λ n. (eqb n 0 || eqb n 11 || eqb n 12) ≡ true in
       ⊎-elim (λ f. ⊎-elim (both Has _ _ 0 refl) (both Has _ _ 11 refl) (one-of _ _ f)) (both Has _ _ 12 refl) (one-of _ _ e)
 
   -- in the same foreign currency, of one government
   foreign-mark : sameForeign l s ≡ true → oneBond l s ≡ true → sameGovernment l s ≡ true → shortMark s ≡ soughtMark l
-  unfolding shortMark soughtMark markOf keyOf isDomestic isForeign inCad isCanada isBond
+  unfolding shortMark soughtMark markOf keyOf isDomestic hasPartner isGovernment inCad isCanada isUs isGb isBond
   foreign-mark c k e =
       let (x, foreign) = currency c in
       let (y, government) = issuer e in
       rw (p, x, y, sought k, foreign, government)
 
-  -- what a rule saves of two rates, by the marks
-  by-marks : {x : ℕ} {r : Rule} → (shortMark s ≡ soughtMark l → 2 * min (l .rate) (s .rate) ≤ x)
-      → (OtherClass (soughtMark l) (shortMark s) → (l .rate + s .rate + 1) / 2 ≤ x) → Permitted l s r → l .rate + s .rate - ruleRate r (l .rate) (s .rate) ≤ x
-  unfolding ruleRate
-  by-marks d h (one-class c k e) = omega (arith, d (one-mark c e))
-  by-marks d h (two-classes c k e) = omega (arith, h (two-marks c e))
-  by-marks d h (one-government c k e) = omega (arith, d (foreign-mark c k e))
+  -- in CAD, of one corporation, the bond rated
+  corporate-mark : bothCad l s ≡ true → isCorporate l ≡ true → isCorporate s ≡ true → l .issuer ≡ s .issuer → ratedBond l s ≡ true → shortMark s ≡ soughtMark l
+  unfolding shortMark soughtMark bothCad inCad
+  corporate-mark c n m i k =
+      let (f, g) = and-eq-true-iff (inCad l) (inCad s) .0 c in
+      let same : l .currency ≡ s .currency = eqb-true (l .currency) 0 f ∙ sym (eqb-true (s .currency) 0 g) in
+      let (first, (second, other)) = offered l s n m k in
+      outside-mark (isBond s) s (no-domestic s m) (partner s g second)
+      ∙ rw (← p, ← same, ← i, ← other) (sym (outside-mark (isBond s) l (no-domestic l n) (partner l f first)))
+
+  -- what a rule saves of two rates, by the marks and the rates that the legs are scanned by
+  module _ (f : RateInRange l) (g : RateInRange s) where
+    by-marks : {x : ℕ} {r : Rule} → (shortMark s ≡ soughtMark l → 2 * min (scanRate l) (scanRate s) ≤ x)
+        → (OtherClass (soughtMark l) (shortMark s) → (scanRate l + scanRate s + 1) / 2 ≤ x) → Permitted l s r → l .rate + s .rate - ruleRate r (l .rate) (s .rate) ≤ x
+    unfolding ruleRate
+    by-marks d h (one-class c k e) =
+        let (a, b) = of-one-class l s e in
+        omega (arith, d (one-mark c e), own-rate l a, own-rate s b)
+    by-marks d h (two-classes c k e) =
+        let (a, b) = of-two-classes l s e in
+        omega (arith, h (two-marks c e), own-rate l a, own-rate s b)
+    by-marks d h (one-government c k e) =
+        let (a, b) = of-one-government l s e in
+        omega (arith, d (foreign-mark c k e), own-rate l a, own-rate s b)
+    by-marks {x} d h (one-corporation c n i k) =
+        let issuer = eqb-true (l .issuer) (s .issuer) i in
+        let m : isCorporate s ≡ true = (unfold isCorporate in rw issuer at n) in
+        let enough = d (corporate-mark c n m issuer k) in
+        ⊎-elim
+        (λ w.
+        let saved = capped-saving (l .period) (f .bond n (w .0)) (rw (← p) at (g .strip m (w .1))) in
+        omega (arith, saved, enough, bond-rate l (w .0), strip-rate s m (w .1)))
+        (λ w.
+        let saved = capped-saving (l .period) (rw (← p) at (g .bond m (w .1))) (f .strip n (w .0)) in
+        omega (arith, saved, enough, bond-rate s (w .1), strip-rate l n (w .0)))
+        (one-bond-of l s k)
 
 module _ {long a short b : ℕ} where
   -- what is asked is enough where it is for equal marks and for marks of two classes
@@ -115,7 +214,7 @@ module _ {long a short b : ℕ} where
   asks {x} d h = record {
     enough = λ l s ml ms. by-test (λ (y : ℕ). y ≤ x) (allowed l s)
         (λ e. let m = allowed-meets l s e in
-        by-marks l s (m .period) (rw (ml .marked, ms .marked, ml .rated, ms .rated) at d)
+        by-marks l s (m .period) (ml .in-range) (ms .in-range) (rw (ml .marked, ms .marked, ml .rated, ms .rated) at d)
         (rw (ml .marked, ms .marked, ml .rated, ms .rated) at h) (permitted l s (m .rule)))
         (λ _. omega arith);
   }

@@ -1,9 +1,10 @@
 // An estimate of what two legs save as a pair, never too low, by a small number of each.
+use article::pair;
 use article::pair::Leg;
 ghost use mathlib.Core.Path.{_≡_};
 ghost use Prim.Native.Nat.{_-_, _*_, _≤_, _<_, min};
-ghost use Rattle.article.specs.Pair.{rateLimit};
-ghost use Rattle.marks.specs.Marks.{isDomestic, isForeign, markOf, OtherClass, Asks};
+ghost use Rattle.article.specs.Pair.{RateInRange};
+ghost use Rattle.marks.specs.Marks.{isDomestic, isOffered, isGovernment, hasPartner, markOf, scanRate, scanLimit, OtherClass, Asks};
 
 // Whether a leg is in CAD and of Canada or a province.
 fn is_domestic(leg: Leg) -> bool
@@ -15,33 +16,56 @@ fn is_domestic(leg: Leg) -> bool
     leg.issuer <= 10
 }
 
-// Whether a leg that is not domestic may have a pair: in another currency than CAD, of Canada or of no province.
-fn is_foreign(leg: Leg) -> bool
-    ensures { λ r. ⌜ r ≡ isForeign leg ⌝ }
+// Whether paragraph 3 can have a leg: a corporation's strip, or its bond if that is rated single A or higher.
+fn is_offered(leg: Leg) -> bool
+    ensures { λ r. ⌜ r ≡ isOffered leg ⌝ }
 {
-    if leg.currency == 0 {
+    if !pair::is_corporate(leg) {
         return false;
     }
-    if leg.issuer == 0 {
+    if leg.kind != 0 {
         return true;
     }
-    leg.issuer > 10
+    leg.rating == 0
+}
+
+// Whether paragraph 4 can have an issuer: Canada, US or GB.
+fn is_government(leg: Leg) -> bool
+    ensures { λ r. ⌜ r ≡ isGovernment leg ⌝ }
+{
+    let issuer = leg.issuer;
+    match issuer {
+        0 => true,
+        11 => true,
+        12 => true,
+        _ => false,
+    }
+}
+
+// Whether a leg that is not domestic may have a pair.
+fn has_partner(leg: Leg) -> bool
+    ensures { λ r. ⌜ r ≡ hasPartner leg ⌝ }
+{
+    if leg.currency == 0 {
+        return is_offered(leg);
+    }
+    is_government(leg)
 }
 
 // What a pair asks of a leg beside its side and rate, as one small number: the period, and of a domestic leg the class, 0 for Canada and 1 for a province;
 // of any other the currency, the issuer and whether it is to be a bond, or where it has no pair, its side.
 pub fn mark_of(bond: bool, leg: Leg) -> u16
-    requires { ⌜ leg .period < 256 ⌝ }
     ensures { λ r. ⌜ r ≡ markOf bond leg ⌝ }
 {
+    let period = leg.period % 8;
     if is_domestic(leg) {
         if leg.issuer == 0 {
-            return (4 * leg.period) as u16;
+            return (4 * period) as u16;
         }
-        return (4 * leg.period + 1) as u16;
+        return (4 * period + 1) as u16;
     }
-    let first = if is_foreign(leg) { bond } else { leg.side == 0 };
-    let key = leg.period + 256 * (16 * (leg.currency % 4) + leg.issuer % 16);
+    let first = if has_partner(leg) { bond } else { leg.side == 0 };
+    let key = period + 8 * (leg.currency % 4 + 4 * (leg.issuer % 512));
     if first {
         return (4 * key) as u16;
     }
@@ -63,15 +87,29 @@ fn other_class(mark: u16) -> u16
 }
 
 fn twice_lesser(a: u16, b: u16) -> u16
-    requires { ⌜ (a ≤ rateLimit) × (b ≤ rateLimit) ⌝ }
+    requires { ⌜ (a ≤ scanLimit) × (b ≤ scanLimit) ⌝ }
     ensures { λ r. ⌜ r ≡ 2 * min a b ⌝ }
 {
     if b < a { 2 * b } else { 2 * a }
 }
 
-// At least what a long and a short save as a pair, by their marks and their rates a and b. Nothing else of the scan knows the pair rules.
+// The rate that a leg is scanned by: its own, or of a corporation's strip a third of it.
+pub fn scan_rate(leg: Leg) -> u16
+    requires { ⌜ RateInRange leg ⌝ }
+    ensures { λ r. ⌜ (r ≡ scanRate leg) × (r ≤ scanLimit) ⌝ }
+{
+    if leg.kind == 0 {
+        return leg.rate as u16;
+    }
+    if pair::is_corporate(leg) {
+        return (leg.rate / 3) as u16;
+    }
+    leg.rate as u16
+}
+
+// At least what a long and a short save as a pair, by their marks and the rates a and b that they are scanned by. Nothing else of the scan knows the pair rules.
 pub fn asked(long: u16, a: u16, short: u16, b: u16) -> u16
-    requires { ⌜ (a ≤ rateLimit) × (b ≤ rateLimit) ⌝ }
+    requires { ⌜ (a ≤ scanLimit) × (b ≤ scanLimit) ⌝ }
     ensures { λ r. ⌜ Asks long a short b r ⌝ }
 {
     let cross = other_class(long);

@@ -10,11 +10,12 @@ ghost use Rattle.savings.specs.Savings.{ruleSaving, savingOf};
 // What a rule saves of two rates, without the rate that it makes of them.
 fn rule_saving(rule: Rule, long: u64, short: u64) -> u64
     requires { ⌜ (long ≤ rateLimit) × (short ≤ rateLimit) ⌝ }
-    ensures { λ r. ⌜ (r ≡ ruleSaving rule long short) × (r ≤ savingLimit) ⌝ }
+    ensures { λ r. ⌜ r ≡ ruleSaving rule long short ⌝ }
 {
     match rule {
         Rule::Difference => { if short < long { 2 * short } else { 2 * long } }
         Rule::HalfSum => (long + short + 1) / 2,
+        Rule::Capped => long + short - pair::capped(long, short),
         Rule::NotAllowed => 0,
     }
 }

@@ -14,7 +14,7 @@ use Rattle.holding.specs.Holding.{valueLimit}
 use Rattle.article.specs.Pair.{allowed, pairRateOf, savingRateOf, rateLimit, savingLimit}
 use Rattle.article.specs.declared.pair.Leg.{Leg}
 use Rattle.article.proofs.Legs.{allowed-meets, allowed-high}
-use Rattle.article.proofs.PairRates.{saving-high}
+use Rattle.article.proofs.Saved.{saving-high}
 use Rattle.proposal.specs.Submission.{marginLimit, savedLimit}
 use Rattle.proposal.specs.Outcome.{pairFaults}
 use Rattle.proposal.proofs.Places.{pair-listed}

@@ -4,11 +4,14 @@ use Rattle.columns.proofs.Tables.{column-fits, copied-none, copied-more
 use Rattle.columns.proofs.copy_book.Statement.{statement}
 use Rattle.columns.proofs.copy_book.Tie as tie
 
--- the start, from where one of the last five columns is copied
+-- the start, from where one of the last six columns is copied
+abbrev of-issuer : tie.After-copy-arg3 → tie.Start
+of-issuer c =
+    let side = c .before .before .before .before .before .before .before .before .before .before in
+    side .before .before .before .before .before .before .before .before .before .before .before
+
 abbrev of-maturity : tie.After-copy-arg4 → tie.Start
-of-maturity c =
-    let kind = c .before .before .before .before .before .before .before .before .before in
-    kind .before .before .before .before .before .before .before .before .before .before .before .before .before .before .before .before
+of-maturity c = of-issuer (c .before .before .before .before .before)
 
 abbrev of-value : tie.After-copy-arg5 → tie.Start
 of-value c = of-maturity (c .before .before .before .before .before)
@@ -68,8 +71,8 @@ copy-book-spec =
     (λ c κs. search needs)
     (λ c κs. search (needs, column-fits))
     (λ c κs. search needs)
-    (λ c κs. search (needs, column-fits))
-    (λ c κs. search needs)
+    (λ c κs. let start = of-issuer c in search (needs, column-fits))
+    (λ c κs. let start = of-issuer (c .before .before .before) in search needs)
     (λ c κs. let start = of-maturity c in search (needs, column-fits))
     (λ c κs. let start = of-maturity (c .before .before .before) in search needs)
     (λ c κs. let start = of-value c in search (needs, column-fits))

@@ -25,7 +25,7 @@ abbrev μ-loop : tie.MeasureT-loop
 -- the margin of a holding, by its leg
 module _ {n : ℕ} {legs left old : List ℕ} (lent : MarginsLent n legs left old) {i : ℕ} (h : i < n) {leg : Leg} (e : leg ≡ legAt legs i) where
   high : leg .rate * entry left i ≤ marginLimit
-  high = rw e (mul-le-mul (lent .bounded .rate i h) (lent .left-high i h))
+  high = rw e (mul-le-mul (lent .bounded .rate i h .high) (lent .left-high i h))
 
   is-left : leg .rate * entry left i ≡ leftMargin legs left i
   unfolding leftMargin

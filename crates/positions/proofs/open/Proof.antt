@@ -18,30 +18,39 @@ Inv-loop account side kind issuer maturity value price currency rating legs₀ l
 abbrev μ-loop : tie.MeasureT-loop
 μ-loop account side kind issuer maturity value price currency rating legs₀ left₀ n i₀ legs left i = n - i
 
--- the turn, from where its leg has its code
+-- the turn, from where its row made what it makes, and from there on
+abbrev turn : tie.After-holding-of Inv-loop μ-loop → tie.In-loop Inv-loop μ-loop
+turn c = c .before .before .before .before .before .before .before .before
+
+abbrev priced : tie.After-fault-at2 Inv-loop μ-loop → tie.After-holding-of Inv-loop μ-loop
+priced c = c .before .before .before .before .before .before
+
+abbrev coded : tie.After-code-of Inv-loop μ-loop → tie.After-holding-of Inv-loop μ-loop
+coded c = c .before .before .before .before .before .before .before
+
 abbrev in-loop : tie.After-code-of Inv-loop μ-loop → tie.In-loop Inv-loop μ-loop
-in-loop c = c .before .before .before .before .before .before .before .before .before .before .before .before .before .before .before
+in-loop c = turn (coded c)
 
 returns : tie.Need-returns Inv-loop μ-loop
 returns c =
     let made = c .before .before .before .before in
-    let turn = made .before .before .before .before .before .before .before .before in
-    opens-row (turn .before .loop .inv .1) (omega arith) (search row-read) (made .holding-of .ensures)
+    let at = turn made in
+    opens-row (at .before .loop .inv .1) (omega arith) (search row-read) (made .holding-of .ensures)
     (c .before .before .built .given .1) (c .fault-at .ensures)
 
 returns-2 : tie.Need-returns-2 Inv-loop μ-loop
 returns-2 c =
-    let made = c .before .before .before .before .before .before in
-    let turn = made .before .before .before .before .before .before .before .before in
-    opens-price (turn .before .loop .inv .1) (omega arith) (search row-read) (made .holding-of .ensures)
+    let made = priced c in
+    let at = turn made in
+    opens-price (at .before .loop .inv .1) (omega arith) (search row-read) (made .holding-of .ensures)
     (c .before .before .before .before .built2 .given .1) (c .before .before .word8 .ensures) (omega arith) (c .fault-at2 .ensures)
 
 loop-again : tie.Need-loop-again Inv-loop μ-loop
 loop-again c =
-    let made = c .before .before .before .before .before .before .before in
-    let turn = made .before .before .before .before .before .before .before .before in (
-      turn .before .loop .inv .0,
-      opening-more (turn .before .loop .inv .1) (omega arith) (search row-read) (made .holding-of .ensures) _
+    let made = coded c in
+    let at = turn made in (
+      at .before .loop .inv .0,
+      opening-more (at .before .loop .inv .1) (omega arith) (search row-read) (made .holding-of .ensures) _
           (c .before .before .before .before .before .built2 .given .1) (c .before .before .before .word8 .ensures) (omega arith) (c .before .leg-of .ensures .0) (c .code-of .ensures),
     )
 
@@ -68,20 +77,19 @@ open-spec =
     (λ c. search needs)
     (λ c κs. search needs)
     (λ c κs. search needs)
-    (λ c. search needs)
-    (λ c. search needs)
+    (λ c. let inv = turn (priced c) .before .loop .inv in search needs)
+    (λ c. let inv = turn (priced c) .before .loop .inv in search needs)
     returns-2
     (λ c κs. search needs)
     (λ c κs.
     let made = c .before .before .before .before .before .before in
-    let inv = made .before .before .before .before .before .before .before .before .before .loop .inv in
-    small-leg (inv .1 .room .valued) (made .holding-of .ensures) (c .before .before .before .before .built2 .given .1) (c .leg-of .ensures .0))
+    small-leg (turn made .before .loop .inv .1 .room .valued) (made .holding-of .ensures) (c .before .before .before .before .built2 .given .1) (c .leg-of .ensures .0))
     (λ c. let taken = in-loop c .loop-test .taken in let inv = in-loop c .before .loop .inv in search needs)
     (λ c. let taken = in-loop c .loop-test .taken in let inv = in-loop c .before .loop .inv in search needs)
     (λ c. let taken = in-loop c .loop-test .taken in let inv = in-loop c .before .loop .inv in search needs)
     (λ c. let taken = in-loop c .loop-test .taken in let inv = in-loop c .before .loop .inv in search needs)
     (λ c. let taken = in-loop c .loop-test .taken in let inv = in-loop c .before .loop .inv in search needs)
-    (λ c. search needs)
+    (λ c. let taken = in-loop c .loop-test .taken in search needs)
     loop-again
     (λ c κs. search needs)
     (λ c. search needs)

@@ -6,7 +6,7 @@ use Prim.Native.Nat.{ℕ, _≤_}
 use native.Mathlib.Omega.{arith}
 use lib.Dec.{eqb}
 use borrow.Author.Tests.{eq-eqb, ne-eqb}
-use Rattle.savings.proofs.RuleSavings.{saving-permitted}
+use Rattle.savings.proofs.RuleSavings.{saving-permitted, saved-high}
 use Rattle.article.specs.Pair.{allowed, isLong, isShort, ruleOf, pairRateOf, savingRateOf, savingLimit}
 use Rattle.savings.specs.Savings.{ruleSaving, savingOf}
 use Rattle.article.specs.declared.pair.Rule.{Rule}
@@ -53,7 +53,9 @@ returns c =
     let a-short = one-period .before .before .before in
     let a-long = a-short .before .before in
     let found = c .rule-saving .ensures in
-    (a-saving _ _ (a-long .if1 .taken) (a-short .if2 .taken) (one-period .if3 .taken) _ (at-rule .rule-of .ensures) _ (found .0), found .1)
+    let start = a-long .before .before in
+    let same = a-saving _ _ (a-long .if1 .taken) (a-short .if2 .taken) (one-period .if3 .taken) _ (at-rule .rule-of .ensures) _ found in
+    (same, rw same (saved-high _ _ (start .pre .0) (start .pre .1)))
 
 returns-2 : tie.Need-returns-2
 returns-2 c =

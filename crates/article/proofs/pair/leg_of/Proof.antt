@@ -1,5 +1,5 @@
 -- `leg_of` is `legOf`: each field by its own function's promise, and the rate by its law. Assumes nothing.
-use Rattle.rates.proofs.Rates.{rate-high}
+use Rattle.article.proofs.LegRates.{leg-rates}
 use Rattle.article.specs.Pair.{legOf}
 use borrow.Author.Needs.{needs}
 use Rattle.article.proofs.pair.leg_of.Statement.{statement}
@@ -16,7 +16,7 @@ rate-requires c κs = search needs
 
 returns : tie.Need-returns
 unfolding legOf
-returns c = (rw (c .before .before .row-of .ensures, c .before .period .ensures .0, c .rate .ensures), λ g. rw (c .rate .ensures) (rate-high _ _ g))
+returns c = (rw (c .before .before .row-of .ensures, c .before .period .ensures .0, c .rate .ensures), λ g. rw (c .before .before .row-of .ensures, c .before .period .ensures .0, c .rate .ensures) (leg-rates _ _ g))
 
 pub leg-of-spec : {M : Type 1} → statement M
 leg-of-spec = tie.close (tie.spec row-of-requires period-requires rate-requires returns)

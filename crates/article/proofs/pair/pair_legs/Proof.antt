@@ -5,7 +5,8 @@ use Prim.Native.Nat.{ℕ, _+_, _-_}
 use native.Mathlib.Omega.{arith}
 use borrow.Author.Tests.{not-true, not-false, eq-eqb}
 use Rattle.lists.proofs.Tests.{arms}
-use Rattle.article.proofs.PairRates.{permitted-high, saving-high}
+use Rattle.article.proofs.PairRates.{permitted-high}
+use Rattle.article.proofs.Saved.{saving-high}
 use Rattle.article.specs.Pair.{allowed, isLong, isShort, ruleOf, permits, ruleRate, pairRateOf, savingRateOf, pairAnswer, pairOf, RateInRange, Pairs}
 use Rattle.article.specs.declared.pair.Rule.{Rule}
 use Rattle.article.specs.declared.pair.Leg.{Leg}
@@ -29,7 +30,7 @@ module _ (l s : Leg) where
     unfolding pairAnswer pairOf pairRateOf savingRateOf
     a-pair rate e f g r = rw (r, found) (record {
       answered = rw (decided ∙ e);
-      rate-high = permitted-high (ruleOf l s) (l .rate) (s .rate) (ap permits (sym found) ∙ sym asked ∙ e) f g;
+      rate-high = permitted-high (ruleOf l s) (l .rate) (s .rate) (ap permits (sym found) ∙ sym asked ∙ e) (f .high) (g .high);
       saving-high = saving-high l s f g;
     })
 

@@ -5,7 +5,7 @@ use Prim.Native.Nat.{_≤_, _<_}
 use native.Mathlib.Omega.{arith}
 use borrow.Author.Tests.{eq-eqb, ne-eqb}
 use Rattle.lists.proofs.Tests.{not-both, same-or-not}
-use Rattle.article.specs.Pair.{domesticRule, foreignRule, ruleOf, bothCad, sameForeign, inCad, inUsd, inGbp}
+use Rattle.article.specs.Pair.{cadRule, foreignRule, ruleOf, bothCad, sameForeign, inCad, inUsd, inGbp}
 use Rattle.article.specs.declared.pair.Rule.the-variants.{NotAllowed}
 use Rattle.article.specs.declared.pair.Leg.{Leg}
 use borrow.Author.Needs.{needs}
@@ -22,7 +22,7 @@ module _ (l s : Leg) where
   no-currency h = rw (ne-eqb (l .currency) 0 (λ z. omega arith), ne-eqb (l .currency) 1 (λ z. omega arith), ne-eqb (l .currency) 2 (λ z. omega arith))
 
   module _ (same : l .currency ≡ s .currency) where
-    cad : l .currency ≡ 0 → domesticRule l s ≡ ruleOf l s
+    cad : l .currency ≡ 0 → cadRule l s ≡ ruleOf l s
     unfolding ruleOf bothCad inCad
     cad a = rw (eq-eqb _ _ a, eq-eqb _ _ (sym same ∙ a))
 
@@ -40,6 +40,6 @@ rule-of-spec =
     (λ c. two-currencies _ _ (c .if1 .taken))
     (λ c κs. search needs)
     (λ c κs. search needs)
-    (λ c. c .domestic-rule .ensures ∙ cad _ _ (c .before .before .if1 .left) (c .before .match .keys1))
+    (λ c. c .cad-rule .ensures ∙ cad _ _ (c .before .before .if1 .left) (c .before .match .keys1))
     (λ c. c .foreign-rule .ensures ∙ foreign _ _ (c .before .before .before .if1 .left) (c .before .before .match .rest .1) (c .before .if2 .taken))
     (λ c. no-currency _ _ (c .if2 .left)))
