@@ -19,6 +19,11 @@ leiTexts (x ∷ xs) = leiText x ++ leiTexts xs
 unfoldable pub leisTooShort : ℕ → ℕ → ℕ → Bool
 leisTooShort count leis slice = ltb leis (20 * count) || ltb slice 16
 
+-- neither: what is lent has the room
+pub record LeisRoom (count leis slice : ℕ) : Type 0 where
+  pub each : 20 * count ≤ leis
+  pub answer : 16 ≤ slice
+
 -- what is answered of a text and of what is lent: the first refusal in the reader's order, or 0 with the number of LEIs
 unfoldable pub namingAnswer : List ℕ → List ℕ → List ℕ → Answer
 namingAnswer text leis slice = answerTo (leisTooShort (length (leisIn text)) (length leis) (length slice)) (makeAnswer 0 (length (leisIn text)) 0) text
@@ -41,4 +46,4 @@ module _ (text leis leis′ slice slice′ : List ℕ) (r : ℕ) where
     -- and they are as many as it has corporations
     pub many : r ≡ 0 → (s : Submission) (h : Submits text s) → namingAnswer text leis slice .first ≡ length (h .leis)
     -- written exactly when the text is a file that submits something, and what is lent has the room
-    pub exactly : (r ≡ 0) ↔ (Submits text (submissionIn text) × (20 * length (leisIn text) ≤ length leis) × (16 ≤ length slice))
+    pub exactly : (r ≡ 0) ↔ (Submits text (submissionIn text) × LeisRoom (length (leisIn text)) (length leis) (length slice))
