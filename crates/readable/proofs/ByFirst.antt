@@ -167,8 +167,8 @@ module _ {rs : List (List (List ℕ))} {rows : List Row} {prices : List ℕ} {le
     above c new j q =
         let last : numberAt rows i ≡ 100 + length (b .mid) =
         issued-new (b .here) c (λ k m e.
-            let (o, p, _, s) = held-before k m in
-            new o p (s ∙ e)) in
+        let (o, p, _, s) = held-before k m in
+        new o p (s ∙ e)) in
         let most = number-within (b .front) j (omega (arith, few)) in
         let same = ap (λ (r : Row). r .issuer) (getD-take i rows j noRow q) in
         omega (arith, last, most, same)
