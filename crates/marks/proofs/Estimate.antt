@@ -178,7 +178,8 @@ module _ (l s : Leg) (p : l .period ≡ s .period) where
       let same : l .currency ≡ s .currency = eqb-true (l .currency) 0 f ∙ sym (eqb-true (s .currency) 0 g) in
       let (first, (second, other)) = offered l s n m k in
       outside-mark (isBond s) s (no-domestic s m) (partner s g second)
-      ∙ rw (← p, ← same, ← i, ← other) (sym (outside-mark (isBond s) l (no-domestic l n) (partner l f first)))
+      ∙ (λ t. 4 * (sym p t % 8 + 8 * (sym same t % 4 + 4 * (sym i t % 512))) + cond (other t) 0 2)
+      ∙ sym (outside-mark (not (isBond l)) l (no-domestic l n) (partner l f first))
 
   -- what a rule saves of two rates, by the marks and the rates that the legs are scanned by
   module _ (f : RateInRange l) (g : RateInRange s) where
