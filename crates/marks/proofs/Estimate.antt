@@ -4,6 +4,7 @@ use mathlib.Core.Logic.{_⊎_, inl, inr, ⊎-elim}
 use mathlib.Core.Bool.{Bool, true, false, cond, not, _&&_, _||_, and-eq-true-iff, and-false}
 use Prim.Native.Nat.{ℕ, _+_, _-_, _*_, _/_, _%_, _≤_, min, max}
 use native.Mathlib.Omega.{arith}
+use native.Mathlib.Nat.{le-trans}
 use lib.Dec.{eqb}
 use borrow.Author.Tests.{ne-eqb, eqb-true, eq-eqb}
 use Rattle.lists.specs.Choice.{within}
@@ -201,11 +202,11 @@ module _ (l s : Leg) (p : l .period ≡ s .period) where
         let enough = d (corporate-mark c n m issuer k) in
         ⊎-elim
         (λ w.
-        let saved = capped-saving (l .period) (f .bond n (w .0)) (rw (← p) at (g .strip m (w .1))) in
-        omega (arith, saved, enough, bond-rate l (w .0), strip-rate s m (w .1)))
+        le-trans (capped-saving (l .period) (f .bond n (w .0)) (rw (← p) at (g .strip m (w .1))) .0)
+        (rw (bond-rate l (w .0), strip-rate s m (w .1)) at enough))
         (λ w.
-        let saved = capped-saving (l .period) (rw (← p) at (g .bond m (w .1))) (f .strip n (w .0)) in
-        omega (arith, saved, enough, bond-rate s (w .1), strip-rate l n (w .0)))
+        le-trans (capped-saving (l .period) (rw (← p) at (g .bond m (w .1))) (f .strip n (w .0)) .1)
+        (rw (strip-rate l n (w .0), bond-rate s (w .1)) at enough))
         (one-bond-of l s k)
 
 module _ {long a short b : ℕ} where
