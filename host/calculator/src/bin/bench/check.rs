@@ -3,7 +3,7 @@
 use std::hint::black_box;
 
 use margin_calculator::samples::{
-    ANY, DOMESTIC, FOREIGN, PERIODS, Random, Shape, best_sheet, holdings, split_lines,
+    DOMESTIC, FOREIGN, GOVERNMENTS, PERIODS, Random, Shape, best_sheet, holdings, split_lines,
 };
 use margin_calculator::{Row, Sheet, VALUED, margin_check};
 use margin_host::{Columns, raw};
@@ -50,7 +50,7 @@ pub fn run() {
             print_line("both paragraphs", &sheet_of(&both_paragraphs(size)), 0);
         }
     }
-    print_line("any currency", &sheet_of(&book_of(256, &ANY)), 0);
+    print_line("any currency", &sheet_of(&book_of(256, &GOVERNMENTS)), 0);
     print_line("uncovered late", &uncovered_late(), 16);
     print_line("nothing paired", &nothing_paired(), 0);
 }

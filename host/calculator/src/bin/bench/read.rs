@@ -50,7 +50,7 @@ fn run_beside_plain() {
     println!(
         "Files of 256 holdings and 512 lines, texts of the greatest length, which are refused, and small files."
     );
-    println!("The longest file that can be read at all has 41,252 bytes.");
+    println!("The longest file that can be read at all has 48,423 bytes.");
     println!(
         "Median of {BATCHES} alternating batches; calls and megabytes (MB) a second, and their ratio."
     );
