@@ -163,10 +163,15 @@ pub(super) fn add(list: &mut List) {
     orders(list);
 }
 
-/// The record of a holding in whose fields A and B stand for the two corporations.
+/// The record of a holding whose issuer may be A or B.
 fn leg(fields: &str, currency: &str, rating: &str) -> String {
-    let fields = fields.replace(",A,", &format!(",{A},"));
-    rated_in(currency, rating, &fields.replace(",B,", &format!(",{B},")))
+    let mut fields: Vec<&str> = fields.split(',').collect();
+    fields[2] = match fields[2] {
+        "A" => A,
+        "B" => B,
+        government => government,
+    };
+    rated_in(currency, rating, &fields.join(","))
 }
 
 /// What comes after the holdings of the printed file: two pairs of one corporation, and what of it and of another
