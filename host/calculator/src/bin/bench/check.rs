@@ -3,10 +3,10 @@
 use std::hint::black_box;
 
 use margin_calculator::samples::{
-    ANY, CORPORATE, CORPORATIONS, DOMESTIC, FOREIGN, GOVERNMENTS, PERIODS, Random, Shape,
-    best_sheet, holdings, split_lines,
+    ANY, CORPORATE, DOMESTIC, FOREIGN, GOVERNMENTS, PERIODS, Random, Shape, best_sheet, holdings,
+    split_lines,
 };
-use margin_calculator::{Row, Sheet, VALUED, margin_check};
+use margin_calculator::{FIRST_CORPORATION, Row, Sheet, VALUED, margin_check};
 use margin_host::{Columns, raw};
 
 use crate::SEED;
@@ -18,12 +18,6 @@ type Call = fn(u64, &Columns<&[u8]>, &mut [u8], &mut [u8], &mut [u8]) -> u64;
 const FIRST_PERIOD: Shape = Shape {
     terms: &[PERIODS[0]],
     ..DOMESTIC
-};
-
-/// Holdings in CAD of many corporations.
-const MANY_CORPORATIONS: Shape = Shape {
-    issuers: CORPORATIONS.split_at(64).0,
-    ..CORPORATE
 };
 
 /// The lists that a call writes.
@@ -46,7 +40,7 @@ pub fn run() {
         "each long there with a short. All paragraphs: half of the rest of corporations. Few and many"
     );
     println!(
-        "corporations: 4 and 64, in CAD. Any currency, any issuer: also what no paragraph pairs."
+        "corporations: 4, and a fourth of the holdings, in CAD. Any currency, any issuer: also what no paragraph pairs."
     );
     println!("Valued on 2025-01-01. Outputs are not cleared before a call.");
     println!("Median of {BATCHES} alternating batches; calls a second, and their ratio.");
@@ -64,8 +58,7 @@ pub fn run() {
         }
         if size > 16 {
             print_line("few corporations", &sheet_of(&book_of(size, &CORPORATE)), 0);
-            let many = sheet_of(&book_of(size, &MANY_CORPORATIONS));
-            print_line("many corporations", &many, 0);
+            print_line("many corporations", &sheet_of(&many_corporations(size)), 0);
         }
     }
     print_line("any currency", &sheet_of(&book_of(256, &GOVERNMENTS)), 0);
@@ -126,6 +119,18 @@ fn all_paragraphs(size: usize) -> Vec<Row> {
         (short.issuer, short.rating) = (long.issuer, 0);
         short.maturity = long.maturity;
         short.kind = 0;
+    }
+    book
+}
+
+/// In turn a long strip and a short bond of a corporation in CAD, in all periods: of each corporation two.
+fn many_corporations(size: usize) -> Vec<Row> {
+    let mut book = book_of(size, &CORPORATE);
+    for (number, two) in book.as_chunks_mut().0.iter_mut().enumerate() {
+        let [long, short] = two;
+        long.issuer = FIRST_CORPORATION + (number % (size / 4)) as u64;
+        (short.issuer, short.kind, short.rating) = (long.issuer, 0, 0);
+        short.maturity = long.maturity;
     }
     book
 }
