@@ -89,7 +89,8 @@ pub fn line(fields: &str) -> String {
     format!("P,{fields}{}", ",".repeat(FIELDS - FILLED_OF_LINE))
 }
 
-/// The file of governments' holdings in CAD and lines with these fields after their letters, valued on document 01's date.
+/// The file of governments' holdings in CAD and lines with these fields after their letters, valued on document
+/// 01's date.
 #[must_use]
 pub fn file(holdings: &[&str], lines: &[&str]) -> Vec<u8> {
     let mut records: Vec<String> = holdings.iter().map(|fields| holding(fields)).collect();

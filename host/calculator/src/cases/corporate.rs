@@ -1,7 +1,7 @@
 //! Document 02 d): corporations by their LEIs, ratings, Group V's rates, the pairs of paragraph 3, and 25.
 
-use super::List;
-use super::sound::{FIRST, FIRST_LINE, records, with, with_fields};
+use super::sound::{Change, FIRST, FIRST_LINE, records, with, with_fields};
+use super::{List, Table};
 use crate::texts::{
     PRINTED, dated, holding, issuer_text, joined, line, quoted_at, rated, rated_in,
 };
@@ -123,9 +123,9 @@ const OTHER_FORMS: [&str; 11] = [
     "100",
 ];
 
-/// Changes to fields of the sound file, which compete, and what is printed. Record 5 is a holding.
+/// Faults that compete in the sound file: the earlier in the papers' order is named.
 #[rustfmt::skip]
-const ORDERS: [(&str, &[(usize, usize, &str)], &str); 9] = [
+const ORDERS: Table<Change, 9> = [
     ("21 of an earlier field before 25", &[(5, 8, "Y"), (5, 1, "l")], "X,21,5,0"),
     ("21 of a later field before 25", &[(5, 3, "5493001KJTIIGC8Y1R13"), (5, 8, "y")], "X,21,5,0"),
     ("21 of the price before 25", &[(5, 3, A), (5, 6, "00")], "X,21,5,0"),
