@@ -327,6 +327,121 @@ fn the_list_has_what_the_column_numbers() {
     }
 }
 
+/// Demands that a file of bonds of these issuers, all corporations, gives them these numbers.
+fn numbered(files: &mut Files, issuers: &[&str], numbers: &[u64]) {
+    let file = File::exact(&file_of(issuers), issuers.len(), 0);
+    let read = files.compare(&file, format_args!("{issuers:?}"));
+    assert_eq!(read.number, 0, "{issuers:?}");
+    assert_eq!(read.sheet().issuer, numbers, "{issuers:?}");
+}
+
+/// The characters of the same kind.
+fn kind(character: u8) -> &'static [u8] {
+    match character {
+        b'0'..=b'9' => DIGITS,
+        _ => CAPITALS,
+    }
+}
+
+#[test]
+fn near_ones_are_two_corporations() {
+    // Two characters changed so that the remainder is 1 again, at every two places.
+    let mut files = Files::fixed("near LEIs");
+    for text in PUBLISHED {
+        for at in 0..LENGTH {
+            for second in at + 1..LENGTH {
+                let mut near = text.as_bytes().to_vec();
+                let mut found = 0;
+                for &one in kind(text.as_bytes()[at]) {
+                    for &other in kind(text.as_bytes()[second]) {
+                        (near[at], near[second]) = (one, other);
+                        let near = str::from_utf8(&near).expect("ASCII");
+                        if near != text && remainder(near) == 1 {
+                            numbered(&mut files, &[text, near, text, near], &[100, 101, 100, 101]);
+                            found += 1;
+                        }
+                    }
+                }
+                // Two places of digits have a hundred texts, and few or none of another remainder of 1.
+                let many = [at, second].map(|at| kind(text.as_bytes()[at]).len());
+                assert!(found >= 1 || many.contains(&10), "{text}, {at}, {second}");
+            }
+        }
+    }
+    for [one, other] in [
+        ["00000000000000000001", "00000000000000000098"],
+        ["00000000000000006500", "00000000000000006597"],
+        ["00000000000000003299", "00000000000000003202"],
+    ] {
+        numbered(&mut files, &[one, other, one], &[100, 101, 100]);
+        numbered(&mut files, &[other, one, one], &[100, 101, 101]);
+    }
+}
+
+#[test]
+fn another_kind_of_character_is_another_corporation() {
+    let mut files = Files::fixed("another kind of character");
+    let mut found = 0;
+    for number in 100..1_100 {
+        let text = issuer_text(number);
+        for at in 0..18 {
+            for &other in DIGITS.iter().chain(CAPITALS) {
+                let mut near = text.clone().into_bytes();
+                near[at] = other;
+                let near = String::from_utf8(near).expect("ASCII");
+                if near != text && remainder(&near) == 1 {
+                    numbered(
+                        &mut files,
+                        &[&text, &near, &near, &text],
+                        &[100, 101, 101, 100],
+                    );
+                    found += 1;
+                }
+            }
+        }
+    }
+    assert!(found > 1_000, "{found} LEIs that differ in one character");
+}
+
+#[test]
+fn halves_of_others() {
+    // Four LEIs of two beginnings and two ends: all are good, and each is a corporation of its own.
+    let mut files = Files::new("halves of others", 0x1103);
+    for _ in 0..50 {
+        let [first, second] = [(); 2].map(|()| {
+            let whole = issuer_text(files.random.bits() | 1 << 63);
+            whole[..10].to_string()
+        });
+        let random = &mut files.random;
+        let mut end = |begin: &str| loop {
+            let whole = issuer_text(random.bits() | 1 << 63);
+            let end = &whole[10..];
+            if remainder(&format!("{begin}{end}")) == 1 {
+                return end.to_string();
+            }
+        };
+        let ends = [end(&first), end(&first)];
+        // Another beginning that is as good with both ends.
+        let mut other = second.into_bytes();
+        let other = (0..10_000).find_map(|number| {
+            other[..4].copy_from_slice(format!("{number:04}").as_bytes());
+            let begin = str::from_utf8(&other).expect("ASCII");
+            let good = |end: &String| remainder(&format!("{begin}{end}")) == 1;
+            ends.iter().all(good).then(|| begin.to_string())
+        });
+        let other = other.expect("one of 97");
+        let mut all = Vec::new();
+        for begin in [&first, &other] {
+            all.extend(ends.each_ref().map(|end| format!("{begin}{end}")));
+        }
+        let all: Vec<&str> = all.iter().map(String::as_str).collect();
+        for order in [[0, 1, 2, 3], [0, 3, 1, 2], [3, 0, 2, 1], [1, 2, 0, 3]] {
+            let issuers = order.map(|at| all[at]);
+            numbered(&mut files, &issuers, &[100, 101, 102, 103]);
+        }
+    }
+}
+
 /// A government, or one of so many corporations, now and then in quotes.
 fn issuer(random: &mut Random, most: u64) -> String {
     let text = match random.below(3) {

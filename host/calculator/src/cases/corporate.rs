@@ -95,6 +95,13 @@ const OTHER_CHECK_DIGITS: [&str; 3] = [
     "00000000000000003299",
 ];
 
+/// Two LEIs each that are good and alike but for a few characters.
+const NEAR: [[&str; 2]; 3] = [
+    ["00000000000000000001", "00000000000000000098"],
+    ["5493001KJTIIGC8Y1R12", "6463001KJTIIGC8Y1R12"],
+    ["5493001KJTIIGC8Y1R12", "5493001KJTDXGC8Y1R12"],
+];
+
 /// Texts in the form of an LEI with another remainder.
 const OTHER_REMAINDERS: [&str; 9] = [
     "5493001KJTIIGC8Y1R13",
@@ -251,6 +258,13 @@ fn numbers(list: &mut List) {
     ] {
         let title = format!("one corporation or two: {what}");
         list.add(title, dated(&[&bond, &short]), first);
+    }
+    // Good LEIs that differ in their check digits, in their first half and in their last half alone.
+    for [one, other] in NEAR {
+        let records = [("L,B", one), ("S,C", other)]
+            .map(|(leg, issuer)| rated("Y", &format!("{leg},{issuer},2030-06-24,1,0")));
+        let title = format!("{one} and {other} are two corporations");
+        list.add(title, dated(&records), "M,25550,1");
     }
     // Bonds of all corporations that there may be, and the strip of the first, a middle one and the last.
     let bonds: Vec<String> = (100..355)
