@@ -4,6 +4,7 @@ use mathlib.Core.Logic.{_⊎_, inl, inr, ⊎-elim}
 use mathlib.Core.Bool.{Bool, true, false, cond, not, _&&_, _||_, and-eq-true-iff, and-false}
 use Prim.Native.Nat.{ℕ, _+_, _-_, _*_, _/_, _%_, _≤_, min, max}
 use native.Mathlib.Omega.{arith}
+use native.Mathlib.Nat.{le-trans}
 use lib.Dec.{eqb}
 use borrow.Author.Tests.{ne-eqb, eqb-true, eq-eqb}
 use Rattle.lists.specs.Choice.{within}
@@ -178,7 +179,8 @@ module _ (l s : Leg) (p : l .period ≡ s .period) where
       let same : l .currency ≡ s .currency = eqb-true (l .currency) 0 f ∙ sym (eqb-true (s .currency) 0 g) in
       let (first, (second, other)) = offered l s n m k in
       outside-mark (isBond s) s (no-domestic s m) (partner s g second)
-      ∙ rw (← p, ← same, ← i, ← other) (sym (outside-mark (isBond s) l (no-domestic l n) (partner l f first)))
+      ∙ (λ t. 4 * (sym p t % 8 + 8 * (sym same t % 4 + 4 * (sym i t % 512))) + cond (other t) 0 2)
+      ∙ sym (outside-mark (not (isBond l)) l (no-domestic l n) (partner l f first))
 
   -- what a rule saves of two rates, by the marks and the rates that the legs are scanned by
   module _ (f : RateInRange l) (g : RateInRange s) where
@@ -200,11 +202,11 @@ module _ (l s : Leg) (p : l .period ≡ s .period) where
         let enough = d (corporate-mark c n m issuer k) in
         ⊎-elim
         (λ w.
-        let saved = capped-saving (l .period) (f .bond n (w .0)) (rw (← p) at (g .strip m (w .1))) in
-        omega (arith, saved, enough, bond-rate l (w .0), strip-rate s m (w .1)))
+        le-trans (capped-saving (l .period) (f .bond n (w .0)) (rw (← p) at (g .strip m (w .1))) .0)
+        (rw (bond-rate l (w .0), strip-rate s m (w .1)) at enough))
         (λ w.
-        let saved = capped-saving (l .period) (rw (← p) at (g .bond m (w .1))) (f .strip n (w .0)) in
-        omega (arith, saved, enough, bond-rate s (w .1), strip-rate l n (w .0)))
+        le-trans (capped-saving (l .period) (rw (← p) at (g .bond m (w .1))) (f .strip n (w .0)) .1)
+        (rw (strip-rate l n (w .0), bond-rate s (w .1)) at enough))
         (one-bond-of l s k)
 
 module _ {long a short b : ℕ} where

@@ -64,7 +64,11 @@ pub fn mark_of(bond: bool, leg: Leg) -> u16
         }
         return (4 * period + 1) as u16;
     }
-    let first = if has_partner(leg) { bond } else { leg.side == 0 };
+    let first = if has_partner(leg) {
+        bond
+    } else {
+        leg.side == 0
+    };
     let key = period + 8 * (leg.currency % 4 + 4 * (leg.issuer % 512));
     if first {
         return (4 * key) as u16;

@@ -9,8 +9,8 @@ use Rattle.cover.proofs.long_open.Tie as tie
 mark-of-requires : tie.Need-mark-of-requires
 mark-of-requires c κs = search needs
 
-cast-rate : tie.Need-cast-rate
-cast-rate c = search needs
+scan-rate-requires : tie.Need-scan-rate-requires
+scan-rate-requires c κs = search needs
 
 row-open-requires : tie.Need-row-open-requires
 row-open-requires c κs = search needs
@@ -19,7 +19,7 @@ returns : tie.Need-returns
 unfolding soughtMark isBond
 returns c =
     let marked = c .before .before .before .before in
-    λ e. bond-row (marked .before .before .args .long) (marked .mark-of .ensures) (c .before .if1 .taken) (c .row-open .ensures e)
+    λ e. bond-row (marked .before .before .args .long) (marked .mark-of .ensures) (c .before .before .before .scan-rate .ensures .0) (c .before .if1 .taken) (c .row-open .ensures e)
 
 row-open-requires-2 : tie.Need-row-open-requires-2
 row-open-requires-2 c κs = search needs
@@ -28,9 +28,9 @@ returns-2 : tie.Need-returns-2
 unfolding soughtMark isBond
 returns-2 c =
     let marked = c .before .before .before .before in
-    λ e. other-row (marked .before .before .args .long) (marked .mark-of .ensures) (c .before .if1 .left) (c .row-open2 .ensures e)
+    λ e. other-row (marked .before .before .args .long) (marked .mark-of .ensures) (c .before .before .before .scan-rate .ensures .0) (c .before .if1 .left) (c .row-open2 .ensures e)
 
 pub long-open-spec : {M : Type 1} → statement M
 long-open-spec =
     tie.close
-    (tie.spec mark-of-requires cast-rate row-open-requires returns row-open-requires-2 returns-2)
+    (tie.spec mark-of-requires scan-rate-requires row-open-requires returns row-open-requires-2 returns-2)

@@ -9,8 +9,8 @@ use Rattle.cover.proofs.long_part_open.Tie as tie
 mark-of-requires : tie.Need-mark-of-requires
 mark-of-requires c κs = search needs
 
-cast-rate : tie.Need-cast-rate
-cast-rate c = search needs
+scan-rate-requires : tie.Need-scan-rate-requires
+scan-rate-requires c κs = search needs
 
 part-open-requires : tie.Need-part-open-requires
 part-open-requires c κs = search needs
@@ -19,7 +19,7 @@ returns : tie.Need-returns
 unfolding soughtMark isBond
 returns c =
     let marked = c .before .before .before .before in
-    λ e. bond-row (marked .before .before .before .before .before .before .args .long) (marked .mark-of .ensures) (c .before .if1 .taken)
+    λ e. bond-row (marked .before .before .before .before .before .before .args .long) (marked .mark-of .ensures) (c .before .before .before .scan-rate .ensures .0) (c .before .if1 .taken)
     (c .part-open .ensures e)
 
 part-open-requires-2 : tie.Need-part-open-requires-2
@@ -29,10 +29,10 @@ returns-2 : tie.Need-returns-2
 unfolding soughtMark isBond
 returns-2 c =
     let marked = c .before .before .before .before in
-    λ e. other-row (marked .before .before .before .before .before .before .args .long) (marked .mark-of .ensures) (c .before .if1 .left)
+    λ e. other-row (marked .before .before .before .before .before .before .args .long) (marked .mark-of .ensures) (c .before .before .before .scan-rate .ensures .0) (c .before .if1 .left)
     (c .part-open2 .ensures e)
 
 pub long-part-open-spec : {M : Type 1} → statement M
 long-part-open-spec =
     tie.close
-    (tie.spec mark-of-requires cast-rate part-open-requires returns part-open-requires-2 returns-2)
+    (tie.spec mark-of-requires scan-rate-requires part-open-requires returns part-open-requires-2 returns-2)

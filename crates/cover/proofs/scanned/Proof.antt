@@ -4,7 +4,7 @@ use mathlib.Core.Logic.{⊎-elim}
 use Prim.Native.Nat.{_-_}
 use native.Mathlib.Omega.{arith}
 use borrow.Author.Needs.{needs}
-use Rattle.cover.proofs.Written.{period-low, rate-low}
+use Rattle.cover.proofs.Written.{rate-low}
 use Rattle.cover.proofs.Filled.{scan-closed}
 use Rattle.cover.proofs.Uncovered.{Closed, closed-none, other-covered, closed-row, closed-more, finds-open, finds-none}
 use Rattle.cover.proofs.scanned.Statement.{statement}
@@ -42,7 +42,7 @@ long-open-requires c κs =
     let turn = c .before .before .before .before .before in
     let leg = c .before .before .before .leg-in .ensures in
     let (priced, shorts) = turn .before .before .before .before .pre in
-    (omega (arith, shorts .few, priced .bounded .few), (rw leg (period-low _), (rate-low _ priced (turn .loop-test .taken) leg, shorts .rates-high)))
+    (omega (arith, shorts .few, priced .bounded .few), (rate-low _ priced (turn .loop-test .taken) leg, shorts .rates-high))
 
 first-open-requires : tie.Need-first-open-requires Inv-loop μ-loop
 first-open-requires c κs = search needs
@@ -72,7 +72,7 @@ loop-again c =
     ⊎-elim
     (λ w. closed-row closed taken (w .4 .ensures) (w .5 .left))
     (⊎-elim
-    (λ w. closed-more closed taken (scan-closed (start .args .legs .now) (start .args .price .now) _ leg (w .1 .ensures) (shorts .all _ _ (w .2 .ensures (w .3 .left)))))
+    (λ w. closed-more closed taken (scan-closed (start .args .legs .now) (start .args .price .now) _ leg (w .1 .ensures) (shorts .all _ _ (rate-low _ (start .pre .0) taken leg) (w .2 .ensures (w .3 .left)))))
     (λ w. closed-more closed taken (λ j _. other-covered (start .args .legs .now) _ _ leg (w .left) j)))
     (c .if1 .came)
 

@@ -3,7 +3,7 @@ use mathlib.Core.Logic.{⊎-elim}
 use Prim.Native.Nat.{_-_}
 use native.Mathlib.Omega.{arith}
 use borrow.Author.Needs.{needs}
-use Rattle.cover.proofs.Written.{period-low, rate-low}
+use Rattle.cover.proofs.Written.{rate-low}
 use Rattle.cover.proofs.Rows.{part-few, part-closed}
 use Rattle.cover.proofs.Uncovered.{Closed, closed-none, other-covered, closed-row, closed-more, finds-open, finds-none}
 use Rattle.cover.proofs.scanned_by_part.Statement.{statement}
@@ -71,7 +71,7 @@ long-part-open-requires c κs =
     let (priced, (parts, shorts)) = turn .before .before .before .before .before .before .before .before .before .pre in
     let few = part-few shorts _ leg priced in
     rw (parts .marks-held, parts .strips-held, parts .rates-held, parts .prices-held)
-    (few, (few, (few, (few, (rw leg (period-low _), (rate-low _ priced (turn .loop-test .taken) leg, λ k h. parts .rates-high k (omega arith)))))))
+    (few, (few, (few, (few, (rate-low _ priced (turn .loop-test .taken) leg, λ k h. parts .rates-high k (omega arith))))))
 
 first-open-requires : tie.Need-first-open-requires Inv-loop μ-loop
 first-open-requires c κs = search needs
@@ -101,7 +101,7 @@ loop-again c =
     ⊎-elim
     (λ w. closed-row closed taken (w .6 .ensures) (w .7 .left))
     (⊎-elim
-    (λ w. closed-more closed taken (part-closed shorts _ leg (w .3 .ensures) (w .4 .ensures (w .5 .left))))
+    (λ w. closed-more closed taken (part-closed shorts _ leg (rate-low _ (start .pre .0) taken leg) (w .3 .ensures) (w .4 .ensures (w .5 .left))))
     (λ w. closed-more closed taken (λ j _. other-covered (start .args .legs .now) _ _ leg (w .left) j)))
     (c .if1 .came)
 

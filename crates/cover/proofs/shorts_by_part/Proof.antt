@@ -8,7 +8,7 @@ use borrow.Author.Needs.{needs}
 use Rattle.article.specs.Pair.{isBond}
 use Rattle.marks.specs.Marks.{shortMark}
 use Rattle.cover.specs.Cover.{partOf}
-use Rattle.cover.proofs.Written.{period-low, rate-low}
+use Rattle.cover.proofs.Written.{rate-low}
 use Rattle.cover.proofs.Parts.{Parting, place-low, parting-none, parting-other, parting-more, parting-all}
 use Rattle.cover.proofs.shorts_by_part.Statement.{statement}
 use Rattle.cover.proofs.shorts_by_part.Tie as tie
@@ -48,7 +48,7 @@ add-k c =
     omega (arith, place-low (turn .before .loop .inv) (c .before .before .before .before .leg-in .ensures) (turn .loop-test .taken))
 
 mark-of-requires : tie.Need-mark-of-requires Inv-loop μ-loop
-mark-of-requires c κs = rw (c .before .before .before .before .before .leg-in .ensures) (period-low _)
+mark-of-requires _ _ = tt
 
 mul-marks : tie.Need-mul-marks Inv-loop μ-loop
 mul-marks c =
@@ -73,10 +73,10 @@ slice-write-strips c =
     let filling = turn .before .loop .inv in
     rw (filling .parts .strips-held) (place-low filling (c .before .before .before .before .before .before .before .leg-in .ensures) (turn .loop-test .taken))
 
-cast-rates : tie.Need-cast-rates Inv-loop μ-loop
-cast-rates c =
-    let turn = c .before .before .before .before .before .before .before .before .before .before in
-    omega (arith, rate-low _ (turn .before .loop .inv .priced) (turn .loop-test .taken) (c .before .before .before .before .before .before .before .before .leg-in .ensures))
+scan-rate-requires : tie.Need-scan-rate-requires Inv-loop μ-loop
+scan-rate-requires c κs =
+    let turn = c .before .before .before .before .before .before .before .before .before in
+    rate-low _ (turn .before .loop .inv .priced) (turn .loop-test .taken) (c .before .before .before .before .before .before .before .leg-in .ensures)
 
 mul-rates : tie.Need-mul-rates Inv-loop μ-loop
 mul-rates c = mul-marks (c .before .before)
@@ -131,7 +131,7 @@ loop-again c =
     let leg = c .before .before .leg-in .ensures in
     elim (c .if1 .came) [
       | inl w ↦ rw (w .8, w .9, w .10, w .11, w .12)
-          (parting-more filling leg (turn .loop-test .taken) refl refl refl (w .4 .ensures) (w .5 .ensures) (w .7 .ensures))
+          (parting-more filling leg (turn .loop-test .taken) refl refl refl (w .4 .ensures) (w .5 .ensures) (w .6 .ensures) (w .7 .ensures))
       | inr w ↦ rw (w .1, w .2, w .3, w .4, w .5) (parting-other filling leg (turn .loop-test .taken) (w .0 .left))
     ]
 
@@ -173,7 +173,7 @@ shorts-by-part-spec =
     strip-mark-requires
     mul-strips
     slice-write-strips
-    cast-rates
+    scan-rate-requires
     mul-rates
     slice-write-rates
     word-requires

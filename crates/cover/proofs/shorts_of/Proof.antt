@@ -6,7 +6,7 @@ use native.Mathlib.Omega.{arith}
 use borrow.Author.Needs.{needs}
 use Rattle.article.specs.Pair.{isBond}
 use Rattle.marks.specs.Marks.{shortMark}
-use Rattle.cover.proofs.Written.{period-low, rate-low}
+use Rattle.cover.proofs.Written.{rate-low}
 use Rattle.cover.proofs.Filled.{Filling, filling-none, filling-other, filling-more, filling-all}
 use Rattle.cover.proofs.shorts_of.Statement.{statement}
 use Rattle.cover.proofs.shorts_of.Tie as tie
@@ -30,7 +30,7 @@ leg-in-requires : tie.Need-leg-in-requires Inv-loop μ-loop
 leg-in-requires _ _ = tt
 
 mark-of-requires : tie.Need-mark-of-requires Inv-loop μ-loop
-mark-of-requires c κs = rw (c .before .before .before .leg-in .ensures) (period-low _)
+mark-of-requires _ _ = tt
 
 mul-marks : tie.Need-mul-marks Inv-loop μ-loop
 mul-marks c = search needs
@@ -47,11 +47,11 @@ mul-strips c = mul-marks (c .before)
 element-write-strips : tie.Need-element-write-strips Inv-loop μ-loop
 element-write-strips c = element-write-marks (c .before)
 
-cast-rates : tie.Need-cast-rates Inv-loop μ-loop
-cast-rates c =
-    let turn = c .before .before .before .before .before .before .before .before in
+scan-rate-requires : tie.Need-scan-rate-requires Inv-loop μ-loop
+scan-rate-requires c κs =
+    let turn = c .before .before .before .before .before .before .before in
     let start = turn .before .before .before .before in
-    omega (arith, rate-low _ (start .pre .0) (turn .loop-test .taken) (c .before .before .before .before .before .before .leg-in .ensures))
+    rate-low _ (start .pre .0) (turn .loop-test .taken) (c .before .before .before .before .before .leg-in .ensures)
 
 mul-rates : tie.Need-mul-rates Inv-loop μ-loop
 mul-rates c = mul-marks (c .before .before)
@@ -91,7 +91,7 @@ loop-again c =
     let leg = c .before .before .leg-in .ensures in
     let priced = turn .before .before .before .before .pre .0 in
     elim (c .if1 .came) [
-      | inl w ↦ rw (w .6, w .7, w .8, w .9, w .10) (filling-more filling leg (turn .loop-test .taken) priced (w .2 .ensures) (w .3 .ensures) (w .5 .ensures))
+      | inl w ↦ rw (w .6, w .7, w .8, w .9, w .10) (filling-more filling leg (turn .loop-test .taken) priced (w .2 .ensures) (w .3 .ensures) (w .4 .ensures) (w .5 .ensures))
       | inr w ↦ rw (w .1, w .2, w .3, w .4, w .5) (filling-other filling leg (turn .loop-test .taken) (w .0 .left))
     ]
 
@@ -114,7 +114,7 @@ shorts-of-spec =
     strip-mark-requires
     mul-strips
     element-write-strips
-    cast-rates
+    scan-rate-requires
     mul-rates
     element-write-rates
     word-requires
