@@ -200,30 +200,16 @@ pub extern "C" fn margin_read(
     )
 }
 
-// Writes the LEIs of a file's corporations, for the host: 20 bytes each, in the order of their numbers from 100. Returns the refusal number, 0 for none. The
-// tables are those of `margin_read`, and nothing is presumed either.
+// Writes the LEIs of a file's corporations, for the host: 20 bytes each, in the order of their numbers from 100. Returns the refusal number, 0 for none.
+// Nothing is presumed of the text, the bytes or the lengths.
 #[no_mangle]
 pub extern "C" fn margin_leis(text: &[u8], leis: &mut [u8], answer: &mut [u8]) -> u64
     ensures { λ r. ⌜ Names (now (text .entry)) (now (leis .entry)) (now (leis .exit)) (now (answer .entry)) (now (answer .exit)) r ⌝ }
 {
-    let mut high = lists::zeros();
-    let mut low = lists::zeros();
-    if text.len() <= 64 {
-        let mut book = [0u8; 512 * (csv::FIELDS - 1)];
-        let mut lines = [0u8; 512 * 3];
-        return received::leis_into(
-            text,
-            64,
-            &mut book,
-            &mut lines,
-            &mut high,
-            &mut low,
-            leis,
-            answer,
-        );
-    }
     let mut book = [0u8; 4096 * (csv::FIELDS - 1)];
     let mut lines = [0u8; 4096 * 3];
+    let mut high = lists::zeros();
+    let mut low = lists::zeros();
     received::leis_into(
         text,
         512,

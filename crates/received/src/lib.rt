@@ -133,7 +133,10 @@ pub fn leis_into(
 {
     let contents = reader::read(text, rows, book, lines, high, low);
     match contents {
-        Contents::Refused { number, place } => lent::put_answer(number, place, 0, answer),
+        Contents::Refused {
+            number,
+            place: record,
+        } => lent::put_answer(number, record, 0, answer),
         Contents::Read {
             head: _,
             holdings: _,

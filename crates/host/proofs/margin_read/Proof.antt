@@ -1,4 +1,4 @@
--- `margin_read` makes tables for the records, and reads a text into what is lent. Assumes nothing.
+-- `margin_read` makes tables for the records and lists for the LEIs, and reads a text into what is lent. Assumes nothing.
 use mathlib.Core.Path.{refl}
 use native.Mathlib.Omega.{arith}
 use borrow.Author.Needs.{needs}
@@ -6,27 +6,30 @@ use Rattle.host.proofs.margin_read.Statement.{statement}
 use Rattle.host.proofs.margin_read.Tie as tie
 
 -- from the end of each way back to where the text was read
-abbrev read-small : tie.After-slice-known24 → tie.After-read-into
+abbrev read-small : tie.After-slice-known26 → tie.After-read-into
 read-small c =
-    let half = c .before .before .before .before .before .before .before .before .before .before .before .before .before in
-    half .before .before .before .before .before .before .before .before .before .before .before .before .before
+    let half = c .before .before .before .before .before .before .before .before .before .before .before .before .before .before .before in
+    half .before .before .before .before .before .before .before .before .before .before .before .before .before .before .before
 
-abbrev read-large : tie.After-slice-known36 → tie.After-read-into2
+abbrev read-large : tie.After-slice-known39 → tie.After-read-into2
 read-large c =
-    let half = c .before .before .before .before .before .before .before .before .before .before .before .before .before in
-    half .before .before .before .before .before .before .before .before .before .before .before .before .before
+    let half = c .before .before .before .before .before .before .before .before .before .before .before .before .before .before .before in
+    half .before .before .before .before .before .before .before .before .before .before .before .before .before .before .before
 
 -- up to 64 bytes are up to 64 records
 pub margin-read-spec : {M : Type 1} → statement M
 margin-read-spec =
     tie.close
     (tie.spec
+    (λ c κs. search needs)
+    (λ c κs. search needs)
+    (λ c. search needs)
+    (λ c. search needs)
     (λ c. search needs)
     (λ c. search needs)
     (λ c κs.
-    record { whole-book = refl; whole-lines = refl; enough = λ _. c .before .before .before .before .before .before .before .before .before .before .before .before .before .before .if1 .taken })
-    (λ c. read-small c .read-into .kept .1 .1 .1 .1 .0)
-    (λ c. read-small c .read-into .kept .1 .1 .1 .1 .1 .0)
+    let small = c .before .before .before .before .before .before .before .before .before .before .before .before .before .before .before .before .before in
+    record { whole-book = refl; whole-lines = refl; enough = λ _. small .if1 .taken; room-high = search needs; room-low = search needs })
     (λ c. read-small c .read-into .kept .1 .1 .1 .1 .1 .1 .0)
     (λ c. read-small c .read-into .kept .1 .1 .1 .1 .1 .1 .1 .0)
     (λ c. read-small c .read-into .kept .1 .1 .1 .1 .1 .1 .1 .1 .0)
@@ -37,12 +40,15 @@ margin-read-spec =
     (λ c. read-small c .read-into .kept .1 .1 .1 .1 .1 .1 .1 .1 .1 .1 .1 .1 .1 .0)
     (λ c. read-small c .read-into .kept .1 .1 .1 .1 .1 .1 .1 .1 .1 .1 .1 .1 .1 .1 .0)
     (λ c. read-small c .read-into .kept .1 .1 .1 .1 .1 .1 .1 .1 .1 .1 .1 .1 .1 .1 .1 .0)
+    (λ c. read-small c .read-into .kept .1 .1 .1 .1 .1 .1 .1 .1 .1 .1 .1 .1 .1 .1 .1 .1 .0)
+    (λ c. read-small c .read-into .kept .1 .1 .1 .1 .1 .1 .1 .1 .1 .1 .1 .1 .1 .1 .1 .1 .1 .0)
+    (λ c. read-small c .read-into .kept .1 .1 .1 .1 .1 .1 .1 .1 .1 .1 .1 .1 .1 .1 .1 .1 .1 .1 .0)
     (λ c. read-small c .read-into .ensures)
     (λ c. search needs)
     (λ c. search needs)
-    (λ c κs. record { whole-book = refl; whole-lines = refl; enough = λ h. omega arith })
-    (λ c. read-large c .read-into2 .kept .1 .1 .1 .1 .0)
-    (λ c. read-large c .read-into2 .kept .1 .1 .1 .1 .1 .0)
+    (λ c. search needs)
+    (λ c. search needs)
+    (λ c κs. record { whole-book = refl; whole-lines = refl; enough = λ h. omega arith; room-high = search needs; room-low = search needs })
     (λ c. read-large c .read-into2 .kept .1 .1 .1 .1 .1 .1 .0)
     (λ c. read-large c .read-into2 .kept .1 .1 .1 .1 .1 .1 .1 .0)
     (λ c. read-large c .read-into2 .kept .1 .1 .1 .1 .1 .1 .1 .1 .0)
@@ -53,4 +59,7 @@ margin-read-spec =
     (λ c. read-large c .read-into2 .kept .1 .1 .1 .1 .1 .1 .1 .1 .1 .1 .1 .1 .1 .0)
     (λ c. read-large c .read-into2 .kept .1 .1 .1 .1 .1 .1 .1 .1 .1 .1 .1 .1 .1 .1 .0)
     (λ c. read-large c .read-into2 .kept .1 .1 .1 .1 .1 .1 .1 .1 .1 .1 .1 .1 .1 .1 .1 .0)
+    (λ c. read-large c .read-into2 .kept .1 .1 .1 .1 .1 .1 .1 .1 .1 .1 .1 .1 .1 .1 .1 .1 .0)
+    (λ c. read-large c .read-into2 .kept .1 .1 .1 .1 .1 .1 .1 .1 .1 .1 .1 .1 .1 .1 .1 .1 .1 .0)
+    (λ c. read-large c .read-into2 .kept .1 .1 .1 .1 .1 .1 .1 .1 .1 .1 .1 .1 .1 .1 .1 .1 .1 .1 .0)
     (λ c. read-large c .read-into2 .ensures))
