@@ -25,7 +25,7 @@ use Rattle.csv.specs.Reading.{formed}
 use Rattle.layout.specs.Layout.{byPlace, valueOf, letters, Meaning, good, refused, parse}
 use Rattle.layout.specs.declared.Sort.{Sort}
 use Rattle.layout.specs.declared.Value.{Value}
-use Rattle.layout.specs.declared.Value.the-variants.{Of, Wrong}
+use Rattle.layout.specs.declared.Value.the-variants.{Of, Refused}
 use Rattle.columns.specs.Columns.{Columns, makeColumns, submission, column, filled}
 use Rattle.lent.specs.Boundary.{makeLent, answered, outcomeOf}
 use Rattle.reader.specs.File.{submissionOf, atRecord}
@@ -93,7 +93,7 @@ line long short amount = record { long = long; short = short; amount = amount }
 -- a value, or none
 abbrev valued : Value → List ℕ
 valued (Of n) = n ∷ []
-valued Wrong = []
+valued (Refused n) = []
 
 -- 1 for yes, 0 for no
 abbrev flag : Bool → ℕ
@@ -217,14 +217,14 @@ encodes name numbers bytes = record { name = name; computed = encode numbers; st
 abbrev zeros : ℕ → List ℕ
 zeros n = replicate n 0
 
--- columns of so many zero bytes each: six of holdings, the prices, three of lines
+-- columns of so many zero bytes each: seven of holdings, the prices, three of lines
 abbrev blank : List ℕ → Columns
-blank z = makeColumns (map zeros (take 6 z)) (zeros (getD z 6 0)) (map zeros (take 3 (drop 7 z)))
+blank z = makeColumns (map zeros (take 7 z)) (zeros (getD z 7 0)) (map zeros (take 3 (drop 8 z)))
 
--- the one number that the check gives to each of several lengths of what a host lends: of ten columns, the two lists and the answer
+-- the one number that the check gives to each of several lengths of what a host lends: of eleven columns, the two lists and the answer
 abbrev pub lengths-on : ℕ → String → List (List ℕ) → ℕ → Case
 lengths-on date name zs n =
-    let found : List ℕ → ℕ = λ z. outcomeOf (head date) (blank z) (makeLent (zeros (getD z 10 0)) (zeros (getD z 11 0)) (zeros (getD z 12 0))) .number in
+    let found : List ℕ → ℕ = λ z. outcomeOf (head date) (blank z) (makeLent (zeros (getD z 11 0)) (zeros (getD z 12 0)) (zeros (getD z 13 0))) .number in
     record { name = name; computed = map found zs; stated = map (λ _. n) zs }
 
 abbrev pub lengths : String → List (List ℕ) → ℕ → Case
@@ -234,7 +234,7 @@ lengths = lengths-on new-year
 abbrev old : Columns
 old =
     let two = encode (0 ∷ 11 ∷ []) in
-    makeColumns (replicate 6 two) two (replicate 3 two)
+    makeColumns (replicate 7 two) two (replicate 3 two)
 
 abbrev held : Columns → List ℕ
 held c = flatMap decode (c .holdings ++ (c .price ∷ c .lines))
@@ -243,7 +243,7 @@ held c = flatMap decode (c .holdings ++ (c .price ∷ c .lines))
 abbrev pub columns : String → List Row → List ℕ → List Line → List ℕ → Case
 columns name rows prices lines expected =
     let c = filled (record { head = head new-year; rows = rows; prices = prices; lines = lines }) old in
-    let numbers : Submission → List ℕ = λ s. flatMap (λ r. r .side ∷ r .kind ∷ r .issuer ∷ r .maturity ∷ r .value ∷ r .currency ∷ []) (s .rows) in
+    let numbers : Submission → List ℕ = λ s. flatMap (λ r. r .side ∷ r .kind ∷ r .issuer ∷ r .maturity ∷ r .value ∷ r .currency ∷ r .rating ∷ []) (s .rows) in
     let named : Submission → List ℕ = λ s. numbers s ++ s .prices ++ flatMap (λ l. l .long ∷ l .short ∷ l .amount ∷ []) (s .lines) ++ (s .head .date ∷ []) in
     record { name = name; computed = held c ++ named (submission (head 12) c); stated = expected }
 
@@ -267,22 +267,28 @@ answers name sizes text list slice expected = record {
   stated = flatMap (λ _. expected) sizes;
 }
 
--- a D with its date, and the D of document 01's cases; an H in a currency, an H in CAD, and a P by the other fields that are filled: the empty ones
--- follow, and CRLF
+-- a D with its date, and the D of document 01's cases; an H of a currency and a rating, one of a currency, one in CAD, and a corporation's in CAD by its rating; and a P, by
+-- the other fields that are filled: the empty ones follow, and CRLF
 abbrev pub D-of : String → List ℕ
-D-of date = ascii "D," ++ ascii date ++ ascii ",,,,,,\r\n"
+D-of date = ascii "D," ++ ascii date ++ ascii ",,,,,,,\r\n"
 
 abbrev pub D : List ℕ
 D = D-of "2025-01-01"
 
 abbrev pub emptyFields : List ℕ
-emptyFields = ascii ",,,,"
+emptyFields = ascii ",,,,,"
+
+abbrev pub H-by : String → String → String → List ℕ
+H-by currency rating filled = ascii "H," ++ ascii filled ++ ascii "," ++ ascii currency ++ ascii "," ++ ascii rating ++ ascii "\r\n"
 
 abbrev pub H-in : String → String → List ℕ
-H-in currency filled = ascii "H," ++ ascii filled ++ ascii "," ++ ascii currency ++ ascii "\r\n"
+H-in currency filled = H-by currency "" filled
 
 abbrev pub H : String → List ℕ
 H filled = H-in "CAD" filled
+
+abbrev pub H-rated : String → String → List ℕ
+H-rated rating filled = H-by "CAD" rating filled
 
 abbrev pub P : String → List ℕ
 P filled = ascii "P," ++ ascii filled ++ emptyFields ++ ascii "\r\n"
@@ -291,12 +297,26 @@ P filled = ascii "P," ++ ascii filled ++ emptyFields ++ ascii "\r\n"
 abbrev pub unended : List ℕ → List ℕ
 unended text = take (length text - 2) text
 
--- side, kind, issuer, maturity, value, in CAD; and the same in another currency
+-- side, kind, issuer, maturity, value, currency, rating; a row in CAD without a rating; and the same in another currency, and of a rating
+abbrev whole : ℕ → ℕ → ℕ → ℕ → ℕ → ℕ → ℕ → Row
+whole side kind issuer maturity value currency rating = record {
+  side = side;
+  kind = kind;
+  issuer = issuer;
+  maturity = maturity;
+  value = value;
+  currency = currency;
+  rating = rating;
+}
+
 abbrev pub row : ℕ → ℕ → ℕ → ℕ → ℕ → Row
-row side kind issuer maturity value = record { side = side; kind = kind; issuer = issuer; maturity = maturity; value = value; currency = 0 }
+row side kind issuer maturity value = whole side kind issuer maturity value 0 2
 
 abbrev pub of : ℕ → Row → Row
-of currency r = record { side = r .side; kind = r .kind; issuer = r .issuer; maturity = r .maturity; value = r .value; currency = currency }
+of currency r = whole (r .side) (r .kind) (r .issuer) (r .maturity) (r .value) currency (r .rating)
+
+abbrev pub rated : ℕ → Row → Row
+rated rating r = whole (r .side) (r .kind) (r .issuer) (r .maturity) (r .value) (r .currency) rating
 
 -- the letters and codes of the file's fields
 abbrev pub L : ℕ

@@ -14,9 +14,10 @@ use Rattle.dates.specs.Calendar.{isLeap, leapDay, monthLengths, monthLength, is
 use Rattle.dates.specs.Text.{digitsOf, dateText, textNumber, readDate}
 use Rattle.holding.specs.Holding as row
 use Rattle.holding.specs.Holding.{headNumbers, headFaults, headFault, accountOf, outOfTerm, identityFaults, termFaults, worthFaults, moneyFaults, rowFaults, faultOf, holdingOf}
-use Rattle.holding.specs.Holding.{sideOf, kindOf, issuerOf, currencyOf, rowOf}
+use Rattle.holding.specs.Holding.{isCorporation, isIssuer, isRated, sideOf, kindOf, issuerOf, currencyOf, ratingOf, rowOf}
 use Rattle.rates.specs.Rate.{longerThan, atLeast, periodOf, percents, flatRate, bondRate, stripRate, kindRate, rateAt, rateOf}
 use Rattle.article.specs.Pair.{legOf, isLong, isShort, isBond, isStrip, isCanada, isProvince, isUs, isGb, inCad, inUsd, inGbp, kindsPair, sameClass, mixedClass, classRule}
+use Rattle.article.specs.Pair.{isCorporate, isSingleA, ratedBond, corporateRule, cadRule}
 use Rattle.article.specs.Pair.{domesticRule, oneBond, sameGovernment, foreignRule, bothCad, sameForeign, ruleOf, ruleRate, allowed, pairRateOf, savingRateOf, pairOf}
 use Rattle.pairing.specs.Pairing as theory
 use Rattle.pairing.specs.Pairing.{used, saving, pairUnits, pricedTotal}
@@ -29,8 +30,12 @@ use Rattle.codes.specs.Codes.{placeFrom, placeOf}
 use Rattle.csv.specs.Grammar.{isText, isQuotable}
 use Rattle.csv.specs.Reading.{part, textFrom, textEnd, closeFrom, closeAt, followedBy, followed, begins, opens, enclosed}
 use Rattle.csv.specs.Reading.{fieldAt, fieldsFrom, recordAt, recordsFrom, recordsAt, recordsOf}
-use Rattle.layout.specs.Layout.{valueOf, valuesOf, parsedOf, parse}
-use Rattle.reader.specs.File.{parsedIn, valuesBy, submissionOf, atRecord, fileFaults, fileFault, readAnswer}
+use Rattle.lei.specs.Lei as lei
+use Rattle.lei.specs.Lei.{isDigit, isCapital, isCharacter, inForm, halfOf, leiOf, judgedOf, characterOf, characters, leiText}
+use Rattle.lei.specs.Numbering.{sameLei, firstPlace, enter}
+use Rattle.layout.specs.Layout.{valueOf, valuesOf, misrated, parsedOf, parse}
+use Rattle.reader.specs.File.{parsedIn, valuesBy, issuerNumber, knownAfter, numberedFrom, leisFrom, holdingsOf, leisOf, submissionOf}
+use Rattle.reader.specs.File.{atRecord, fileFaults, fileFault, answerTo, readAnswer}
 use Rattle.columns.specs.Columns.{countIn, numbersAt, rowsIn, linesIn, submission, holdingSizes, lineSizes, listsOf, column, filledFrom, filled}
 use Rattle.sizes.specs.Sizes.{entriesOf, unequal, differ, tooShort}
 use Rattle.verdict.specs.Judges.{outcomeIn}
@@ -86,7 +91,9 @@ unfolding
     faults accepted outcome lead digits valueFrom numeralOf placeFrom placeOf isText isQuotable part textFrom textEnd closeFrom closeAt followedBy followed begins
     opens enclosed fieldAt fieldsFrom recordAt recordsFrom recordsAt recordsOf valueOf valuesOf parsedOf parse parsedIn valuesBy submissionOf atRecord fileFaults
     fileFault afterComma lineOf answerNumbers refusalLine marginLine remainderLine printedLines bookLine printedOf fileAnswer printed flatMap number littleEndian
-    wordAt entries decode encode
+    wordAt entries decode encode isCorporation isIssuer isRated ratingOf isCorporate isSingleA ratedBond corporateRule cadRule isDigit isCapital isCharacter inForm
+    lei.valueOf lei.digitsOf lei.number lei.remainder halfOf leiOf judgedOf characterOf characters leiText sameLei firstPlace enter misrated issuerNumber knownAfter
+    numberedFrom leisFrom holdingsOf leisOf answerTo
 none-fails =
     let b : NoneFails dates = (refl, (refl, (refl, (refl, (refl, (refl, (refl, (refl, (refl, (refl, (refl, (refl, (refl, tt))))))))))))) in
     let a : NoneFails currencies = (refl, (refl, (refl, (refl, (refl, (refl, (refl, (refl, (refl, (refl, (refl, (refl, b)))))))))))) in

@@ -181,6 +181,6 @@ eighthField =
     ∷ prints "a currency by its number" (D ++ H-in "0" "L,B,CA,2025-01-02,1,0") "X,21,1,0\r\n"
     ∷ prints "an H of seven fields" (D ++ ascii "H,L,B,CA,2025-01-02,1,0\r\n") "X,20,1,0\r\n"
     ∷ prints "a P of seven fields" (D ++ ascii "P,0,0,1,,,\r\n") "X,20,1,0\r\n"
-    ∷ prints "a P with its eighth field filled" (D ++ unended (P "0,0,1") ++ ascii "CAD\r\n") "X,21,1,0\r\n"
+    ∷ prints "a P with its eighth field filled" (D ++ ascii "P,0,0,1,,,,CAD,\r\n") "X,21,1,0\r\n"
     ∷ prints "an unknown currency before H after P" (D ++ P "0,0,1" ++ H-in "EUR" "L,B,CA,2025-01-02,1,0") "X,21,2,0\r\n"
     ∷ []
