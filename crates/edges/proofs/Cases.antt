@@ -28,7 +28,9 @@ use Rattle.layout.specs.declared.Value.{Value}
 use Rattle.layout.specs.declared.Value.the-variants.{Of, Refused}
 use Rattle.columns.specs.Columns.{Columns, makeColumns, submission, column, filled}
 use Rattle.lent.specs.Boundary.{makeLent, answered, outcomeOf}
-use Rattle.reader.specs.File.{submissionOf, atRecord}
+use Rattle.lei.specs.Lei as lei
+use Rattle.lei.specs.Lei.{leiOf, leiText}
+use Rattle.reader.specs.File.{submissionOf, submissionIn, leisIn, fileFault, atRecord}
 use Rattle.received.specs.Reading.{readingAnswer, filling, heading}
 use Rattle.report.specs.Report.{answerNumbers}
 use Rattle.printing.specs.Printed.{printed}
@@ -90,10 +92,14 @@ worked rows lines =
 abbrev pub line : ℕ → ℕ → ℕ → Line
 line long short amount = record { long = long; short = short; amount = amount }
 
--- a value, or none
+-- a value, or none; and its refusal, or none
 abbrev valued : Value → List ℕ
 valued (Of n) = n ∷ []
 valued (Refused n) = []
+
+abbrev unfit : Value → List ℕ
+unfit (Of n) = []
+unfit (Refused n) = n ∷ []
 
 -- 1 for yes, 0 for no
 abbrev flag : Bool → ℕ
@@ -182,6 +188,38 @@ submitted name parsed date = record { name = name; computed = submissionOf parse
 abbrev pub code : String → Sort → List String → List ℕ → Case
 code name sort texts expected = record { name = name; computed = flatMap (λ text. valued (valueOf sort (ascii text))) texts; stated = expected }
 
+-- the refusals of texts that are no values of a sort
+abbrev pub refuses : String → Sort → List String → List ℕ → Case
+refuses name sort texts expected = record { name = name; computed = flatMap (λ text. unfit (valueOf sort (ascii text))) texts; stated = expected }
+
+-- the remainders of texts by 97; the two numbers of each, and the texts that they write; and the text of two numbers
+abbrev pub remainders : String → List String → List ℕ → Case
+remainders name texts expected = record { name = name; computed = map (λ text. lei.remainder (ascii text)) texts; stated = expected }
+
+abbrev pub keys : String → List String → List (ℕ × ℕ) → Case
+keys name texts expected = record {
+  name = name;
+  computed = flatMap (λ text. leiOf (ascii text) .0 ∷ leiOf (ascii text) .1 ∷ []) texts;
+  stated = flatMap (λ k. k .0 ∷ k .1 ∷ []) expected;
+}
+
+abbrev pub writes : String → List (ℕ × ℕ) → List String → Case
+writes name numbers texts = record { name = name; computed = flatMap leiText numbers; stated = flatMap ascii texts }
+
+-- the issuer and the rating of each holding that parsed records submit, and that a text does; and the LEIs of its corporations
+abbrev issuersIn : Submission → List ℕ
+issuersIn s = flatMap (λ r. r .issuer ∷ r .rating ∷ []) (s .rows)
+
+abbrev pub parsedIssuers : String → List Meaning → List ℕ → Case
+parsedIssuers name parsed expected = record { name = name; computed = issuersIn (submissionOf parsed); stated = expected }
+
+abbrev pub issued : String → List ℕ → List ℕ → List String → Case
+issued name text expected texts = record {
+  name = name;
+  computed = answerNumbers (fileFault text) ++ issuersIn (submissionIn text) ++ flatMap leiText (leisIn text);
+  stated = (0 ∷ 0 ∷ 0 ∷ []) ++ expected ++ flatMap ascii texts;
+}
+
 -- how many texts there are of each of several lists
 abbrev pub lists : String → List (List (List ℕ)) → List ℕ → Case
 lists name texts expected = record { name = name; computed = map length texts; stated = expected }
@@ -191,8 +229,20 @@ abbrev refusedAs : Meaning → List ℕ
 refusedAs (refused n) = n ∷ []
 refusedAs (good letter vs) = []
 
+-- the number and the values of a good record, and the number of a refused one
+abbrev meaningNumbers : Meaning → List ℕ
+meaningNumbers (refused n) = n ∷ []
+meaningNumbers (good letter vs) = letter ∷ vs
+
+abbrev pub meanings : String → List (List String) → List ℕ → Case
+meanings name rs expected = record { name = name; computed = flatMap (λ r. meaningNumbers (parse (formed (map ascii r)))) rs; stated = expected }
+
 abbrev pub records : String → List (List (List ℕ)) → ℕ → Case
 records name rs n = record { name = name; computed = flatMap (λ r. refusedAs (parse (formed r))) rs; stated = map (λ _. n) rs }
+
+-- the one refusal of an H with each of several issuers, ratings or other fields
+abbrev pub holdingRecords : String → List (List String) → ℕ → Case
+holdingRecords name texts n = records name (map (λ fields. map ascii ("H" ∷ fields)) texts) n
 
 abbrev pub fields : String → List String → List ℕ → ℕ → Case
 fields name letters counts n = records name (flatMap (λ text. map (λ more. ascii text ∷ replicate more []) counts) letters) n
@@ -357,6 +407,15 @@ USD = 1
 
 abbrev pub GBP : ℕ
 GBP = 2
+
+abbrev pub Y : ℕ
+Y = 0
+
+abbrev pub N : ℕ
+N = 1
+
+abbrev pub none : ℕ
+none = 2
 
 -- the file's book, and its lines by the first amount
 abbrev pub file : List Row

@@ -51,13 +51,22 @@ use Rattle.edges.proofs.Foreign.{governments, longBonds, longStrips, no
 use Rattle.edges.proofs.Foreign.{foreignBooks, foreignFile, eighthField}
 use Rattle.edges.proofs.Dated.{actualDays, anniversaries, twentyYears, periodEnds, otherEnds, maturities, valuations, dateTexts, valuationRecord, datedFiles, headAnswers}
 use Rattle.edges.proofs.Dated.{headList, headKept}
+use Rattle.edges.proofs.Corporate.{groupFive, hedges, capped, hedgeEnds, ratedLower, sameKinds, twoCorporations, corporationAndCanada, corporationAndProvince}
+use Rattle.edges.proofs.Corporate.{corporationAbroad, corporationInUsd, corporationInGbp, corporatePeriods, ratingFaults, ratingPlaces, threeParagraphs, withoutParagraph3, corporateBooks, corporateUnpaired, leis}
+use Rattle.edges.proofs.Corporate.{leiTexts, recordValues, misratedRecords, firstAppearance, mostCorporations, numberedFile, alikeInHalf, corporateColumns, corporateFiles, corporateFile, ninthField, nineFields}
 
--- the table: document 01's cases, the starred first, then those of document 02 a) and of b). Most groups are as small as the prover computes when it names
+-- the table: document 01's cases, the starred first, then those of document 02 a), of b) and of d). Most groups are as small as the prover computes when it names
 -- a case that fails; of the others it names the group
+abbrev pub corporations : List (List Case)
+corporations =
+    groupFive ∷ hedges ∷ capped ∷ hedgeEnds ∷ ratedLower ∷ sameKinds ∷ twoCorporations ∷ corporationAndCanada ∷ corporationAndProvince ∷ corporationAbroad ∷ corporationInUsd
+    ∷ corporationInGbp ∷ corporatePeriods ∷ ratingFaults ∷ ratingPlaces ∷ threeParagraphs ∷ withoutParagraph3 ∷ corporateBooks ∷ corporateUnpaired ∷ leis
+    ∷ leiTexts ∷ recordValues ∷ misratedRecords ∷ firstAppearance ∷ mostCorporations ∷ numberedFile ∷ alikeInHalf ∷ corporateColumns ∷ corporateFiles ∷ corporateFile ∷ ninthField ∷ nineFields ∷ []
+
 abbrev pub dates : List (List Case)
 dates =
     actualDays ∷ anniversaries ∷ twentyYears ∷ periodEnds ∷ otherEnds ∷ maturities ∷ valuations ∷ dateTexts ∷ valuationRecord ∷ datedFiles
-    ∷ headAnswers ∷ headList ∷ headKept ∷ []
+    ∷ headAnswers ∷ headList ∷ headKept ∷ corporations
 
 abbrev pub currencies : List (List Case)
 currencies =
@@ -93,9 +102,12 @@ unfolding
     fileFault afterComma lineOf answerNumbers refusalLine marginLine remainderLine printedLines bookLine printedOf fileAnswer printed flatMap number littleEndian
     wordAt entries decode encode isCorporation isIssuer isRated ratingOf isCorporate isSingleA ratedBond corporateRule cadRule isDigit isCapital isCharacter inForm
     lei.valueOf lei.digitsOf lei.number lei.remainder halfOf leiOf judgedOf characterOf characters leiText sameLei firstPlace enter misrated issuerNumber knownAfter
-    numberedFrom leisFrom holdingsOf leisOf answerTo
+    numberedFrom leisFrom holdingsOf leisOf answerTo groupFive hedges capped hedgeEnds ratedLower sameKinds twoCorporations
+    corporationAndCanada corporationAndProvince corporationAbroad corporationInUsd corporationInGbp corporatePeriods ratingFaults ratingPlaces threeParagraphs
+    withoutParagraph3 corporateBooks corporateUnpaired leis leiTexts recordValues misratedRecords firstAppearance mostCorporations numberedFile alikeInHalf corporateColumns corporateFiles corporateFile ninthField nineFields
 none-fails =
-    let b : NoneFails dates = (refl, (refl, (refl, (refl, (refl, (refl, (refl, (refl, (refl, (refl, (refl, (refl, (refl, tt))))))))))))) in
+    let c : NoneFails corporations = (refl, (refl, (refl, (refl, (refl, (refl, (refl, (refl, (refl, (refl, (refl, (refl, (refl, (refl, (refl, (refl, (refl, (refl, (refl, (refl, (refl, (refl, (refl, (refl, (refl, (refl, (refl, (refl, (refl, (refl, (refl, (refl, tt)))))))))))))))))))))))))))))))) in
+    let b : NoneFails dates = (refl, (refl, (refl, (refl, (refl, (refl, (refl, (refl, (refl, (refl, (refl, (refl, (refl, c))))))))))))) in
     let a : NoneFails currencies = (refl, (refl, (refl, (refl, (refl, (refl, (refl, (refl, (refl, (refl, (refl, (refl, b)))))))))))) in
     (refl, (refl, (refl, (refl, (refl, (refl, (refl, (refl, (refl, (refl, (refl, (refl, (refl, (refl, (refl, (refl, (refl, (refl, (refl, (refl, (refl, (refl, (refl, a)))))))))))))))))))))))
 
