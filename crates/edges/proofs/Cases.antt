@@ -7,10 +7,10 @@ use Prim.Native.Nat.{ℕ, _-_, _*_}
 use Prim.Native.String.{String}
 use lib.Dec.{eqb}
 use lib.ListN.{length, getD, take, drop, replicate}
-use Rattle.lists.specs.Tables.{ascii}
+use Rattle.lists.specs.Tables.{ascii, front}
 use Rattle.lists.specs.Choice.{same, firstOf}
 use Rattle.words.specs.Words.{decode, encode}
-use Rattle.holding.specs.Holding.{headFault, accountOf, faultOf, holdingOf}
+use Rattle.holding.specs.Holding.{headFault, accountOf, numbersOf, faultOf, holdingOf, rowOf}
 use Rattle.holding.specs.declared.Head.{Head}
 use Rattle.holding.specs.declared.Row.{Row}
 use Rattle.rates.specs.Rate.{rateOf}
@@ -32,6 +32,7 @@ use Rattle.lei.specs.Lei as lei
 use Rattle.lei.specs.Lei.{leiOf, leiText}
 use Rattle.reader.specs.File.{submissionOf, submissionIn, leisIn, fileFault, atRecord}
 use Rattle.received.specs.Reading.{readingAnswer, filling, heading}
+use Rattle.received.specs.Naming.{namingAnswer, naming}
 use Rattle.report.specs.Report.{answerNumbers}
 use Rattle.printing.specs.Printed.{printed}
 
@@ -124,6 +125,10 @@ faults-on date name rows expected = record { name = name; computed = flatMap (al
 
 abbrev pub faults : String → List Row → List ℕ → Case
 faults = faults-on new-year
+
+-- the records of several rows have their numbers
+abbrev pub kept : String → List Row → Case
+kept name rows = record { name = name; computed = flatMap (λ r. numbersOf (rowOf (holdingOf r))) rows; stated = flatMap numbersOf rows }
 
 -- the faults of several valuation dates, 0 for none
 abbrev pub dates : String → List ℕ → List ℕ → Case
@@ -303,6 +308,14 @@ received name text list slice expected = record {
   name = name;
   computed = column (heading text list old (zeros slice)) list ++ held (filled (filling text list old (zeros slice)) old);
   stated = expected;
+}
+
+-- what is answered of a text whose LEIs are asked for, with a list and an answer slice of so many bytes, and what it leaves in the list, which held nines
+abbrev pub names : String → List ℕ → ℕ → ℕ → List ℕ → List ℕ → Case
+names name text list slice expected bytes = record {
+  name = name;
+  computed = answerNumbers (namingAnswer text (replicate list 9) (zeros slice)) ++ front (naming text (replicate list 9) (zeros slice)) (replicate list 9);
+  stated = expected ++ bytes;
 }
 
 -- an answer slice after 16 at long 1 and short 2 was put into it

@@ -9,8 +9,8 @@ use Rattle.holding.specs.declared.Row.{Row}
 use Rattle.pairing.specs.declared.Line.{Line}
 use Rattle.layout.specs.Layout.{Meaning, good, refused}
 use Rattle.layout.specs.declared.Sort.the-variants.{Issuer, Rating}
-use Rattle.edges.proofs.Cases.{Case, rates, rates-on, fault, faults, pair, pairs, pairs-on, no-pair, no-pairs, proposal, prints, record-at, code, refuses, records}
-use Rattle.edges.proofs.Cases.{remainders, keys, writes, meanings, parsedIssuers, issued, holdingRecords, received, D, H, H-by, H-in, H-rated, P, unended, new-year}
+use Rattle.edges.proofs.Cases.{Case, rates, rates-on, fault, faults, kept, pairs, no-pair, no-pairs, proposal, prints, record-at, code, refuses, records}
+use Rattle.edges.proofs.Cases.{remainders, keys, writes, meanings, parsedIssuers, issued, holdingRecords, received, names, D, H, H-by, H-rated, P, unended, new-year}
 use Rattle.edges.proofs.Cases.{line, row, of, rated, L, S, B, C, R, CA, ON, US, GB, CAD, USD, GBP, Y, N, none, file, file-lines}
 
 -- three corporations by their numbers: the first, the second, the last
@@ -63,16 +63,24 @@ unfoldable pub hedges : List Case
 hedges =
     pairs "bond and strip of a corporation, period 1" (hedge K1 20250102 20250102) 6570 4380
     ∷ pairs "period 2" (hedge K1 20270928 20270928) 13140 8760
-    ∷ pairs "period 3" (hedge K1 20300624 20300624) 15330 10220
+    ∷ []
+
+unfoldable pub longerHedges : List Case
+longerHedges =
+    pairs "period 3" (hedge K1 20300624 20300624) 15330 10220
     ∷ pairs "period 4" (hedge K1 20330320 20330320) 21900 14600
     ∷ []
 
 -- or at 29,200, if that is less: for a strip from 20 years
 unfoldable pub capped : List Case
 capped =
-    pairs "period 5, below 20 years" (hedge K256 20441231 20441231) 21900 14600
-    ∷ pairs "period 5, a strip from 20 years" (hedge K1 20441231 20450101) 29200 29200
+    pairs "period 5, a strip from 20 years" (hedge K1 20441231 20450101) 29200 29200
     ∷ pairs "bond and strip from 20 years" (hedge K256 21250101 21250101) 29200 29200
+    ∷ []
+
+unfoldable pub belowCap : List Case
+belowCap =
+    pairs "period 5, below 20 years" (hedge K256 20441231 20441231) 21900 14600
     ∷ pairs "a bond from 20 years and a strip below" (hedge K1 20450101 20441231) 21900 14600
     ∷ []
 
@@ -81,7 +89,6 @@ unfoldable pub hedgeEnds : List Case
 hedgeEnds =
     pairs "a bond of a year and a strip of a day" (hedge K1 20260101 20250102) 6570 4380
     ∷ pairs "a bond of a day and a strip of a year" (hedge K1 20250102 20260101) 6570 4380
-    ∷ pairs "the first day and the last of period 3" (hedge K1 20280102 20320101) 15330 10220
     ∷ []
 
 -- a long and a short of 2,000 days: kind, issuer, currency, rating
@@ -182,6 +189,8 @@ ratingFaults =
     ∷ faults "a rating on each government" (map (λ i. rated Y (row L B i 20300624 100)) (listTo 13 (λ i. i))) (replicate 13 25)
     ∷ faults "a lower rating on each government" (map (λ i. rated N (row L B i 20300624 100)) (listTo 13 (λ i. i))) (replicate 13 25)
     ∷ faults "a rating on a government in USD and in GBP" (map (λ c. rated Y (of c (row L B US 20300624 100))) (1 ∷ 2 ∷ [])) (25 ∷ 25 ∷ [])
+    ∷ kept "records of each issuer and each rating have their numbers"
+    (rated Y (of USD (row S B K1 20300624 5)) ∷ rated N (of GBP (row L R K256 20300624 7)) ∷ rated Y (row S C K2 20300624 9) ∷ row L C ON 20300624 3 ∷ of USD (row L B US 20300624 4) ∷ [])
     ∷ fault "issuer before rating" (rated 3 (row L B 13 20300624 1)) 6
     ∷ fault "a maturity that is no date before rating" (rated 3 (row L B K1 20250230 1)) 24
     ∷ fault "a holding that has matured before rating" (row L B K1 20250101 1) 7
@@ -302,6 +311,7 @@ unfoldable pub recordValues : List Case
 recordValues =
     meanings "an H of a corporation, rated Y and N" (map (λ rating. "H" ∷ bond "5493001KJTIIGC8Y1R12" rating) ("Y" ∷ "N" ∷ []))
     (flatMap (λ k. 1 ∷ 0 ∷ 0 ∷ 100 ∷ 20300624 ∷ 100 ∷ 0 ∷ 0 ∷ k ∷ 519796030869065 ∷ 1880139687297302 ∷ []) (0 ∷ 1 ∷ []))
+    ∷ meanings "an H of a corporation in USD" (("H" ∷ set (bond "00000000000000000001" "Y") 6 "USD") ∷ []) (1 ∷ 0 ∷ 0 ∷ 100 ∷ 20300624 ∷ 100 ∷ 0 ∷ 1 ∷ 0 ∷ 0 ∷ 1 ∷ [])
     ∷ meanings "an H of a government" (map (λ issuer. "H" ∷ bond issuer "") ("CA" ∷ "SK" ∷ "US" ∷ "GB" ∷ []))
     (flatMap (λ i. 1 ∷ 0 ∷ 0 ∷ i ∷ 20300624 ∷ 100 ∷ 0 ∷ 0 ∷ 2 ∷ 0 ∷ 0 ∷ []) (0 ∷ 10 ∷ 11 ∷ 12 ∷ []))
     ∷ meanings "a D, and a P whose amount is 100 cents"
@@ -314,6 +324,9 @@ unfoldable pub misratedRecords : List Case
 misratedRecords =
     holdingRecords "25: another remainder, with a rating or without" (map (bond "5493001KJTIIGC8Y1R13") ("Y" ∷ "N" ∷ "" ∷ [])) 25
     ∷ holdingRecords "25: a corporation without a rating" (bond "5493001KJTIIGC8Y1R12" "" ∷ bond "00000000000000000001" "" ∷ []) 25
+    ∷ holdingRecords "25: its coupon, its residual or its short without a rating"
+    (set (bond "5493001KJTIIGC8Y1R12" "") 1 "C" ∷ set (bond "5493001KJTIIGC8Y1R12" "") 1 "R" ∷ set (bond "5493001KJTIIGC8Y1R12" "") 0 "S" ∷ []) 25
+    ∷ holdingRecords "25: a corporation in GBP without a rating" (set (bond "5493001KJTIIGC8Y1R12" "") 6 "GBP" ∷ []) 25
     ∷ holdingRecords "25: a rating on a government" (flatMap (λ issuer. bond issuer "Y" ∷ bond issuer "N" ∷ []) ("CA" ∷ "AB" ∷ "ON" ∷ "SK" ∷ "US" ∷ "GB" ∷ [])) 25
     ∷ holdingRecords "21 before 25 for another remainder: in each other field"
     (map (λ j. set (bond "5493001KJTIIGC8Y1R13" "Y") j "x") (0 ∷ 1 ∷ 3 ∷ 4 ∷ 5 ∷ 6 ∷ 7 ∷ [])) 21
@@ -371,17 +384,25 @@ corporateColumns =
     ∷ []
 
 -- files, from their bytes to the bytes that are printed: a corporate pair, and a line that is none
-unfoldable pub corporateFiles : List Case
-corporateFiles =
+unfoldable pub smallCorporateFile : List Case
+smallCorporateFile =
     prints
     "a file with a corporate pair"
     (D ++ H-rated "Y" "L,B,5493001KJTIIGC8Y1R12,2025-01-02,1,4380" ++ H-rated "N" "S,C,\"5493001KJTIIGC8Y1R12\",2025-01-02,1,0" ++ P "0,1,1")
     "M,6570,1\r\nR,0,0,0\r\nR,1,0,0\r\n"
-    ∷ prints
+    ∷ []
+
+unfoldable pub twoIssuersFile : List Case
+twoIssuersFile =
+    prints
     "a file with a line on two corporations"
     (D ++ H-rated "Y" "L,B,5493001KJTIIGC8Y1R12,2025-01-02,1,0" ++ H-rated "Y" "S,C,HWUPKR0MPOU8FGXBT394,2025-01-02,1,0" ++ P "0,1,1")
     "X,13,0,0\r\n"
-    ∷ prints
+    ∷ []
+
+unfoldable pub ratedLowerFile : List Case
+ratedLowerFile =
+    prints
     "a file with a line on a bond rated N"
     (D ++ H-rated "N" "L,B,5493001KJTIIGC8Y1R12,2025-01-02,1,0" ++ H-rated "Y" "S,C,5493001KJTIIGC8Y1R12,2025-01-02,1,0" ++ P "0,1,1")
     "X,13,0,0\r\n"
@@ -396,7 +417,7 @@ corporateFile =
     "M,28324000000,194000\r\nR,2,300000,13140000000\r\nR,1,300000,4599000000\r\nR,0,0,0\r\nR,3,0,0\r\n"
     ∷ []
 
--- each refusal at its record: 25 before 22, and before the next record
+-- each refusal at its record
 unfoldable pub ninthField : List Case
 ninthField =
     prints "another remainder, at record 2" (D ++ H "L,B,CA,2025-01-02,1,0" ++ H-rated "Y" "L,B,5493001KJTIIGC8Y1R13,2025-01-02,1,0") "X,25,2,0\r\n"
@@ -404,10 +425,16 @@ ninthField =
     ∷ prints "a rating on a government" (D ++ H-rated "N" "L,B,CA,2025-01-02,1,0") "X,25,1,0\r\n"
     ∷ prints "a rating on a government in USD" (D ++ H-by "USD" "Y" "L,B,US,2025-01-02,1,0") "X,25,1,0\r\n"
     ∷ prints "21 before 25" (D ++ H-rated "Y" "L,B,5493001KJTIIGC8Y1R13,2025-01-02,01,0") "X,21,1,0\r\n"
-    ∷ prints "25 before 22, after a P" (D ++ P "0,0,1" ++ H-rated "Y" "L,B,CA,2025-01-02,1,0") "X,25,2,0\r\n"
+    ∷ []
+
+-- 25 before 22
+unfoldable pub beforeOrder : List Case
+beforeOrder =
+    prints "25 before 22, after a P" (D ++ P "0,0,1" ++ H-rated "Y" "L,B,CA,2025-01-02,1,0") "X,25,2,0\r\n"
     ∷ prints "25 before 22, without a D" (H-rated "Y" "L,B,5493001KJTIIGC8Y1R13,2025-01-02,1,0") "X,25,0,0\r\n"
     ∷ []
 
+-- before the next record; and 21 and 20
 unfoldable pub nineFields : List Case
 nineFields =
     prints "25 before 19 of the next record" (D ++ H-rated "Y" "L,B,CA,2025-01-02,1,0" ++ unended (H "L,B,CA,2025-01-02,1,0") ++ ascii "\n") "X,25,1,0\r\n"
@@ -418,4 +445,32 @@ nineFields =
     ∷ prints "an H of ten fields" (D ++ H-rated "Y," "L,B,5493001KJTIIGC8Y1R12,2025-01-02,1,0") "X,20,1,0\r\n"
     ∷ prints "a P with its ninth field filled" (D ++ unended (P "0,0,1") ++ ascii "Y\r\n") "X,21,1,0\r\n"
     ∷ prints "a D with its ninth field filled" (unended D ++ ascii "Y\r\n") "X,21,0,0\r\n"
+    ∷ []
+
+-- the LEIs of a file's corporations, in the order of their numbers, 20 bytes each; a longer list keeps the rest
+abbrev two-leis : List ℕ
+two-leis = D ++ H-rated "Y" "L,B,7ZW8QJWVPR4P1J1KQY45,2025-01-02,1,0" ++ H-rated "N" "L,C,5493001KJTIIGC8Y1R12,2025-01-02,1,0"
+
+unfoldable pub namedLeis : List Case
+namedLeis =
+    names "two LEIs into a list of 40 bytes" two-leis 40 16 (0 ∷ 2 ∷ 0 ∷ []) (ascii "7ZW8QJWVPR4P1J1KQY455493001KJTIIGC8Y1R12")
+    ∷ []
+
+unfoldable pub namedLonger : List Case
+namedLonger =
+    names "two LEIs into a list of 43 bytes" two-leis 43 20 (0 ∷ 2 ∷ 0 ∷ []) (ascii "7ZW8QJWVPR4P1J1KQY455493001KJTIIGC8Y1R12" ++ replicate 3 9)
+    ∷ []
+
+-- 2 for a list or an answer slice that is too short, after all records; a refusal leaves the list as it was
+unfoldable pub namedShort : List Case
+namedShort =
+    names "two LEIs into a list of 39 bytes" two-leis 39 16 (2 ∷ 0 ∷ 0 ∷ []) (replicate 39 9)
+    ∷ []
+
+unfoldable pub namedOthers : List Case
+namedOthers =
+    names "no corporation, and no list" (D ++ H "L,B,CA,2025-01-02,1,0") 0 16 (0 ∷ 0 ∷ 0 ∷ []) []
+    ∷ names "an answer slice of 15 bytes" D 20 15 (2 ∷ 0 ∷ 0 ∷ []) (replicate 20 9)
+    ∷ names "a refusal of the reader, before 2" (D ++ H-rated "Y" "L,B,5493001KJTIIGC8Y1R13,2025-01-02,1,0") 0 0 (25 ∷ 1 ∷ 0 ∷ []) []
+    ∷ names "the empty file" [] 20 16 (22 ∷ 0 ∷ 0 ∷ []) (replicate 20 9)
     ∷ []

@@ -42,6 +42,7 @@ use Rattle.verdict.specs.Judges.{outcomeIn}
 use Rattle.lent.specs.Boundary.{answered, writtenLists, two, outcomeOf}
 use Rattle.report.specs.Report.{afterComma, lineOf, answerNumbers, refusalLine, marginLine, remainderLine, printedLines, bookLine, printedOf}
 use Rattle.received.specs.Reading.{heldLists, readingAnswer, filling, heading}
+use Rattle.received.specs.Naming.{leiTexts as namedTexts, leisTooShort, namingAnswer, naming}
 use Rattle.printing.specs.Printed.{fileAnswer, printed}
 use Rattle.edges.proofs.Cases.{Case, Agrees, failing, alone, together, judged, worked}
 use Rattle.edges.proofs.Starred.{starred, starredFile}
@@ -51,17 +52,25 @@ use Rattle.edges.proofs.Foreign.{governments, longBonds, longStrips, no
 use Rattle.edges.proofs.Foreign.{foreignBooks, foreignFile, eighthField}
 use Rattle.edges.proofs.Dated.{actualDays, anniversaries, twentyYears, periodEnds, otherEnds, maturities, valuations, dateTexts, valuationRecord, datedFiles, headAnswers}
 use Rattle.edges.proofs.Dated.{headList, headKept}
-use Rattle.edges.proofs.Corporate.{groupFive, hedges, capped, hedgeEnds, ratedLower, sameKinds, twoCorporations, corporationAndCanada, corporationAndProvince}
-use Rattle.edges.proofs.Corporate.{corporationAbroad, corporationInUsd, corporationInGbp, corporatePeriods, ratingFaults, ratingPlaces, threeParagraphs, withoutParagraph3, corporateBooks, corporateUnpaired, leis}
-use Rattle.edges.proofs.Corporate.{leiTexts, recordValues, misratedRecords, firstAppearance, mostCorporations, numberedFile, alikeInHalf, corporateColumns, corporateFiles, corporateFile, ninthField, nineFields}
+use Rattle.edges.proofs.Corporate.{groupFive, hedges, longerHedges, capped, belowCap, hedgeEnds, ratedLower, sameKinds, twoCorporations, corporationAndCanada}
+use Rattle.edges.proofs.Corporate.{corporationAndProvince, corporationAbroad, corporationInUsd, corporationInGbp, corporatePeriods, ratingFaults, ratingPlaces}
+use Rattle.edges.proofs.Corporate.{threeParagraphs, withoutParagraph3, corporateBooks, corporateUnpaired, leis, leiTexts, recordValues, misratedRecords}
+use Rattle.edges.proofs.Corporate.{firstAppearance, mostCorporations, numberedFile, alikeInHalf, corporateColumns, smallCorporateFile, twoIssuersFile}
+use Rattle.edges.proofs.Corporate.{ratedLowerFile, corporateFile, ninthField, beforeOrder, nineFields, namedLeis, namedLonger, namedShort, namedOthers}
 
 -- the table: document 01's cases, the starred first, then those of document 02 a), of b) and of d). Most groups are as small as the prover computes when it names
 -- a case that fails; of the others it names the group
+abbrev pub identifiers : List (List Case)
+identifiers =
+    leis ∷ leiTexts ∷ recordValues ∷ misratedRecords ∷ firstAppearance ∷ mostCorporations ∷ numberedFile ∷ alikeInHalf ∷ corporateColumns
+    ∷ smallCorporateFile ∷ twoIssuersFile ∷ ratedLowerFile ∷ corporateFile ∷ ninthField ∷ beforeOrder ∷ nineFields ∷ namedLeis ∷ namedLonger
+    ∷ namedShort ∷ namedOthers ∷ []
+
 abbrev pub corporations : List (List Case)
 corporations =
-    groupFive ∷ hedges ∷ capped ∷ hedgeEnds ∷ ratedLower ∷ sameKinds ∷ twoCorporations ∷ corporationAndCanada ∷ corporationAndProvince ∷ corporationAbroad ∷ corporationInUsd
-    ∷ corporationInGbp ∷ corporatePeriods ∷ ratingFaults ∷ ratingPlaces ∷ threeParagraphs ∷ withoutParagraph3 ∷ corporateBooks ∷ corporateUnpaired ∷ leis
-    ∷ leiTexts ∷ recordValues ∷ misratedRecords ∷ firstAppearance ∷ mostCorporations ∷ numberedFile ∷ alikeInHalf ∷ corporateColumns ∷ corporateFiles ∷ corporateFile ∷ ninthField ∷ nineFields ∷ []
+    groupFive ∷ hedges ∷ longerHedges ∷ capped ∷ belowCap ∷ hedgeEnds ∷ ratedLower ∷ sameKinds ∷ twoCorporations ∷ corporationAndCanada
+    ∷ corporationAndProvince ∷ corporationAbroad ∷ corporationInUsd ∷ corporationInGbp ∷ corporatePeriods ∷ ratingFaults ∷ ratingPlaces
+    ∷ threeParagraphs ∷ withoutParagraph3 ∷ corporateBooks ∷ corporateUnpaired ∷ identifiers
 
 abbrev pub dates : List (List Case)
 dates =
@@ -102,11 +111,14 @@ unfolding
     fileFault afterComma lineOf answerNumbers refusalLine marginLine remainderLine printedLines bookLine printedOf fileAnswer printed flatMap number littleEndian
     wordAt entries decode encode isCorporation isIssuer isRated ratingOf isCorporate isSingleA ratedBond corporateRule cadRule isDigit isCapital isCharacter inForm
     lei.valueOf lei.digitsOf lei.number lei.remainder halfOf leiOf judgedOf characterOf characters leiText sameLei firstPlace enter misrated issuerNumber knownAfter
-    numberedFrom leisFrom holdingsOf leisOf answerTo groupFive hedges capped hedgeEnds ratedLower sameKinds twoCorporations
-    corporationAndCanada corporationAndProvince corporationAbroad corporationInUsd corporationInGbp corporatePeriods ratingFaults ratingPlaces threeParagraphs
-    withoutParagraph3 corporateBooks corporateUnpaired leis leiTexts recordValues misratedRecords firstAppearance mostCorporations numberedFile alikeInHalf corporateColumns corporateFiles corporateFile ninthField nineFields
+    numberedFrom leisFrom holdingsOf leisOf answerTo namedTexts leisTooShort namingAnswer naming
+    groupFive hedges longerHedges capped belowCap hedgeEnds ratedLower sameKinds twoCorporations corporationAndCanada corporationAndProvince corporationAbroad
+    corporationInUsd corporationInGbp corporatePeriods ratingFaults ratingPlaces threeParagraphs withoutParagraph3 corporateBooks corporateUnpaired leis
+    leiTexts recordValues misratedRecords firstAppearance mostCorporations numberedFile alikeInHalf corporateColumns smallCorporateFile twoIssuersFile
+    ratedLowerFile corporateFile ninthField beforeOrder nineFields namedLeis namedLonger namedShort namedOthers
 none-fails =
-    let c : NoneFails corporations = (refl, (refl, (refl, (refl, (refl, (refl, (refl, (refl, (refl, (refl, (refl, (refl, (refl, (refl, (refl, (refl, (refl, (refl, (refl, (refl, (refl, (refl, (refl, (refl, (refl, (refl, (refl, (refl, (refl, (refl, (refl, (refl, tt)))))))))))))))))))))))))))))))) in
+    let d : NoneFails identifiers = (refl, (refl, (refl, (refl, (refl, (refl, (refl, (refl, (refl, (refl, (refl, (refl, (refl, (refl, (refl, (refl, (refl, (refl, (refl, (refl, tt)))))))))))))))))))) in
+    let c : NoneFails corporations = (refl, (refl, (refl, (refl, (refl, (refl, (refl, (refl, (refl, (refl, (refl, (refl, (refl, (refl, (refl, (refl, (refl, (refl, (refl, (refl, (refl, d))))))))))))))))))))) in
     let b : NoneFails dates = (refl, (refl, (refl, (refl, (refl, (refl, (refl, (refl, (refl, (refl, (refl, (refl, (refl, c))))))))))))) in
     let a : NoneFails currencies = (refl, (refl, (refl, (refl, (refl, (refl, (refl, (refl, (refl, (refl, (refl, (refl, b)))))))))))) in
     (refl, (refl, (refl, (refl, (refl, (refl, (refl, (refl, (refl, (refl, (refl, (refl, (refl, (refl, (refl, (refl, (refl, (refl, (refl, (refl, (refl, (refl, (refl, a)))))))))))))))))))))))
