@@ -1,6 +1,8 @@
 //! A book and a proposal on it.
 
-use crate::{Currency, Date, Issuer, Kind, Side};
+use std::collections::HashSet;
+
+use crate::{Currency, Date, Issuer, Kind, Lei, Rating, Side};
 
 /// One holding. Its ranges are the check's to judge.
 #[derive(Clone, Copy, Debug, PartialEq, Eq, Hash)]
@@ -9,7 +11,7 @@ pub struct Holding {
     pub side: Side,
     /// Bond, stripped coupon or residual.
     pub kind: Kind,
-    /// Canada, a province, the United States or the United Kingdom.
+    /// Canada, a province, the United States, the United Kingdom or a corporation.
     pub issuer: Issuer,
     /// The maturity, for a coupon its payment date: after the valuation date, and no later than its
     /// 100th anniversary.
@@ -18,6 +20,8 @@ pub struct Holding {
     pub value: u64,
     /// What it is denominated in.
     pub currency: Currency,
+    /// Whether debt of a corporation is rated single A or higher; nothing for a government.
+    pub rating: Option<Rating>,
 }
 
 /// A book on its valuation date: up to 256 holdings, numbered from 0. Two may be alike in everything.
@@ -35,6 +39,7 @@ pub struct Holding {
 ///         maturity: maturity.parse()?,
 ///         value,
 ///         currency: Currency::Cad,
+///         rating: None,
 ///     });
 /// }
 /// assert_eq!(book.holdings[1].issuer, Issuer::Quebec);
@@ -62,6 +67,7 @@ impl Book {
     ///     maturity: Date::new(2026, 1, 1).expect("a day"),
     ///     value: 1_000,
     ///     currency: Currency::Cad,
+    ///     rating: None,
     /// };
     /// let coupon = Holding { kind: Kind::Coupon, ..bond };
     /// assert_eq!(Book::new(date, [bond, coupon]).holdings, vec![bond, coupon]);
@@ -72,6 +78,39 @@ impl Book {
             date,
             holdings: holdings.into(),
         }
+    }
+
+    /// The corporations of the book by first appearance: the check numbers them from
+    /// [`Issuer::FIRST_CORPORATION`] in this order.
+    ///
+    /// ```
+    /// use margin_host::{Book, Currency, Date, Holding, Issuer, Kind, Lei, Rating, Side};
+    ///
+    /// let date = Date::new(2025, 1, 1).expect("a day");
+    /// let lei = Lei::new("5493001KJTIIGC8Y1R12").expect("an LEI");
+    /// let bond = Holding {
+    ///     side: Side::Long,
+    ///     kind: Kind::Bond,
+    ///     issuer: Issuer::Corporation(lei),
+    ///     maturity: Date::new(2026, 1, 1).expect("a day"),
+    ///     value: 1_000,
+    ///     currency: Currency::Cad,
+    ///     rating: Some(Rating::SingleA),
+    /// };
+    /// let coupon = Holding { kind: Kind::Coupon, ..bond };
+    /// assert_eq!(Book::new(date, [bond, coupon]).corporations(), vec![lei]);
+    /// ```
+    #[must_use]
+    pub fn corporations(&self) -> Vec<Lei> {
+        let mut known = HashSet::new();
+        let corporations = self
+            .holdings
+            .iter()
+            .filter_map(|holding| match holding.issuer {
+                Issuer::Corporation(lei) => Some(lei),
+                _ => None,
+            });
+        corporations.filter(|lei| known.insert(*lei)).collect()
     }
 }
 

@@ -1,4 +1,4 @@
-//! Side, kind, issuer and currency: each value has a text in the file and a number in a column.
+//! Side, kind, currency and rating: each value has a text in the file and a number in a column.
 
 use std::error::Error;
 use std::fmt;
@@ -119,38 +119,6 @@ coded! {
 }
 
 coded! {
-    /// Who owes the debt: Canada, a province, the United States or the United Kingdom, in the file by its
-    /// ISO 3166-1 or ISO 3166-2:CA code.
-    Issuer, "issuer", such as Ontario 7 "ON":
-    /// 0, `CA` in the file.
-    Canada "CA",
-    /// 1, `AB` in the file.
-    Alberta "AB",
-    /// 2, `BC` in the file.
-    BritishColumbia "BC",
-    /// 3, `MB` in the file.
-    Manitoba "MB",
-    /// 4, `NB` in the file.
-    NewBrunswick "NB",
-    /// 5, `NL` in the file.
-    NewfoundlandAndLabrador "NL",
-    /// 6, `NS` in the file.
-    NovaScotia "NS",
-    /// 7, `ON` in the file.
-    Ontario "ON",
-    /// 8, `PE` in the file.
-    PrinceEdwardIsland "PE",
-    /// 9, `QC` in the file.
-    Quebec "QC",
-    /// 10, `SK` in the file.
-    Saskatchewan "SK",
-    /// 11, `US` in the file.
-    UnitedStates "US",
-    /// 12, `GB` in the file.
-    UnitedKingdom "GB",
-}
-
-coded! {
     /// What the debt is denominated in, in the file by its ISO 4217 code. Market values are in Canadian
     /// cents whatever the currency.
     Currency, "currency", such as Usd 1 "USD":
@@ -162,7 +130,17 @@ coded! {
     Gbp "GBP",
 }
 
-/// A text that no side, no kind, no issuer or no currency has.
+coded! {
+    /// Whether debt of a corporation is rated single A or higher. Debt of a government has no rating, 2 in a
+    /// column and empty in the file.
+    Rating, "rating", such as Lower 1 "N":
+    /// Single A or higher: 0, `Y` in the file.
+    SingleA "Y",
+    /// Lower, or not rated by an agency: 1, `N` in the file.
+    Lower "N",
+}
+
+/// A text that no side, no kind, no issuer, no currency or no rating has.
 ///
 /// ```
 /// use margin_host::Side;
@@ -172,9 +150,9 @@ coded! {
 /// ```
 #[derive(Clone, Debug, PartialEq, Eq, Hash)]
 pub struct UnknownCode {
-    sort: &'static str,
-    text: String,
-    known: &'static [&'static str],
+    pub(crate) sort: &'static str,
+    pub(crate) text: String,
+    pub(crate) known: &'static [&'static str],
 }
 
 impl fmt::Display for UnknownCode {

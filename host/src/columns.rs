@@ -1,6 +1,13 @@
 //! A book and a proposal as columns.
 
-use crate::{Book, Currency, Date, Holding, Issuer, Kind, Line, Proposal, Refusal, Side};
+use std::collections::HashMap;
+
+use crate::{
+    Book, Currency, Date, Holding, Issuer, Kind, Lei, Line, Proposal, Rating, Refusal, Side,
+};
+
+/// The number of no rating in a column.
+const NO_RATING: u64 = 2;
 
 /// Defines the columns by their names, in the order in which they are lent.
 macro_rules! columns {
@@ -8,7 +15,7 @@ macro_rules! columns {
         holdings { $($(#[$of_a_holding:meta])* $holding:ident,)+ }
         lines { $($(#[$of_a_line:meta])* $line:ident,)+ }
     ) => {
-        /// The columns of a book and of a proposal on it: entry `i` of `side` to `currency` belongs to
+        /// The columns of a book and of a proposal on it: entry `i` of `side` to `rating` belongs to
         /// holding `i`, and entry `i` of `long` to `amount` to line `i`.
         ///
         /// What a column is, is left open: `Columns<&[u64]>` and `Columns<Vec<u64>>` have numbers,
@@ -25,6 +32,7 @@ macro_rules! columns {
         ///     value: &[1_000_000, 600_000, 300_000],
         ///     price: &[0, 5_840, 6_570],
         ///     currency: &[0, 0, 0],
+        ///     rating: &[2, 2, 2],
         ///     long: &[0, 0],
         ///     short: &[1, 2],
         ///     amount: &[600_000, 300_000],
@@ -46,7 +54,7 @@ macro_rules! columns {
             /// use margin_host::Columns;
             ///
             /// let counts = Columns::by_group(256, 512);
-            /// assert_eq!((counts.side, counts.currency, counts.long), (256, 256, 512));
+            /// assert_eq!((counts.side, counts.rating, counts.long), (256, 256, 512));
             /// ```
             #[must_use]
             pub fn by_group(holdings: C, lines: C) -> Columns<C>
@@ -137,7 +145,7 @@ columns! {
         /// 0 bond or debenture, 1 stripped coupon, 2 residual: [`Kind::number`].
         kind,
         /// 0 Canada, 1 to 10 a province, 11 the United States, 12 the United Kingdom:
-        /// [`Issuer::number`].
+        /// [`Issuer::number`]; 100 to 355 a corporation: [`Book::corporations`].
         issuer,
         /// The maturity as YYYYMMDD: [`Date::number`].
         maturity,
@@ -147,6 +155,8 @@ columns! {
         price,
         /// 0 CAD, 1 USD, 2 GBP: [`Currency::number`].
         currency,
+        /// Of a corporation 0 single A or higher, 1 lower: [`Rating::number`]; of a government 2.
+        rating,
     }
     lines {
         /// The long of each line.
@@ -172,10 +182,11 @@ impl Columns<Vec<u64>> {
     ///     maturity: Date::new(2030, 6, 24).expect("a day"),
     ///     value: 300_000,
     ///     currency: Currency::Cad,
+    ///     rating: None,
     /// };
     /// let columns = Columns::of(&Book::new(date, [holding]), &Proposal::new([6_570], []));
     /// assert_eq!((columns.side, columns.kind, columns.issuer), (vec![1], vec![2], vec![7]));
-    /// assert_eq!(columns.maturity, vec![2030_06_24]);
+    /// assert_eq!((columns.maturity, columns.rating), (vec![2030_06_24], vec![2]));
     /// ```
     #[must_use]
     pub fn of(book: &Book, proposal: &Proposal) -> Columns<Vec<u64>> {
@@ -184,32 +195,41 @@ impl Columns<Vec<u64>> {
         Columns {
             side: holdings(|holding| holding.side.number()),
             kind: holdings(|holding| holding.kind.number()),
-            issuer: holdings(|holding| holding.issuer.number()),
+            issuer: issuer_numbers(&book.holdings),
             maturity: holdings(|holding| holding.maturity.number()),
             value: holdings(|holding| holding.value),
             price: proposal.prices.clone(),
             currency: holdings(|holding| holding.currency.number()),
+            rating: holdings(|holding| holding.rating.map_or(NO_RATING, Rating::number)),
             long: lines(|line| line.long),
             short: lines(|line| line.short),
             amount: lines(|line| line.amount),
         }
     }
 
-    /// The book on this date and the proposal of columns that the reader has filled: it knows each side,
-    /// kind, issuer and currency, but not whether a date is a day.
-    pub(crate) fn book_and_proposal(self, date: u64) -> Result<(Book, Proposal), Refusal> {
-        const KNOWN: &str =
-            "the reader's contract is proved: it knows each side, kind, issuer and currency";
+    /// The book on this date and the proposal of columns that the reader has filled, with the LEIs of its
+    /// corporations: it knows each side, kind, issuer, currency and rating, but not whether a date is a day.
+    pub(crate) fn book_and_proposal(
+        self,
+        date: u64,
+        leis: &[Lei],
+    ) -> Result<(Book, Proposal), Refusal> {
+        const KNOWN: &str = "the reader's contract is proved: it knows each side, kind, issuer, currency and rating";
+        let issuer = |number: u64| match number.checked_sub(Issuer::FIRST_CORPORATION) {
+            Some(place) => leis.get(place as usize).copied().map(Issuer::Corporation),
+            None => Issuer::from_number(number),
+        };
         let day =
             |number, holding| Date::from_number(number).ok_or(Refusal::DateInvalid { holding });
         let holding = |at: usize| {
             Ok(Holding {
                 side: Side::from_number(self.side[at]).expect(KNOWN),
                 kind: Kind::from_number(self.kind[at]).expect(KNOWN),
-                issuer: Issuer::from_number(self.issuer[at]).expect(KNOWN),
+                issuer: issuer(self.issuer[at]).expect(KNOWN),
                 maturity: day(self.maturity[at], at as u64)?,
                 value: self.value[at],
                 currency: Currency::from_number(self.currency[at]).expect(KNOWN),
+                rating: Rating::from_number(self.rating[at]),
             })
         };
         let line = |at: usize| Line {
@@ -223,4 +243,16 @@ impl Columns<Vec<u64>> {
         let lines: Vec<Line> = (0..self.long.len()).map(line).collect();
         Ok((Book::new(date, holdings), Proposal::new(self.price, lines)))
     }
+}
+
+/// The numbers of the issuers of holdings: of corporations from 100 by first appearance.
+fn issuer_numbers(holdings: &[Holding]) -> Vec<u64> {
+    let mut corporations: HashMap<Issuer, u64> = HashMap::new();
+    let number = |holding: &Holding| {
+        holding.issuer.number().unwrap_or_else(|| {
+            let next = Issuer::FIRST_CORPORATION + corporations.len() as u64;
+            *corporations.entry(holding.issuer).or_insert(next)
+        })
+    };
+    holdings.iter().map(number).collect()
 }

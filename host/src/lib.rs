@@ -1,11 +1,12 @@
-//! The desk's side of the margin check on paired strip bond holdings (article 7204, Groups I, II and XI).
-//! In Canadian dollars it pairs debt of Canada and its provinces; in US dollars or sterling a bond of Canada,
-//! the United States or the United Kingdom with a strip of the same government.
+//! The desk's side of the margin check on paired strip bond holdings (article 7204, Groups I, II, V and XI).
+//! In Canadian dollars it pairs debt of Canada and its provinces, and a bond of a corporation that is rated
+//! single A or higher with a strip of the same corporation; in US dollars or sterling a bond of Canada, the
+//! United States or the United Kingdom with a strip of the same government.
 //!
 //! A desk makes a [`Book`] of [`Holding`]s on its valuation date and a [`Proposal`] on it, or reads both from
 //! a file with [`read()`]; [`check()`] gives the least margin, or the [`Refusal`]. Both are done by code that
 //! was proved: this package lends it the memory and names its answers. Callers that keep [`Columns`] of
-//! numbers use [`check_columns`] and [`read_columns`], and [`raw`] has both calls on bytes.
+//! numbers use [`check_columns`], [`read_columns`] and [`read_leis`], and [`raw`] has these calls on bytes.
 //!
 //! The file that document 01, the customer's scope, prints, in Canadian dollars and valued on 2025-01-01:
 //!
@@ -23,6 +24,7 @@
 //!     maturity: Date::new(2030, 6, 24).expect("a day"),
 //!     value: 1_000_000,
 //!     currency: Currency::Cad,
+//!     rating: None,
 //! };
 //! let bond = Holding { side: Side::Short, kind: Kind::Bond, value: 600_000, ..coupon };
 //! let residual = Holding {
@@ -43,16 +45,46 @@
 //! assert_eq!(accepted.remainder, vec![100_000, 0, 0]);
 //! assert_eq!(accepted.ranking, vec![0, 1, 2]);
 //!
-//! let text = "D,2025-01-01,,,,,,\r\n\
-//!             H,L,C,CA,2030-06-24,1000000,0,CAD\r\n\
-//!             H,S,B,CA,2030-06-24,600000,5840,CAD\r\n\
-//!             H,S,R,ON,2030-06-24,300000,6570,CAD\r\n\
-//!             P,0,1,600000,,,,\r\n\
-//!             P,0,2,300000,,,,\r\n";
+//! let text = "D,2025-01-01,,,,,,,\r\n\
+//!             H,L,C,CA,2030-06-24,1000000,0,CAD,\r\n\
+//!             H,S,B,CA,2030-06-24,600000,5840,CAD,\r\n\
+//!             H,S,R,ON,2030-06-24,300000,6570,CAD,\r\n\
+//!             P,0,1,600000,,,,,\r\n\
+//!             P,0,2,300000,,,,,\r\n";
 //! assert_eq!(check_file(text.as_bytes())?, accepted);
 //!
 //! proposal.prices[2] = 6_569;
 //! assert_eq!(check(&book, &proposal), Err(Refusal::PairNotCovered { long: 0, short: 2 }));
+//! # Ok::<(), Refusal>(())
+//! ```
+//!
+//! A long strip of a corporation hedged with its bond:
+//!
+//! ```
+//! use margin_host::{
+//!     Book, Currency, Date, Holding, Issuer, Kind, Lei, Line, Proposal, Rating, Refusal, Side, check,
+//! };
+//!
+//! let lei = Lei::new("5493001KJTIIGC8Y1R12").expect("an LEI");
+//! let strip = Holding {
+//!     side: Side::Long,
+//!     kind: Kind::Residual,
+//!     issuer: Issuer::Corporation(lei),
+//!     maturity: Date::new(2046, 11, 27).expect("a day"),
+//!     value: 1_000,
+//!     currency: Currency::Cad,
+//!     rating: Some(Rating::Lower),
+//! };
+//! let bond = Holding {
+//!     side: Side::Short,
+//!     kind: Kind::Bond,
+//!     rating: Some(Rating::SingleA),
+//!     ..strip
+//! };
+//! let book = Book::new(Date::new(2025, 1, 1).expect("a day"), [strip, bond]);
+//! let proposal = Proposal::new([29_200, 0], [Line { long: 0, short: 1, amount: 1_000 }]);
+//! // 20 per cent in place of 30 for the strip and 10 for the bond.
+//! assert_eq!(check(&book, &proposal)?.figures.cents, 200);
 //! # Ok::<(), Refusal>(())
 //! ```
 
@@ -63,14 +95,18 @@ mod check;
 mod codes;
 mod columns;
 mod date;
+mod issuer;
+mod lei;
 pub mod raw;
 mod read;
 mod refusal;
 
 pub use book::{Book, Holding, Line, Proposal};
 pub use check::{Accepted, Figures, check, check_columns};
-pub use codes::{Currency, Issuer, Kind, Side, UnknownCode};
+pub use codes::{Currency, Kind, Rating, Side, UnknownCode};
 pub use columns::Columns;
 pub use date::{Date, InvalidDate};
-pub use read::{check_file, read, read_columns};
+pub use issuer::Issuer;
+pub use lei::{InvalidLei, Lei};
+pub use read::{check_file, read, read_columns, read_leis};
 pub use refusal::Refusal;

@@ -1,9 +1,10 @@
-//! The exported check and the exported reader on byte slices of eight-byte little-endian numbers.
+//! The exported check and the exported reader on byte slices of eight-byte little-endian numbers, and the LEIs
+//! of a file.
 
 use crate::Columns;
 
 unsafe extern "C" {
-    // Thirteen slices, each a pointer and then its length in bytes.
+    // Fourteen slices, each a pointer and then its length in bytes.
     #[link_name = "margin_read"]
     fn exported_read(
         text: *const u8,
@@ -24,6 +25,8 @@ unsafe extern "C" {
         price_length: usize,
         currency: *mut u8,
         currency_length: usize,
+        rating: *mut u8,
+        rating_length: usize,
         long: *mut u8,
         long_length: usize,
         short: *mut u8,
@@ -34,7 +37,18 @@ unsafe extern "C" {
         answer_length: usize,
     ) -> u64;
 
-    // The valuation date, and thirteen slices, each a pointer and then its length in bytes.
+    // Three slices, each a pointer and then its length in bytes.
+    #[link_name = "margin_leis"]
+    fn exported_leis(
+        text: *const u8,
+        text_length: usize,
+        leis: *mut u8,
+        leis_length: usize,
+        answer: *mut u8,
+        answer_length: usize,
+    ) -> u64;
+
+    // The valuation date, and fourteen slices, each a pointer and then its length in bytes.
     #[link_name = "margin_check"]
     fn exported_check(
         date: u64,
@@ -52,6 +66,8 @@ unsafe extern "C" {
         price_length: usize,
         currency: *const u8,
         currency_length: usize,
+        rating: *const u8,
+        rating_length: usize,
         long: *const u8,
         long_length: usize,
         short: *const u8,
@@ -79,9 +95,9 @@ unsafe extern "C" {
 ///
 /// // One Canada bond of one cent and one day, without a line.
 /// let number = |number: u64| number.to_le_bytes();
-/// let (zero, one, maturity) = (number(0), number(1), number(2025_01_02));
+/// let (zero, one, two, maturity) = (number(0), number(1), number(2), number(2025_01_02));
 /// let mut columns: Columns<&[u8]> = Columns::by_group(&zero, &[]);
-/// (columns.maturity, columns.value) = (&maturity, &one);
+/// (columns.maturity, columns.value, columns.rating) = (&maturity, &one, &two);
 /// let (mut remainder, mut ranking, mut answer) = ([0; 8], [9; 8], [0; 16]);
 /// let mut check = |date| raw::margin_check(date, &columns, &mut remainder, &mut ranking, &mut answer);
 /// assert_eq!(check(2025_01_02), 7);
@@ -112,6 +128,7 @@ pub fn margin_check(
             c.value.as_ptr(), c.value.len(),
             c.price.as_ptr(), c.price.len(),
             c.currency.as_ptr(), c.currency.len(),
+            c.rating.as_ptr(), c.rating.len(),
             c.long.as_ptr(), c.long.len(),
             c.short.as_ptr(), c.short.len(),
             c.amount.as_ptr(), c.amount.len(),
@@ -126,12 +143,12 @@ pub fn margin_check(
 /// Calls the reader and returns the refusal number, 0 for a file that was read.
 ///
 /// A file that is read goes to the front of the lists: its valuation date to the first entry of the head, and
-/// of the columns seven get an entry for each holding and three one for each line. What comes after is kept,
-/// and a refusal keeps the head and all ten. An answer slice of 16 bytes or more gets the number of holdings
+/// of the columns eight get an entry for each holding and three one for each line. What comes after is kept,
+/// and a refusal keeps the head and all eleven. An answer slice of 16 bytes or more gets the number of holdings
 /// and the number of lines, or the place and 0; a shorter one is kept.
 ///
-/// The call needs less than 50 KB of stack, whatever the size of the file: when tried with one holding and
-/// with 256 holdings and 512 lines, threads of 50,000 bytes were enough, and 48,000 were not.
+/// The call needs less than 64 KiB of stack, whatever the size of the file: when tried with 256 holdings and
+/// 512 lines, a thread of 64 KiB was enough, and one of 60 KiB was not.
 ///
 /// ```
 /// use margin_host::{Columns, raw};
@@ -139,11 +156,12 @@ pub fn margin_check(
 /// let mut room = Columns::by_group(vec![0; 8], vec![0; 8]);
 /// let mut columns = room.each_mut().map(Vec::as_mut_slice);
 /// let (mut head, mut answer) = ([0; 8], [0; 16]);
-/// let text = b"D,2025-01-01,,,,,,\r\nH,S,B,US,2030-06-24,600000,5840,USD\r\n";
+/// let text = b"D,2025-01-01,,,,,,,\r\nH,S,B,US,2030-06-24,600000,5840,USD,\r\n";
 /// assert_eq!(raw::margin_read(text, &mut head, &mut columns, &mut answer), 0);
 /// assert_eq!(head, 2025_01_01_u64.to_le_bytes());
 /// assert_eq!(columns.maturity, 2030_06_24_u64.to_le_bytes());
 /// assert_eq!(columns.currency, 1_u64.to_le_bytes());
+/// assert_eq!(columns.rating, 2_u64.to_le_bytes());
 /// assert_eq!(answer.as_chunks().0, [1_u64.to_le_bytes(), [0; 8]]);
 ///
 /// assert_eq!(raw::margin_read(b"\r\n", &mut head, &mut columns, &mut answer), 20);
@@ -157,7 +175,7 @@ pub fn margin_read(
 ) -> u64 {
     let c = columns;
     // SAFETY: each pointer comes from a slice that is borrowed for the whole call, beside that slice's
-    // own length. The twelve lists are borrowed alone, so nothing else refers to them meanwhile. The reader
+    // own length. The thirteen lists are borrowed alone, so nothing else refers to them meanwhile. The reader
     // presumes nothing of the bytes and keeps no pointer.
     #[rustfmt::skip]
     let number = unsafe {
@@ -171,9 +189,48 @@ pub fn margin_read(
             c.value.as_mut_ptr(), c.value.len(),
             c.price.as_mut_ptr(), c.price.len(),
             c.currency.as_mut_ptr(), c.currency.len(),
+            c.rating.as_mut_ptr(), c.rating.len(),
             c.long.as_mut_ptr(), c.long.len(),
             c.short.as_mut_ptr(), c.short.len(),
             c.amount.as_mut_ptr(), c.amount.len(),
+            answer.as_mut_ptr(), answer.len(),
+        )
+    };
+    number
+}
+
+/// Gets the LEIs of the corporations of a file, and returns the refusal number that the reader gives it, 0 for a
+/// file that is read.
+///
+/// Of such a file the LEIs go to the front of the list, 20 bytes each, in the order of their numbers from 100 in
+/// the column of issuers: 5,120 bytes are enough for every file, and 2 is returned where there are too few. What
+/// comes after is kept, and a refusal keeps the whole list. An answer slice of 16 bytes or more gets the number
+/// of LEIs and 0, or the place and 0; a shorter one is kept, and is 2 for a file that is read.
+///
+/// It needs as much stack as [`margin_read`].
+///
+/// ```
+/// use margin_host::raw;
+///
+/// let text = b"D,2025-01-01,,,,,,,\r\n\
+///              H,L,B,5493001KJTIIGC8Y1R12,2030-06-24,600000,0,CAD,Y\r\n\
+///              H,S,C,5493001KJTIIGC8Y1R12,2030-06-24,600000,0,CAD,N\r\n";
+/// let (mut leis, mut answer) = ([0; 40], [0; 16]);
+/// assert_eq!(raw::margin_leis(text, &mut leis, &mut answer), 0);
+/// assert_eq!(answer.as_chunks().0, [1_u64.to_le_bytes(), [0; 8]]);
+/// assert_eq!(leis[..20], *b"5493001KJTIIGC8Y1R12");
+/// assert_eq!(leis[20..], [0; 20]);
+/// ```
+#[must_use]
+pub fn margin_leis(text: &[u8], leis: &mut [u8], answer: &mut [u8]) -> u64 {
+    // SAFETY: each pointer comes from a slice that is borrowed for the whole call, beside that slice's
+    // own length. The two lists are borrowed alone, so nothing else refers to them meanwhile. The function
+    // presumes nothing of the bytes and keeps no pointer.
+    #[rustfmt::skip]
+    let number = unsafe {
+        exported_leis(
+            text.as_ptr(), text.len(),
+            leis.as_mut_ptr(), leis.len(),
             answer.as_mut_ptr(), answer.len(),
         )
     };

@@ -1,7 +1,7 @@
-//! The file's reader with its answer as a `Result`, and reading and checking in one call.
+//! The file's reader with its answer as a `Result`, the LEIs of a file, and reading and checking in one call.
 
 use crate::check::{accepted, bytes_mut, halves};
-use crate::{Accepted, Book, Columns, Proposal, Refusal, raw};
+use crate::{Accepted, Book, Columns, Issuer, Lei, Proposal, Refusal, raw};
 
 /// Entries that no file exceeds.
 const MOST_HOLDINGS: usize = 256;
@@ -12,9 +12,9 @@ const MOST_LINES: usize = 512;
 ///
 /// # Errors
 ///
-/// The first refusal in the reader's order: 18; 22 for an empty file; each record in turn 19 to 22, then 3 or
-/// 9. After these 24, as the check would give it if nothing else were wrong, for a valuation date or else the
-/// first maturity that is no day of the years 1900 to 2299.
+/// The first refusal in the reader's order: 18; 22 for an empty file; each record in turn 19, 20, 21, 25, 22,
+/// then 3 or 9. After these 24, as the check would give it if nothing else were wrong, for a valuation date or
+/// else the first maturity that is no day of the years 1900 to 2299.
 ///
 /// # Panics
 ///
@@ -25,10 +25,10 @@ const MOST_LINES: usize = 512;
 /// ```
 /// use margin_host::{Date, Issuer, Line, Refusal, read};
 ///
-/// let text = "D,2025-01-01,,,,,,\r\n\
-///             H,L,C,ON,2030-06-24,1000,0,CAD\r\n\
-///             H,S,R,QC,2030-06-24,400,17520,CAD\r\n\
-///             P,0,1,400,,,,\r\n";
+/// let text = "D,2025-01-01,,,,,,,\r\n\
+///             H,L,C,ON,2030-06-24,1000,0,CAD,\r\n\
+///             H,S,R,QC,2030-06-24,400,17520,CAD,\r\n\
+///             P,0,1,400,,,,,\r\n";
 /// let (book, proposal) = read(text.as_bytes())?;
 /// assert_eq!(Some(book.date), Date::new(2025, 1, 1));
 /// assert_eq!(book.holdings[1].issuer, Issuer::Quebec);
@@ -41,16 +41,22 @@ const MOST_LINES: usize = 512;
 /// ```
 pub fn read(text: &[u8]) -> Result<(Book, Proposal), Refusal> {
     let (date, columns) = read_columns(text)?;
-    columns.book_and_proposal(date)
+    let corporate = |issuer: &u64| *issuer >= Issuer::FIRST_CORPORATION;
+    let leis = match columns.issuer.iter().any(corporate) {
+        true => read_leis(text)?,
+        false => Vec::new(),
+    };
+    columns.book_and_proposal(date, &leis)
 }
 
 /// Reads a file into the number of its valuation date, YYYYMMDD, and columns of numbers, whose ranges are all
-/// left to the check.
+/// left to the check. A corporation has a number from 100, by first appearance in the file; [`read_leis`] has the
+/// LEIs.
 ///
 /// # Errors
 ///
-/// The first refusal in the reader's order: 18; 22 for an empty file; each record in turn 19 to 22, then 3 or
-/// 9.
+/// The first refusal in the reader's order: 18; 22 for an empty file; each record in turn 19, 20, 21, 25, 22,
+/// then 3 or 9.
 ///
 /// # Panics
 ///
@@ -61,7 +67,7 @@ pub fn read(text: &[u8]) -> Result<(Book, Proposal), Refusal> {
 /// ```
 /// use margin_host::{Refusal, check_columns, read_columns};
 ///
-/// let text = "D,2025-01-01,,,,,,\r\nH,L,B,ON,2025-02-30,1000,0,CAD\r\n";
+/// let text = "D,2025-01-01,,,,,,,\r\nH,L,B,ON,2025-02-30,1000,0,CAD,\r\n";
 /// let (date, columns) = read_columns(text.as_bytes())?;
 /// assert_eq!((date, columns.maturity[0]), (2025_01_01, 2025_02_30));
 /// let refused = check_columns(date, &columns, &mut [0], &mut [0]);
@@ -82,11 +88,58 @@ pub fn read_columns(text: &[u8]) -> Result<(u64, Columns<Vec<u64>>), Refusal> {
         }
         return Ok((date[0], columns));
     }
-    match Refusal::from_parts(number, first, second) {
-        Some(refusal) if matches!(number, 3 | 9 | 18..=22) => Err(refusal),
+    Err(refused(number, first, second))
+}
+
+/// Reads the LEIs of the corporations of a file, in the order of their numbers from 100 in the column of issuers
+/// that [`read_columns`] gives.
+///
+/// # Errors
+///
+/// As [`read_columns`].
+///
+/// # Panics
+///
+/// If the linked archive breaks the contract that was proved, as only another archive can.
+///
+/// # Examples
+///
+/// ```
+/// use margin_host::{Refusal, read_columns, read_leis};
+///
+/// let text = "D,2025-01-01,,,,,,,\r\n\
+///             H,L,B,5493001KJTIIGC8Y1R12,2030-06-24,1000,0,CAD,Y\r\n\
+///             H,L,B,ON,2030-06-24,1000,0,CAD,\r\n\
+///             H,S,C,7ZW8QJWVPR4P1J1KQY45,2030-06-24,1000,0,CAD,N\r\n";
+/// let (_, columns) = read_columns(text.as_bytes())?;
+/// assert_eq!(columns.issuer, vec![100, 7, 101]);
+/// let leis = read_leis(text.as_bytes())?;
+/// assert_eq!(leis[1].to_string(), "7ZW8QJWVPR4P1J1KQY45");
+///
+/// let refused = read_leis(text.replace("KQY45", "KQY46").as_bytes());
+/// assert_eq!(refused, Err(Refusal::LeiOrRatingInvalid { record: 3 }));
+/// # Ok::<(), Refusal>(())
+/// ```
+pub fn read_leis(text: &[u8]) -> Result<Vec<Lei>, Refusal> {
+    let mut leis = [0; Lei::LENGTH * MOST_HOLDINGS];
+    let mut answer = [0; 16];
+    let number = raw::margin_leis(text, &mut leis, &mut answer);
+    let (first, second) = halves(&answer);
+    if number != 0 {
+        return Err(refused(number, first, second));
+    }
+    let written = leis.chunks(Lei::LENGTH).take(first as usize);
+    let leis = written.map(Lei::from_bytes).collect::<Option<Vec<Lei>>>();
+    Ok(leis.expect("the reader's contract is proved: it knows each LEI"))
+}
+
+/// The refusal that the reader gives where it has room for every file.
+fn refused(number: u64, first: u64, second: u64) -> Refusal {
+    match Refusal::from_reader_parts(number, first, second) {
+        Some(refusal) if number != 2 => refusal,
         _ => unreachable!(
-            "the reader's contract is proved: with room for every file it returns 0, 3, 9 or 18 to \
-             22, and a place only where the number has one"
+            "the reader's contract is proved: with room for every file it returns 0, 3, 9, 18 to 22 \
+             or 25, and a place only where the number has one"
         ),
     }
 }
@@ -106,10 +159,10 @@ pub fn read_columns(text: &[u8]) -> Result<(u64, Columns<Vec<u64>>), Refusal> {
 /// ```
 /// use margin_host::{Refusal, check_file};
 ///
-/// let text = "D,2025-01-01,,,,,,\r\n\
-///             H,L,C,ON,2030-06-24,1000,0,CAD\r\n\
-///             H,S,R,QC,2030-06-24,400,17520,CAD\r\n\
-///             P,0,1,400,,,,\r\n";
+/// let text = "D,2025-01-01,,,,,,,\r\n\
+///             H,L,C,ON,2030-06-24,1000,0,CAD,\r\n\
+///             H,S,R,QC,2030-06-24,400,17520,CAD,\r\n\
+///             P,0,1,400,,,,,\r\n";
 /// assert_eq!(check_file(text.as_bytes())?.figures.cents, 36);
 ///
 /// let refused = check_file(text.replace("17520", "17519").as_bytes());

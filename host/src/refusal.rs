@@ -7,8 +7,8 @@ use std::fmt;
 #[derive(Clone, Copy, Debug, PartialEq, Eq, Hash)]
 #[non_exhaustive]
 pub enum Refusal {
-    /// 1: the holding columns, price and currency among them, or the line columns differ in length or hold no
-    /// whole numbers.
+    /// 1: the holding columns, price, currency and rating among them, or the line columns differ in length or
+    /// hold no whole numbers.
     ColumnsDiffer,
     /// 2: a list to be written is shorter than what must be written.
     ListTooShort,
@@ -24,7 +24,8 @@ pub enum Refusal {
         /// The holding at fault.
         holding: u64,
     },
-    /// 6: an issuer that is none of Canada, the provinces, the United States and the United Kingdom.
+    /// 6: an issuer that is none of Canada, the provinces, the United States, the United Kingdom and the numbers
+    /// of corporations.
     IssuerUnknown {
         /// The holding at fault.
         holding: u64,
@@ -87,7 +88,7 @@ pub enum Refusal {
         /// The record at fault.
         record: u64,
     },
-    /// 20: a record that has not eight fields.
+    /// 20: a record that has not nine fields.
     WrongNumberOfFields {
         /// The record at fault.
         record: u64,
@@ -114,10 +115,21 @@ pub enum Refusal {
         /// The holding at fault; 0 also for the valuation date.
         holding: u64,
     },
+    /// 25 of the check: a corporation without a rating, a government with one, or an unknown rating.
+    RatingInvalid {
+        /// The holding at fault.
+        holding: u64,
+    },
+    /// 25 of the reader: an LEI whose check digits do not fit, a corporation without a rating, or a government
+    /// with one.
+    LeiOrRatingInvalid {
+        /// The record at fault.
+        record: u64,
+    },
 }
 
 impl Refusal {
-    /// The number, 1 to 24.
+    /// The number, 1 to 25.
     ///
     /// ```
     /// use margin_host::Refusal;
@@ -151,6 +163,7 @@ impl Refusal {
             Refusal::RecordOutOfOrder { .. } => 22,
             Refusal::CurrencyUnknown { .. } => 23,
             Refusal::DateInvalid { .. } => 24,
+            Refusal::RatingInvalid { .. } | Refusal::LeiOrRatingInvalid { .. } => 25,
         }
     }
 
@@ -178,6 +191,7 @@ impl Refusal {
             | Refusal::ValueOutOfRange { holding }
             | Refusal::CurrencyUnknown { holding }
             | Refusal::DateInvalid { holding }
+            | Refusal::RatingInvalid { holding }
             | Refusal::PriceTooHigh { holding } => holding,
             Refusal::NotInBook { line }
             | Refusal::WrongSide { line }
@@ -188,6 +202,7 @@ impl Refusal {
             Refusal::RecordIllFormed { record }
             | Refusal::WrongNumberOfFields { record }
             | Refusal::FieldNotOfItsSort { record }
+            | Refusal::LeiOrRatingInvalid { record }
             | Refusal::RecordOutOfOrder { record } => record,
         }
     }
@@ -208,7 +223,8 @@ impl Refusal {
         }
     }
 
-    /// The refusal with this number and these places, if there is one.
+    /// The refusal with this number and these places, if there is one. The place of 25 is taken for a holding,
+    /// as the check gives it; [`Refusal::from_reader_parts`] takes it for a record.
     ///
     /// ```
     /// use margin_host::Refusal;
@@ -248,9 +264,28 @@ impl Refusal {
             22 => Refusal::RecordOutOfOrder { record },
             23 => Refusal::CurrencyUnknown { holding },
             24 => Refusal::DateInvalid { holding },
+            25 => Refusal::RatingInvalid { holding },
             _ => return None,
         };
         (refusal.place() == place && refusal.second() == second).then_some(refusal)
+    }
+
+    /// The refusal of the reader with this number and these places, if it gives one.
+    ///
+    /// ```
+    /// use margin_host::Refusal;
+    ///
+    /// let refusal = Refusal::from_reader_parts(25, 3, 0);
+    /// assert_eq!(refusal, Some(Refusal::LeiOrRatingInvalid { record: 3 }));
+    /// assert_eq!(Refusal::from_reader_parts(14, 3, 0), None);
+    /// ```
+    #[must_use]
+    pub fn from_reader_parts(number: u64, place: u64, second: u64) -> Option<Refusal> {
+        match number {
+            2 | 3 | 9 | 18..=22 => Refusal::from_parts(number, place, second),
+            25 if second == 0 => Some(Refusal::LeiOrRatingInvalid { record: place }),
+            _ => None,
+        }
     }
 }
 
@@ -266,7 +301,10 @@ impl fmt::Display for Refusal {
     fn fmt(&self, f: &mut fmt::Formatter<'_>) -> fmt::Result {
         let (place, second, fault) = (self.place(), self.second(), self.fault());
         match self.number() {
-            4..=8 | 10 | 23 => write!(f, "holding {place}, counting from 0, {fault}"),
+            25 if matches!(self, Refusal::LeiOrRatingInvalid { .. }) => {
+                write!(f, "record {place}, counting from 0, {fault}")
+            }
+            4..=8 | 10 | 23 | 25 => write!(f, "holding {place}, counting from 0, {fault}"),
             11..=15 => write!(f, "line {place}, counting from 0, {fault}"),
             16 => write!(
                 f,
@@ -291,13 +329,14 @@ impl Refusal {
     fn fault(&self) -> &'static str {
         match self {
             Refusal::ColumnsDiffer => {
-                "the columns of the holdings, price and currency among them, must all have the same \
-                 length in whole numbers, and so must the columns of the lines"
+                "the columns of the holdings, price, currency and rating among them, must all have the \
+                 same length in whole numbers, and so must the columns of the lines"
             }
             Refusal::ListTooShort => {
                 "a list lent for the results is too short: remainder, ranking and the columns of \
                  the holdings need one entry for each holding, the columns of the lines one for \
-                 each line, the head one entry, the answer 16 bytes"
+                 each line, the head one entry, the LEIs 20 bytes for each corporation, the answer 16 \
+                 bytes"
             }
             Refusal::TooManyHoldings => "the book has more than 256 holdings",
             Refusal::SideUnknown { .. } => {
@@ -309,7 +348,7 @@ impl Refusal {
             }
             Refusal::IssuerUnknown { .. } => {
                 "has an unknown issuer: it must be 0 for Canada, 1 to 10 for a province, 11 for the \
-                 United States or 12 for the United Kingdom"
+                 United States, 12 for the United Kingdom or 100 to 355 for a corporation"
             }
             Refusal::MaturityOutOfRange { .. } => {
                 "has a maturity on or before the valuation date, or past its 100th anniversary"
@@ -321,6 +360,10 @@ impl Refusal {
                 "has an unknown currency: it must be 0 for CAD, 1 for USD or 2 for GBP"
             }
             Refusal::DateInvalid { .. } => "is no day of the years 1900 to 2299",
+            Refusal::RatingInvalid { .. } => {
+                "has a rating that does not fit its issuer: it must be 0 for single A or higher or 1 for \
+                 lower on a corporation, and 2 for none on a government"
+            }
             Refusal::TooManyLines => "the proposal has more than 512 lines",
             Refusal::PriceTooHigh { .. } => "has a price outside 0 to 43,800",
             _ => self.fault_of_lines(),
@@ -335,8 +378,9 @@ impl Refusal {
             }
             Refusal::PairNotAllowed { .. } => {
                 "pairs two holdings that may not be paired: both must lie in one period and be in one \
-                 currency; in CAD they must be of Canada or a province and not both bonds; in USD or \
-                 GBP they must be of the same government, Canada, US or GB, and exactly one a bond"
+                 currency; in CAD they must be of Canada or a province and not both bonds, or of the same \
+                 corporation, exactly one a bond, and that rated single A or higher; in USD or GBP they \
+                 must be of the same government, Canada, US or GB, and exactly one a bond"
             }
             Refusal::AmountZero { .. } => "has amount 0, and the least is 1 cent",
             Refusal::AmountAboveRemainder { .. } => {
@@ -357,10 +401,14 @@ impl Refusal {
             Refusal::RecordIllFormed { .. } => {
                 "has quotes, line ends or characters that the grammar of RFC 4180 does not allow"
             }
-            Refusal::WrongNumberOfFields { .. } => "does not have eight fields",
+            Refusal::WrongNumberOfFields { .. } => "does not have nine fields",
             Refusal::FieldNotOfItsSort { .. } => {
                 "begins with none of D, H and P, has a field that is no value of its sort, or fills \
                  one that must be empty"
+            }
+            Refusal::LeiOrRatingInvalid { .. } => {
+                "has an LEI whose check digits do not fit it, no rating on a corporation, or a rating on \
+                 a government"
             }
             _ => {
                 "is missing or out of its order: one D with the valuation date comes first, then all \

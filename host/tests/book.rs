@@ -1,13 +1,16 @@
 //! Books and proposals of named values: they are judged as their numbers are.
 
 use margin_calculator::samples::{Random, SHAPES, best_sheet, book};
-use margin_calculator::{self as calculator, Row, Sheet};
+use margin_calculator::texts::issuer_text;
+use margin_calculator::{self as calculator, NOT_RATED, Row, Sheet};
 use margin_host::{
-    Accepted, Book, Columns, Currency, Date, Figures, Holding, Issuer, Kind, Line, Proposal,
-    Refusal, Side, check, check_columns,
+    Accepted, Book, Columns, Currency, Date, Figures, Holding, Issuer, Kind, Lei, Line, Proposal,
+    Rating, Refusal, Side, check, check_columns,
 };
 
 const VALUED: Date = Date::new(2025, 1, 1).expect("a day");
+
+const CORPORATION: Lei = Lei::new("5493001KJTIIGC8Y1R12").expect("an LEI");
 
 /// A Canada coupon in CAD.
 const COUPON: Holding = Holding {
@@ -17,9 +20,10 @@ const COUPON: Holding = Holding {
     maturity: Date::new(2030, 6, 24).expect("a day"),
     value: 1_000_000,
     currency: Currency::Cad,
+    rating: None,
 };
 
-/// The book and the proposal of a sheet whose sides, kinds, issuers, dates and currencies are known.
+/// The book and the proposal of a sheet whose sides, kinds, issuers, dates, currencies and ratings are known.
 fn named(sheet: &Sheet) -> (Book, Proposal) {
     let day = |number| Date::from_number(number).expect("a day");
     let holding = |number| {
@@ -27,10 +31,11 @@ fn named(sheet: &Sheet) -> (Book, Proposal) {
         Holding {
             side: Side::ALL[row.side as usize],
             kind: Kind::ALL[row.kind as usize],
-            issuer: Issuer::ALL[row.issuer as usize],
+            issuer: issuer_text(row.issuer).parse().expect("an issuer"),
             maturity: day(row.maturity),
             value: row.value,
             currency: Currency::ALL[row.currency as usize],
+            rating: Rating::from_number(row.rating),
         }
     };
     let holdings: Vec<Holding> = (0..sheet.side.len()).map(holding).collect();
@@ -63,7 +68,7 @@ fn by_columns(sheet: &Sheet) -> Result<Accepted, Refusal> {
 fn the_columns_are_the_numbers() {
     for side in Side::ALL {
         for kind in Kind::ALL {
-            for issuer in Issuer::ALL {
+            for (number, issuer) in (0..).zip(Issuer::GOVERNMENTS) {
                 for currency in Currency::ALL {
                     let holding = Holding {
                         side,
@@ -75,10 +80,11 @@ fn the_columns_are_the_numbers() {
                     let row = Row {
                         side: side.number(),
                         kind: kind.number(),
-                        issuer: issuer.number(),
+                        issuer: number,
                         maturity: 2030_06_24,
                         value: 1_000_000,
                         currency: currency.number(),
+                        rating: NOT_RATED,
                     };
                     let book = Book::new(VALUED, [holding]);
                     let columns = Columns::of(&book, &Proposal::new([5], []));
@@ -95,7 +101,7 @@ fn random_books_by_name_and_by_number() {
     let mut random = Random::new(0x0D01);
     for shape in &SHAPES {
         for size in [0, 1, 2, 9, 40, 256] {
-            let mut sheet = best_sheet(&book(&mut random, shape, size));
+            let mut sheet = best_sheet(&book(&mut random, shape, size)).renumbered();
             for change in [0, 1] {
                 if size > 0 {
                     sheet.price[random.place(size)] ^= change;
@@ -161,6 +167,18 @@ fn refusals_that_names_leave_possible() {
     };
     let apart = refusal(&[COUPON, dollars], &[8_760, 0], &[line]);
     assert_eq!(apart, Refusal::PairNotAllowed { line: 0 });
+    let rated = Holding {
+        rating: Some(Rating::SingleA),
+        ..short
+    };
+    let government = refusal(&[COUPON, rated], &[8_760, 0], &[line]);
+    assert_eq!(government, Refusal::RatingInvalid { holding: 1 });
+    let unrated = Holding {
+        issuer: Issuer::Corporation(CORPORATION),
+        ..short
+    };
+    let corporation = refusal(&[COUPON, unrated], &[8_760, 0], &[line]);
+    assert_eq!(corporation, Refusal::RatingInvalid { holding: 1 });
 }
 
 #[test]
@@ -173,7 +191,7 @@ fn a_bond_and_its_strip_in_a_foreign_currency() {
     };
     let proposal = Proposal::new([0, 5_840], [line]);
     for currency in [Currency::Usd, Currency::Gbp] {
-        for issuer in Issuer::ALL {
+        for issuer in Issuer::GOVERNMENTS {
             let strip = Holding {
                 issuer,
                 currency,
@@ -193,6 +211,57 @@ fn a_bond_and_its_strip_in_a_foreign_currency() {
             assert_eq!(cents, wanted, "{issuer} in {currency}");
         }
     }
+}
+
+#[test]
+fn a_bond_and_its_strip_of_a_corporation() {
+    // After three years a bond asks 7 and a strip 10.5 per cent, which is what the pair asks.
+    let line = Line {
+        long: 0,
+        short: 1,
+        amount: 1_000_000,
+    };
+    let proposal = Proposal::new([0, 10_220], [line]);
+    let other = Lei::new("7ZW8QJWVPR4P1J1KQY45").expect("an LEI");
+    for lei in [CORPORATION, other] {
+        for strip_rating in Rating::ALL {
+            for bond_rating in Rating::ALL {
+                let strip = Holding {
+                    issuer: Issuer::Corporation(CORPORATION),
+                    rating: Some(strip_rating),
+                    ..COUPON
+                };
+                let bond = Holding {
+                    side: Side::Short,
+                    kind: Kind::Bond,
+                    issuer: Issuer::Corporation(lei),
+                    rating: Some(bond_rating),
+                    ..strip
+                };
+                let cents = check(&Book::new(VALUED, [strip, bond]), &proposal);
+                let cents = cents.map(|accepted| accepted.figures.cents);
+                let wanted = match (lei == CORPORATION, bond_rating) {
+                    (true, Rating::SingleA) => Ok(105_000),
+                    _ => Err(Refusal::PairNotAllowed { line: 0 }),
+                };
+                assert_eq!(cents, wanted, "{lei}, {strip_rating}, {bond_rating}");
+            }
+        }
+    }
+}
+
+#[test]
+fn corporations_are_numbered_by_first_appearance() {
+    let texts = [105, 7, 103, 105, 300, 0, 103].map(issuer_text);
+    let holdings = texts.each_ref().map(|text| Holding {
+        issuer: text.parse().expect("an issuer"),
+        ..COUPON
+    });
+    let book = Book::new(VALUED, holdings);
+    let columns = Columns::of(&book, &Proposal::default());
+    assert_eq!(columns.issuer, [100, 7, 101, 100, 102, 0, 101]);
+    let leis: Vec<String> = book.corporations().iter().map(Lei::to_string).collect();
+    assert_eq!(leis, [&texts[0], &texts[2], &texts[4]].map(String::as_str));
 }
 
 #[test]
@@ -228,7 +297,7 @@ fn columns_of_any_sort_are_checked_alike() {
 
 #[test]
 fn the_order_in_which_columns_are_lent() {
-    let places = Columns::from_array([0, 1, 2, 3, 4, 5, 6, 7, 8, 9]);
+    let places = Columns::from_array([0, 1, 2, 3, 4, 5, 6, 7, 8, 9, 10]);
     let named = Columns {
         side: 0,
         kind: 1,
@@ -237,10 +306,11 @@ fn the_order_in_which_columns_are_lent() {
         value: 4,
         price: 5,
         currency: 6,
-        long: 7,
-        short: 8,
-        amount: 9,
+        rating: 7,
+        long: 8,
+        short: 9,
+        amount: 10,
     };
     assert_eq!(places, named);
-    assert_eq!(places.into_array(), [0, 1, 2, 3, 4, 5, 6, 7, 8, 9]);
+    assert_eq!(places.into_array(), [0, 1, 2, 3, 4, 5, 6, 7, 8, 9, 10]);
 }

@@ -3,7 +3,7 @@
 mod support;
 
 use margin_calculator::samples::{Random, SHAPES, Shape, best_sheet, book};
-use margin_calculator::{Sheet, pair_rate};
+use margin_calculator::{FIRST_CORPORATION, Sheet, pair_rate};
 use support::Run;
 
 /// Two holdings that may be paired, and their rate.
@@ -55,11 +55,19 @@ fn small_book(random: &mut Random, shape: &Shape, size: usize, values: u64) -> S
     book
 }
 
-/// Whether a sheet has a line of paragraph 2, and whether it has one of paragraph 4.
-fn paragraphs(sheet: &Sheet) -> [bool; 2] {
-    let mut lines = sheet.long.iter().map(|long| sheet.currency[*long as usize]);
-    let domestic = lines.clone().any(|currency| currency == 0);
-    [domestic, lines.any(|currency| currency > 0)]
+/// Whether a sheet has a line of paragraph 2, of paragraph 3 and of paragraph 4.
+fn paragraphs(sheet: &Sheet) -> [bool; 3] {
+    let mut found = [false; 3];
+    for long in &sheet.long {
+        let long = sheet.row(*long as usize);
+        let paragraph = match (long.currency, long.issuer) {
+            (1.., _) => 4,
+            (_, FIRST_CORPORATION..) => 3,
+            _ => 2,
+        };
+        found[paragraph - 2] = true;
+    }
+    found
 }
 
 /// Draws a book of this size and with values up to this, and demands that the best proposal on it is accepted
@@ -87,22 +95,37 @@ fn no_pairing_needs_less() {
 }
 
 #[test]
-fn no_pairing_by_either_paragraph_needs_less() {
-    let mut run = Run::new("either paragraph", 0x0202);
-    let (mut foreign, mut both) = (0, 0);
-    for shape in SHAPES.iter().filter(|shape| shape.currencies.len() > 1) {
+fn no_pairing_by_any_paragraph_needs_less() {
+    let mut run = Run::new("any paragraph", 0x0202);
+    let mut seen = [0; 3];
+    let mut several = 0;
+    let corporate = |shape: &Shape| {
+        shape
+            .issuers
+            .iter()
+            .any(|issuer| *issuer >= FIRST_CORPORATION)
+    };
+    let many = |shape: &&Shape| shape.currencies.len() > 1 || corporate(shape);
+    for shape in SHAPES.iter().filter(many) {
         for (size, values) in [(5, 3), (6, 2), (8, 2), (10, 1)] {
             for _ in 0..400 {
                 let best = least_is_found(&mut run, shape, size, values);
-                let [by_2, by_4] = paragraphs(&best);
-                foreign += usize::from(by_4);
-                both += usize::from(by_2 && by_4);
+                let found = paragraphs(&best).map(usize::from);
+                several += usize::from(found.iter().sum::<usize>() > 1);
+                for (count, found) in seen.iter_mut().zip(found) {
+                    *count += found;
+                }
             }
         }
     }
+    for (paragraph, count) in (2..).zip(seen) {
+        assert!(
+            count >= 1_000,
+            "{count} books are paired by paragraph {paragraph}"
+        );
+    }
     assert!(
-        foreign >= 2_000,
-        "{foreign} books are paired by paragraph 4"
+        several >= 300,
+        "{several} books are paired by more than one paragraph"
     );
-    assert!(both >= 300, "{both} books are paired by both paragraphs");
 }

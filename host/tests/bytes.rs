@@ -119,6 +119,7 @@ fn lists_of_the_largest_book() {
         maturity: 2025_01_02,
         value: 1,
         currency: 0,
+        rating: 2,
     };
     let mut lent = Lent::of(&Sheet::of_rows(VALUED, &[bond; 256], 0));
     for short in [2_047, 2_040] {
@@ -172,6 +173,7 @@ fn short_lists_come_after_the_counts() {
         (17, 2),
         (23, 2),
         (24, 2),
+        (25, 2),
         (VALUATION, 2),
     ] {
         for (remainder, ranking, answer) in [

@@ -10,6 +10,8 @@ use support::sheets::{BOND, CA, COUPON, ON};
 
 /// The first and the last number that could be a date of 1899 to 2300.
 const NUMBERS: std::ops::RangeInclusive<u64> = 1899_00_00..=2300_99_99;
+/// The rating of a government, as bytes.
+const NOT_RATED: [u8; 8] = margin_calculator::NOT_RATED.to_le_bytes();
 /// The years at which a term changes.
 const YEARS: [u64; 6] = [1, 3, 7, 11, 20, 100];
 
@@ -26,6 +28,7 @@ fn one(date: u64, holding: [u64; 4]) -> (u64, u64) {
     let mut columns: Columns<&[u8]> = Columns::by_group(&[0; 8], &[]);
     (columns.kind, columns.issuer) = (&kind, &issuer);
     (columns.maturity, columns.value) = (&maturity, &value);
+    columns.rating = &NOT_RATED;
     answer(date, &columns)
 }
 
@@ -35,7 +38,8 @@ fn pair(date: u64, maturities: [u64; 2]) -> bool {
         let [low, high] = numbers.map(u128::from);
         (low | high << 64).to_le_bytes()
     };
-    let [side, one, issuer, maturity] = [[0, 1], [1, 1], [ON, ON], maturities].map(entries);
+    let [side, one, issuer, maturity, rating] =
+        [[0, 1], [1, 1], [ON, ON], maturities, [2, 2]].map(entries);
     let columns: Columns<&[u8]> = Columns {
         side: &side,
         kind: &one,
@@ -44,6 +48,7 @@ fn pair(date: u64, maturities: [u64; 2]) -> bool {
         value: &one,
         price: &[0; 16],
         currency: &[0; 16],
+        rating: &rating,
         long: &side[..8],
         short: &side[8..],
         amount: &one[..8],

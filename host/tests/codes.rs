@@ -1,15 +1,38 @@
-//! Sides, kinds, issuers, currencies and dates: their texts and numbers.
+//! Sides, kinds, issuers, currencies, ratings and dates: their texts and numbers.
 
 use std::fmt::{Debug, Display};
 use std::str::FromStr;
 
-use margin_calculator::{CURRENCIES, ISSUERS, KINDS, SIDES};
-use margin_host::{Currency, Date, InvalidDate, Issuer, Kind, Side, UnknownCode};
+use margin_calculator::{CURRENCIES, ISSUERS, KINDS, RATINGS, SIDES};
+use margin_host::{Currency, Date, InvalidDate, Issuer, Kind, Rating, Side, UnknownCode};
 
-/// Texts that are no side, kind, issuer or currency.
-const UNKNOWN: [&str; 20] = [
-    "", " ", "l", "s", "b", "c", "ca", "Ca", "on", "YT", "NT", "NU", "CAN", "UK", "USA", "EUR",
-    "usd", "Gbp", "$", "0",
+/// Texts that are no side, kind, issuer, currency or rating.
+const UNKNOWN: [&str; 25] = [
+    "",
+    " ",
+    "l",
+    "s",
+    "b",
+    "c",
+    "ca",
+    "Ca",
+    "on",
+    "YT",
+    "NT",
+    "NU",
+    "CAN",
+    "UK",
+    "USA",
+    "EUR",
+    "usd",
+    "Gbp",
+    "$",
+    "0",
+    "y",
+    "n",
+    "A",
+    "an LEI",
+    "5493001KJTIIGC8Y1R13",
 ];
 
 /// Every value has the text and the number of its place among all, and no other text or number has one.
@@ -38,7 +61,7 @@ fn there_and_back<T>(
             assert!(changed.parse::<T>().is_err(), "{changed:?}");
         }
     }
-    for number in [all.len() as u64, 13, 256, 1 << 32, u64::MAX] {
+    for number in [all.len() as u64, 13, 99, 100, 256, 1 << 32, u64::MAX] {
         assert_eq!(from_number(number), None);
     }
     for text in UNKNOWN {
@@ -65,7 +88,8 @@ fn issuers() {
     let texts = [
         "CA", "AB", "BC", "MB", "NB", "NL", "NS", "ON", "PE", "QC", "SK", "US", "GB",
     ];
-    there_and_back(&Issuer::ALL, &texts, Issuer::number, Issuer::from_number);
+    let number = |issuer: Issuer| issuer.number().expect("a government");
+    there_and_back(&Issuer::GOVERNMENTS, &texts, number, Issuer::from_number);
     let named = [
         Issuer::Canada,
         Issuer::Alberta,
@@ -81,7 +105,7 @@ fn issuers() {
         Issuer::UnitedStates,
         Issuer::UnitedKingdom,
     ];
-    assert_eq!(named, Issuer::ALL);
+    assert_eq!(named, Issuer::GOVERNMENTS);
 }
 
 #[test]
@@ -98,10 +122,20 @@ fn currencies() {
 }
 
 #[test]
+fn ratings() {
+    let texts = ["Y", "N"];
+    there_and_back(&Rating::ALL, &texts, Rating::number, Rating::from_number);
+    let named = [Rating::SingleA, Rating::Lower];
+    assert_eq!(named.map(Rating::number), [0, 1]);
+}
+
+#[test]
 fn the_calculator_has_the_same_texts() {
     assert_eq!(Side::ALL.map(|side| side.to_string()), SIDES);
     assert_eq!(Kind::ALL.map(|kind| kind.to_string()), KINDS);
-    assert_eq!(Issuer::ALL.map(|issuer| issuer.to_string()), ISSUERS);
+    let issuers = Issuer::GOVERNMENTS.map(|issuer| issuer.to_string());
+    assert_eq!(issuers, ISSUERS);
+    assert_eq!(Rating::ALL.map(|rating| rating.to_string()), RATINGS[..2]);
     let currencies = Currency::ALL.map(|currency| currency.to_string());
     assert_eq!(currencies, CURRENCIES);
 }
@@ -174,12 +208,15 @@ fn an_unknown_text_in_words() {
     );
     let issuer = "YT".parse::<Issuer>().map_err(words);
     let wanted =
-        "unknown issuer \"YT\": it must be CA, AB, BC, MB, NB, NL, NS, ON, PE, QC, SK, US or GB"
+        "unknown issuer \"YT\": it must be CA, AB, BC, MB, NB, NL, NS, ON, PE, QC, SK, US, GB or an LEI"
             .to_string();
     assert_eq!(issuer, Err(wanted));
     let currency = "EUR".parse::<Currency>().map_err(words);
     let wanted = "unknown currency \"EUR\": it must be CAD, USD or GBP".to_string();
     assert_eq!(currency, Err(wanted));
+    let rating = "A".parse::<Rating>().map_err(words);
+    let wanted = "unknown rating \"A\": it must be Y or N".to_string();
+    assert_eq!(rating, Err(wanted));
 }
 
 #[test]

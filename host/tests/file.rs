@@ -5,7 +5,7 @@ mod support;
 use margin_calculator::texts::{
     PRINTED, dated, holding, holding_in, joined, of_width, quoted, quoted_at,
 };
-use margin_calculator::{FIELDS, Row, Sheet, VALUED};
+use margin_calculator::{FIELDS, NOT_RATED, Row, Sheet, VALUED};
 use margin_host::{Columns, Line};
 use support::column;
 use support::file::{File, Files, after_date, with_field};
@@ -22,6 +22,7 @@ fn printed() -> Sheet {
             value: vec![1_000_000, 600_000, 300_000],
             price: vec![0, 5_840, 6_570],
             currency: vec![0, 0, 0],
+            rating: vec![2, 2, 2],
             long: vec![0, 0],
             short: vec![1, 2],
             amount: vec![600_000, 300_000],
@@ -30,7 +31,7 @@ fn printed() -> Sheet {
 }
 
 fn one_holding(side: u64, kind: u64, issuer: u64, currency: u64) -> Sheet {
-    let (maturity, value) = (2030_06_24, 1_000);
+    let (maturity, value, rating) = (2030_06_24, 1_000, NOT_RATED);
     let holding = Row {
         side,
         kind,
@@ -38,6 +39,7 @@ fn one_holding(side: u64, kind: u64, issuer: u64, currency: u64) -> Sheet {
         maturity,
         value,
         currency,
+        rating,
     };
     Sheet::of_rows(VALUED, &[holding], 0)
 }
@@ -158,6 +160,12 @@ fn texts_that_are_no_letter_or_code() {
                 "826", "$",
             ],
         ),
+        (
+            8,
+            &[
+                "y", "n", "YN", "NY", "YY", "A", "AA", " ", "Y ", " N", "0", "1", "2", "-",
+            ],
+        ),
     ];
     for (at, texts) in texts {
         for text in texts {
@@ -191,9 +199,9 @@ fn texts_that_are_no_letter_or_code() {
 const NUMERALS: [(&str, usize, usize, usize); 5] = [
     (PRINTED[1], 5, 4, 12),
     (PRINTED[1], 6, 5, 6),
-    (PRINTED[4], 1, 7, 6),
-    (PRINTED[4], 2, 8, 6),
-    (PRINTED[4], 3, 9, 12),
+    (PRINTED[4], 1, 8, 6),
+    (PRINTED[4], 2, 9, 6),
+    (PRINTED[4], 3, 10, 12),
 ];
 
 #[test]

@@ -3,7 +3,7 @@
 mod support;
 
 use margin_calculator::samples::{ANY, best_sheet, book};
-use margin_calculator::texts::{PRINTED, dated, holding, joined, line, text_of};
+use margin_calculator::texts::{PRINTED, dated, holding, joined, line, rated, text_of};
 use margin_calculator::{Row, Sheet, VALUED};
 use margin_host::Line;
 use support::file::{File, Files, LISTS};
@@ -87,7 +87,8 @@ fn answers_of_every_length() {
     let mut files = Files::fixed("answers of every length");
     let one = &holding("L,C,CA,2025-01-02,1,0");
     let unknown = &holding("L,C,YT,2025-01-02,1,0");
-    let texts: [(Vec<u8>, (u64, u64)); 10] = [
+    let missing = &rated("", "L,C,5493001KJTIIGC8Y1R12,2025-01-02,1,0");
+    let texts: [(Vec<u8>, (u64, u64)); 11] = [
         (joined(&PRINTED), (0, 3)),
         (joined(&PRINTED[..1]), (0, 0)),
         (dated(&[PRINTED[1]; 257]), (3, 0)),
@@ -97,6 +98,7 @@ fn answers_of_every_length() {
         (Vec::new(), (22, 0)),
         (dated(&[one, "\t"]), (19, 2)),
         (dated(&[one, unknown]), (21, 2)),
+        (dated(&[one, missing]), (25, 2)),
         (dated(&[&line("0,1,1"), one]), (22, 2)),
     ];
     for length in 0..=24 {
@@ -162,6 +164,7 @@ fn lists_of_the_largest_file() {
         maturity: 2025_01_02,
         value: 1,
         currency: 2,
+        rating: 2,
     };
     let mut sheet = Sheet::of_rows(VALUED, &[holding; 256], 0);
     for line in 0..512 {

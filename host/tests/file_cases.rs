@@ -30,7 +30,7 @@ fn each_case_prints_its_stated_line() {
 
 #[test]
 fn the_cases_reach_every_refusal_of_a_file() {
-    let mut seen = [0; 25];
+    let mut seen = [0; 26];
     for case in all() {
         let line = first_line(&case);
         let number = match line.strip_prefix("X,") {
@@ -44,7 +44,7 @@ fn the_cases_reach_every_refusal_of_a_file() {
         };
         seen[number] += 1;
     }
-    for number in [3, 24].into_iter().chain(7..=22) {
+    for number in [3, 24, 25].into_iter().chain(7..=22) {
         assert!(seen[number] > 0, "no case with {number}: {seen:?}");
     }
     assert!(seen[0] >= 50, "{} cases are accepted", seen[0]);
@@ -65,7 +65,7 @@ fn titles_and_lengths_fit_the_framing() {
         assert!(case.text.len() <= 65_537, "{}", case.title);
         assert!(titles.insert(&case.title), "{} twice", case.title);
     }
-    assert!((150..=500).contains(&cases.len()), "{} cases", cases.len());
+    assert!((150..=900).contains(&cases.len()), "{} cases", cases.len());
     assert!(stdin(&cases).len() < 1_500_000);
 }
 
@@ -89,5 +89,5 @@ fn the_reader_on_each_case() {
     for case in all() {
         files.compare(&File::of(&case.text), format_args!("{}", case.title));
     }
-    files.has_seen(&[0, 3, 9, 18, 19, 20, 21, 22], 1);
+    files.has_seen(&[0, 3, 9, 18, 19, 20, 21, 22, 25], 1);
 }

@@ -195,7 +195,7 @@ fn every_byte_at_every_place() {
 fn every_short_text() {
     let mut files = Files::fixed("every short text");
     let letters = b"\",\r\nH\0";
-    for length in 0..FIELDS as u32 {
+    for length in 0..8 {
         for text in texts(letters, length) {
             files.compare(&File::exact(&text, 0, 0), format_args!("{length} bytes"));
         }
@@ -203,8 +203,8 @@ fn every_short_text() {
     assert_eq!(files.seen[0], 0, "none has a date");
     assert_eq!(files.seen[22], 1, "only the empty text has no record");
     files.has_seen(&[19, 20], 1_000);
-    // As many fields as a record has take one comma fewer.
-    assert_eq!(files.seen[21], 1, "only commas have that many fields");
+    // As many fields as a record has take one comma fewer, which is one more than there are here.
+    assert_eq!(files.seen[21], 0, "none has that many fields");
 }
 
 #[test]
@@ -232,12 +232,13 @@ fn every_short_field() {
                 (PRINTED[4], 4),
                 (PRINTED[1], 5),
                 (PRINTED[1], 7),
+                (PRINTED[1], 8),
                 (PRINTED[1], 4),
             ] {
                 let text = after_date(with_field(record, at, &field));
                 files.compare(&File::exact(&text, 1, 1), format_args!("field {at}"));
             }
-            for at in [1, 2, 7] {
+            for at in [1, 2, 8] {
                 let text = with_field(PRINTED[0], at, &field);
                 files.compare(&File::exact(&text, 0, 0), format_args!("date, field {at}"));
             }

@@ -84,15 +84,17 @@ fn as_many_records_as_there_may_be() {
 
 #[test]
 fn the_longest_file_that_is_read() {
-    // Every numeral has all the digits that it may have, the dates are none, and every field is in quotes.
+    // Every issuer is a corporation, every numeral has all the digits that it may have, the dates are none, and
+    // every field is in quotes.
     let mut files = Files::fixed("the longest file that is read");
     let holding = Row {
         side: 1,
         kind: 2,
-        issuer: 10,
+        issuer: 100,
         maturity: 9999_99_99,
         value: 999_999_999_999,
         currency: 2,
+        rating: 1,
     };
     let mut sheet = Sheet::of_rows(9999_99_99, &[holding; 256], 999_999);
     for _ in 0..512 {
@@ -107,7 +109,7 @@ fn the_longest_file_that_is_read() {
         .map(|record| quoted(record))
         .collect();
     let text = joined(&all);
-    assert_eq!(text.len(), 41_252);
+    assert_eq!(text.len(), 48_423);
     files.accepted(
         &File::exact(&text, 256, 512),
         &sheet,

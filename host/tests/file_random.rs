@@ -8,13 +8,15 @@ use support::file::{File, Files, LISTS, after_date};
 
 /// Fields at which something changes in the paper, and some that are none.
 #[rustfmt::skip]
-const PROBES: [&str; 66] = [
+const PROBES: [&str; 78] = [
     "", "0", "00", "007", "+1", "-1", " 1", "1 ", "1", "9", "12", "255", "256", "365", "36500", "43801",
     "2025-01-01", "2030-06-24", "2299-12-31", "2025-02-30", "0000-00-00", "9999-99-99", "20250101", "2025-1-01",
     "2025-01-1", "2025/01/01", "02025-01-01",
     "999999", "1000000", "0000000", "999999999999", "1000000000000", "18446744073709551616",
     "D", "H", "P", "h", "p", "L", "S", "l", "B", "C", "R", "CA", "ON", "SK", "YT", "NU", "on",
-    "US", "GB", "UK", "CAD", "USD", "GBP", "EUR", "usd",
+    "US", "GB", "UK", "CAD", "USD", "GBP", "EUR", "usd", "Y", "N", "y", "YN",
+    "5493001KJTIIGC8Y1R12", "5493001KJTIIGC8Y1R13", "5493001KJTIIGC8Y1R1", "5493001kjtiigc8y1r12",
+    "7ZW8QJWVPR4P1J1KQY45", "00000000000000000001", "00000000000000000000", "ZZZZZZZZZZZZZZZZZZZZ",
     "\"\"", "x\"\"y", "\r\n", "a,b", "\t", "\u{7F}", "\u{80}", "\"",
 ];
 
@@ -49,16 +51,29 @@ fn valuation(random: &mut Random) -> Vec<String> {
     fields
 }
 
+/// A government without a rating or a corporation, one of a few or one of many, with one.
+fn issuer_and_rating(random: &mut Random) -> [String; 2] {
+    let corporation = match random.below(4) {
+        0 => 100 + random.below(4),
+        1 => random.bits() | 1 << 32,
+        _ => return [random.pick(&ISSUERS), ""].map(str::to_string),
+    };
+    let rating = random.pick(&["Y", "N"]);
+    [texts::issuer_text(corporation), rating.to_string()]
+}
+
 fn holding(random: &mut Random) -> Vec<String> {
+    let [issuer, rating] = issuer_and_rating(random);
     let mut fields = vec![
         "H".to_string(),
         random.pick(&SIDES).to_string(),
         random.pick(&KINDS).to_string(),
-        random.pick(&ISSUERS).to_string(),
+        issuer,
         date(random),
         numeral(random, 12),
         numeral(random, 6),
         random.pick(&CURRENCIES).to_string(),
+        rating,
     ];
     fields.resize(FIELDS, String::new());
     fields
@@ -91,7 +106,7 @@ fn change(random: &mut Random, records: &mut Records) {
     }
     let (at, other) = (random.place(records.len()), random.place(records.len()));
     let field = random.place(records[at].len());
-    match random.below(10) {
+    match random.below(12) {
         0..4 => records[at][field] = random.pick(&PROBES).to_string(),
         4 => records[at].insert(field, random.pick(&PROBES).to_string()),
         5 => records[at].truncate(field.max(1)),
@@ -105,9 +120,17 @@ fn change(random: &mut Random, records: &mut Records) {
             };
             records.insert(at, record);
         }
-        _ => {
+        9 => {
             let from = random.place(records[other].len());
             records[at][field] = records[other][from].clone();
+        }
+        _ => {
+            // Another issuer or another rating, which need not fit the rest.
+            let [issuer, rating] = issuer_and_rating(random);
+            let (place, text) = random.pick(&[(3, &issuer), (8, &rating)]);
+            if let Some(field) = records[at].get_mut(place) {
+                field.clone_from(text);
+            }
         }
     }
 }
@@ -221,7 +244,7 @@ fn random_files_with_changed_fields() {
             files.compare(&file, format_args!("round {round}, {changes} changes"));
         }
     }
-    files.has_seen(&[0, 2, 19, 20, 21, 22], 1_000);
+    files.has_seen(&[0, 2, 19, 20, 21, 22, 25], 1_000);
 }
 
 #[test]
@@ -241,7 +264,8 @@ fn random_files_with_changed_bytes() {
             files.compare(&file, format_args!("round {round}, {changes} changes"));
         }
     }
-    files.has_seen(&[0, 2, 19, 20, 21], 1_000);
+    files.has_seen(&[0, 19, 20, 21, 25], 1_000);
+    files.has_seen(&[2], 500);
 }
 
 #[test]

@@ -3,16 +3,18 @@
 mod support;
 
 use margin_calculator::FIELDS;
-use margin_calculator::texts::{PRINTED, dated, holding, holding_in, joined, line, of_width};
+use margin_calculator::texts::{
+    PRINTED, dated, holding, holding_in, joined, line, of_width, rated,
+};
 use support::file::{File, Files};
 
 /// A holding and a line, by their fields.
 const HOLDING: &str = "L,C,ON,2030-06-24,1000,8760";
 const LINE: &str = "0,3,1000";
 /// Faults of one record, from the first in the reader's order.
-const OF_A_RECORD: [u64; 4] = [19, 20, 21, 22];
+const OF_A_RECORD: [u64; 5] = [19, 20, 21, 25, 22];
 /// Where 3, 9 and 2 stand among the faults of a record: after all of its own.
-const LAST: u64 = u64::MAX;
+const LAST: usize = OF_A_RECORD.len();
 
 /// A file to be made: holdings and lines after a date, faults of records by number and record, the number of
 /// bytes to which it is filled up, and whether a list is too short.
@@ -35,6 +37,7 @@ impl Plan {
             for (_, at) in self.faults.iter().filter(|fault| fault.0 == number) {
                 match number {
                     22 => records[*at] = self.out_of_order(*at),
+                    25 => records[*at] = rated("Y", HOLDING),
                     21 => records[*at].insert(2, 'x'),
                     20 => records[*at].push(','),
                     _ => records[*at].push('\t'),
@@ -67,14 +70,16 @@ impl Plan {
         file
     }
 
-    /// The reader's order: 18; each record in turn 19 to 22, then 3 or 9; after all records 2.
+    /// The reader's order: 18; each record in turn 19, 20, 21, 25, 22, then 3 or 9; after all records 2.
     fn first(&self) -> (u64, u64) {
         if self.bytes > 65_536 {
             return (18, 0);
         }
-        let mut events: Vec<(usize, u64, (u64, u64))> = Vec::new();
+        let mut events: Vec<(usize, usize, (u64, u64))> = Vec::new();
         for &(number, at) in &self.faults {
-            events.push((at, number, (number, at as u64)));
+            let turn = OF_A_RECORD.iter().position(|other| *other == number);
+            let turn = turn.expect("a fault of a record");
+            events.push((at, turn, (number, at as u64)));
         }
         if self.holdings > 256 {
             events.push((1 + 256, LAST, (3, 0)));
@@ -204,8 +209,8 @@ fn the_grammar_is_judged_on_the_whole_record() {
     let mut files = Files::fixed("the whole record");
     let good = &holding(HOLDING);
     for record in [
-        "D,2025-01-01,,,,,,,\t",
-        "H,L,C,CA,1,1,0,CAD,,\t",
+        "D,2025-01-01,,,,,,,,\t",
+        "H,L,C,CA,1,1,0,CAD,,,\t",
         "x,\u{7F}",
         "a,b,c,\"d\"e",
         "H,L,C,CA,007,1,0,\"",
@@ -251,16 +256,17 @@ fn records_of_other_widths() {
 }
 
 #[test]
-fn seven_and_nine_fields() {
-    let mut files = Files::fixed("seven and nine fields");
+fn eight_and_ten_fields() {
+    let mut files = Files::fixed("eight and ten fields");
     for record in [
-        "D,2025-01-01,,,,,",
-        "D,2025-01-01,,,,,,,",
-        "H,L,C,ON,2030-06-24,1000,8760",
-        "H,L,C,ON,2030-06-24,1000,8760,CAD,",
-        "H,L,C,ON,2030-06-24,1000,8760,,",
-        "P,0,3,1000,,,",
-        "P,0,3,1000,,,,,",
+        "D,2025-01-01,,,,,,",
+        "D,2025-01-01,,,,,,,,",
+        "H,L,C,ON,2030-06-24,1000,8760,CAD",
+        "H,L,C,ON,2030-06-24,1000,8760,CAD,,",
+        "H,L,C,5493001KJTIIGC8Y1R12,2030-06-24,1000,8760,CAD",
+        "H,L,C,5493001KJTIIGC8Y1R12,2030-06-24,1000,8760,CAD,Y,",
+        "P,0,3,1000,,,,",
+        "P,0,3,1000,,,,,,",
     ] {
         for before in 0..3 {
             let mut records = vec![holding(HOLDING); before];
@@ -309,13 +315,13 @@ fn a_date_in_its_place_alone() {
         // A first record that is none has its own faults first, and so has a second date.
         (&["H,L\t", sound[0]], (19, 0)),
         (&["H,L", sound[0]], (20, 0)),
-        (&["H,,,,,,,", sound[0]], (21, 0)),
-        (&[sound[0], "D,2025-01-01,,,,,,\t"], (19, 1)),
-        (&[sound[0], "D,2025-01-01,,,,,"], (20, 1)),
-        (&[sound[0], "D,2025-1-1,,,,,,"], (21, 1)),
-        (&[sound[0], "D,2025-01-01,,,,,,0"], (21, 1)),
+        (&["H,,,,,,,,", sound[0]], (21, 0)),
+        (&[sound[0], "D,2025-01-01,,,,,,,\t"], (19, 1)),
+        (&[sound[0], "D,2025-01-01,,,,,,"], (20, 1)),
+        (&[sound[0], "D,2025-1-1,,,,,,,"], (21, 1)),
+        (&[sound[0], "D,2025-01-01,,,,,,,0"], (21, 1)),
         // 22 whatever the date is.
-        (&[sound[0], "D,9999-99-99,,,,,,"], (22, 1)),
+        (&[sound[0], "D,9999-99-99,,,,,,,"], (22, 1)),
         // A record that is out of order comes before faults of later ones.
         (&[sound[1], "\""], (22, 0)),
         (&[sound[0], sound[0], "\""], (22, 1)),
@@ -359,5 +365,5 @@ fn random_plans() {
             plan.refused(&mut files);
         }
     }
-    files.has_seen(&[0, 2, 3, 9, 18, 19, 20, 21, 22], 10);
+    files.has_seen(&[0, 2, 3, 9, 18, 19, 20, 21, 22, 25], 10);
 }

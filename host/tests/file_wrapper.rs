@@ -2,11 +2,13 @@
 
 use margin_calculator::cases::all;
 use margin_calculator::samples::{Random, SHAPES, best_sheet, book};
-use margin_calculator::texts::{PRINTED, dated, holding, joined, line, of_width, text_of, valued};
+use margin_calculator::texts::{
+    PRINTED, dated, holding, issuer_text, joined, line, of_width, rated, text_of, valued,
+};
 use margin_calculator::{self as calculator, FIELDS, Sheet, print};
 use margin_host::{
-    Accepted, Book, Columns, Currency, Date, Figures, Holding, Issuer, Kind, Line, Proposal,
-    Refusal, Side, check, check_file, read, read_columns,
+    Accepted, Book, Columns, Currency, Date, Figures, Holding, Issuer, Kind, Lei, Line, Proposal,
+    Rating, Refusal, Side, check, check_file, read, read_columns, read_leis,
 };
 
 const VALUED: Date = Date::new(2025, 1, 1).expect("a day");
@@ -39,6 +41,7 @@ fn the_printed_file() {
     assert_eq!(sheet.value, [1_000_000, 600_000, 300_000]);
     assert_eq!(sheet.price, [0, 5_840, 6_570]);
     assert_eq!(sheet.currency, [0; 3]);
+    assert_eq!(sheet.rating, [2; 3]);
     assert_eq!((sheet.long, sheet.short), (vec![0, 0], vec![1, 2]));
     assert_eq!(sheet.amount, [600_000, 300_000]);
     let wanted = Accepted {
@@ -61,6 +64,7 @@ fn the_printed_file_by_its_names() {
         maturity: Date::new(2030, 6, 24).expect("a day"),
         value,
         currency: Currency::Cad,
+        rating: None,
     };
     let holdings = [
         holding(Side::Long, Kind::Coupon, Issuer::Canada, 1_000_000),
@@ -88,6 +92,7 @@ fn both_paragraphs_by_their_names() {
         maturity: LONGER,
         value: 1_000,
         currency: Currency::Usd,
+        rating: None,
     };
     let bond = Holding {
         side: Side::Short,
@@ -114,24 +119,91 @@ fn both_paragraphs_by_their_names() {
         amount: 1_000,
     };
     let proposal = Proposal::new([11_680, 0, 11_680, 0, 43_800, 0], [0, 2, 4].map(line));
-    let text = "D,2025-01-01,,,,,,\r\n\
-                H,L,C,US,2046-11-27,1000,11680,USD\r\n\
-                H,S,B,US,2038-09-10,1000,0,USD\r\n\
-                H,L,C,GB,2046-11-27,1000,11680,GBP\r\n\
-                H,S,B,GB,2038-09-10,1000,0,GBP\r\n\
-                H,L,R,QC,2046-11-27,1000,43800,CAD\r\n\
-                H,S,R,QC,2046-11-27,1000,0,CAD\r\n\
-                P,0,1,1000,,,,\r\n\
-                P,2,3,1000,,,,\r\n\
-                P,4,5,1000,,,,\r\n";
+    let text = "D,2025-01-01,,,,,,,\r\n\
+                H,L,C,US,2046-11-27,1000,11680,USD,\r\n\
+                H,S,B,US,2038-09-10,1000,0,USD,\r\n\
+                H,L,C,GB,2046-11-27,1000,11680,GBP,\r\n\
+                H,S,B,GB,2038-09-10,1000,0,GBP,\r\n\
+                H,L,R,QC,2046-11-27,1000,43800,CAD,\r\n\
+                H,S,R,QC,2046-11-27,1000,0,CAD,\r\n\
+                P,0,1,1000,,,,,\r\n\
+                P,2,3,1000,,,,,\r\n\
+                P,4,5,1000,,,,,\r\n";
     assert_eq!(check(&book, &proposal), check_file(text.as_bytes()));
     assert_eq!(read(text.as_bytes()), Ok((book, proposal)));
     // Three times 4 per cent less 4 per cent, twice, of 1,000 cents.
     let cents = check_file(text.as_bytes()).map(|accepted| accepted.figures.cents);
     assert_eq!(cents, Ok(160));
-    let dollars = text.replace("GBP\r\nH,L,R", "USD\r\nH,L,R");
+    let dollars = text.replace("GBP,\r\nH,L,R", "USD,\r\nH,L,R");
     let refusal = Err(Refusal::PairNotAllowed { line: 1 });
     assert_eq!(check_file(dollars.as_bytes()), refusal);
+}
+
+#[test]
+fn corporations_by_their_leis() {
+    let [first, second] = ["5493001KJTIIGC8Y1R12", "7ZW8QJWVPR4P1J1KQY45"]
+        .map(|text| Lei::new(text).expect("an LEI"));
+    let strip = Holding {
+        side: Side::Long,
+        kind: Kind::Coupon,
+        issuer: Issuer::Corporation(second),
+        maturity: LONGER,
+        value: 1_000,
+        currency: Currency::Cad,
+        rating: Some(Rating::Lower),
+    };
+    let bond = Holding {
+        side: Side::Short,
+        kind: Kind::Bond,
+        rating: Some(Rating::SingleA),
+        ..strip
+    };
+    let other = Holding {
+        issuer: Issuer::Corporation(first),
+        ..bond
+    };
+    let quebec = Holding {
+        issuer: Issuer::Quebec,
+        rating: None,
+        ..bond
+    };
+    let line = Line {
+        long: 0,
+        short: 3,
+        amount: 1_000,
+    };
+    let book = Book::new(VALUED, [strip, quebec, other, bond]);
+    assert_eq!(book.corporations(), [second, first]);
+    let proposal = Proposal::new([29_200, 0, 0, 0], [line]);
+    let text = "D,2025-01-01,,,,,,,\r\n\
+                H,L,C,7ZW8QJWVPR4P1J1KQY45,2046-11-27,1000,29200,CAD,N\r\n\
+                H,S,B,QC,2046-11-27,1000,0,CAD,\r\n\
+                H,S,B,5493001KJTIIGC8Y1R12,2046-11-27,1000,0,CAD,Y\r\n\
+                H,S,B,\"7ZW8QJWVPR4P1J1KQY45\",2046-11-27,1000,0,CAD,Y\r\n\
+                P,0,3,1000,,,,,\r\n";
+    assert_eq!(read_leis(text.as_bytes()), Ok(vec![second, first]));
+    let issuers = read_columns(text.as_bytes()).map(|(_, columns)| columns.issuer);
+    assert_eq!(issuers, Ok(vec![100, 9, 101, 100]));
+    assert_eq!(check(&book, &proposal), check_file(text.as_bytes()));
+    assert_eq!(read(text.as_bytes()), Ok((book, proposal)));
+    // 20 per cent for the pair, 10 for the bond of the other and 5 for Quebec's.
+    let cents = check_file(text.as_bytes()).map(|accepted| accepted.figures.cents);
+    assert_eq!(cents, Ok(350));
+}
+
+#[test]
+fn as_many_corporations_as_there_may_be() {
+    let records: Vec<String> = (100..356)
+        .map(|number| rated("Y", &format!("L,B,{},2030-06-24,1,0", issuer_text(number))))
+        .collect();
+    let (book, _) = read(&dated(&records)).expect("it is read");
+    let leis = book.corporations();
+    assert_eq!(leis.len(), 256);
+    for (number, (lei, holding)) in (100..).zip(leis.iter().zip(&book.holdings)) {
+        assert_eq!(lei.to_string(), issuer_text(number));
+        assert_eq!(holding.issuer, Issuer::Corporation(*lei));
+    }
+    assert_eq!(read_leis(&dated(&records)), Ok(leis));
 }
 
 #[test]
@@ -190,6 +262,11 @@ fn every_refusal_of_a_file() {
         assert_eq!(read(&with(at, "")), refusal);
         let refusal = Err(Refusal::FieldNotOfItsSort { record });
         assert_eq!(read(&with(at, &of_width("h", FIELDS))), refusal);
+        let refusal = Refusal::LeiOrRatingInvalid { record };
+        let wrong = with(at, &rated("Y", "L,C,CA,2030-06-24,1000000,0"));
+        assert_eq!(read(&wrong), Err(refusal));
+        assert_eq!(check_file(&wrong), Err(refusal));
+        assert_eq!(read_leis(&wrong), Err(refusal));
     }
     for (at, other) in [(0, 1), (0, 4), (1, 0), (3, 0), (5, 0), (5, 1)] {
         let record = at as u64;

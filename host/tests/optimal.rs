@@ -262,6 +262,14 @@ fn a_faulty_book_has_no_best() {
         one(|sheet| sheet.currency[4] = 3),
         Err(Refusal::CurrencyUnknown { holding })
     );
+    assert_eq!(
+        one(|sheet| sheet.rating[4] = 1),
+        Err(Refusal::RatingInvalid { holding })
+    );
+    assert_eq!(
+        one(|sheet| sheet.rating.clear()),
+        Err(Refusal::ColumnsDiffer)
+    );
     let many = book(&mut Random::new(1), &SHAPES[0], 257);
     assert_eq!(optimise(&many), Err(Refusal::TooManyHoldings));
 }

@@ -8,7 +8,7 @@ use support::lent::{Lent, NAMES, OF_HOLDINGS};
 use support::{Run, column};
 
 /// Numbers at which something changes in the paper, and a few far away.
-const PROBES: [u64; 36] = [
+const PROBES: [u64; 42] = [
     0,
     1,
     2,
@@ -18,9 +18,15 @@ const PROBES: [u64; 36] = [
     11,
     12,
     13,
+    99,
+    100,
+    101,
     255,
     256,
     257,
+    354,
+    355,
+    356,
     1899_12_31,
     1900_01_01,
     1900_02_29,
@@ -74,7 +80,7 @@ fn change(random: &mut Random, sheet: &mut Sheet) {
 #[test]
 fn best_proposals_with_random_changes() {
     let mut run = Run::new("random changes", 0x0701);
-    let mut seen = [0; 25];
+    let mut seen = [0; 26];
     for round in 0..2_000 {
         let shape = run.random.pick(&SHAPES);
         let size = 1 + run.random.place(if round % 20 == 0 { 120 } else { 16 });
@@ -89,7 +95,10 @@ fn best_proposals_with_random_changes() {
             seen[left.number as usize] += 1;
         }
     }
-    for number in (4..=17).filter(|number| *number != 9).chain([0, 23, 24]) {
+    for number in (4..=17)
+        .filter(|number| *number != 9)
+        .chain([0, 23, 24, 25])
+    {
         assert!(seen[number] > 0, "no book with {number} among {seen:?}");
     }
 }
@@ -104,10 +113,12 @@ fn random_lengths_and_numbers() {
         for (at, column) in lent.columns.iter_mut().enumerate() {
             let more = if uneven { run.random.place(10) } else { 0 };
             let length = lengths[usize::from(at >= OF_HOLDINGS)] + more;
-            let most = [2, 3, 13, 2126_01_01, 1_000, 20_000, 3, 6, 6, 1_000][at];
+            let most = [2, 3, 13, 2126_01_01, 1_000, 20_000, 3, 3, 6, 6, 1_000][at];
             while column.len() < length {
                 let number = match run.random.below(8) {
                     1.. if NAMES[at] == "maturity" => run.random.pick(&[2026_01_01, 2030_06_24]),
+                    1 | 2 if NAMES[at] == "issuer" => run.random.pick(&[99, 100, 101, 355, 356]),
+                    1..7 if NAMES[at] == "rating" => 2,
                     _ => run.random.below(most),
                 };
                 column.extend(number.to_le_bytes());

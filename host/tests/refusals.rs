@@ -95,13 +95,13 @@ fn of_two_faults_the_earlier_in_the_papers_order_wins() {
             }
         }
     }
-    assert_eq!(pairs, 20 * 19 / 2);
+    assert_eq!(pairs, 21 * 20 / 2);
 }
 
 #[test]
 fn of_one_refusal_at_two_places_the_earlier_place_wins() {
     let mut run = Run::fixed("one refusal at two places");
-    for number in (4..=8).chain(10..=16).chain([23, 24]) {
+    for number in (4..=8).chain(10..=16).chain(23..=25) {
         for later in 1..Fault::places(number) {
             for earlier in 0..later {
                 let faults = [later, earlier].map(|place| Fault::at(number, place, PAIRS));
@@ -161,6 +161,15 @@ fn the_order_is_the_papers() {
         ([(10, 2), (23, 2)], 1),
         ([(10, 2), (23, 3)], 0),
         ([(23, 2), (4, 3)], 0),
+        ([(23, 2), (25, 2)], 0),
+        ([(8, 2), (25, 2)], 0),
+        ([(10, 2), (25, 2)], 1),
+        ([(10, 2), (25, 3)], 0),
+        ([(25, 2), (4, 3)], 0),
+        ([(24, 2), (25, 2)], 0),
+        ([(2, 0), (25, 0)], 0),
+        ([(25, HOLDINGS - 1), (11, 0)], 0),
+        ([(25, 0), (VALUATION, 0)], 1),
         ([(2, 0), (23, 0)], 0),
         ([(23, HOLDINGS - 1), (11, 0)], 0),
         ([(6, 2), (24, 2)], 0),

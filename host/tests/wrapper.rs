@@ -68,6 +68,7 @@ fn every_refusal_of_a_length() {
     assert_eq!(with(|sheet| sheet.value.clear()), differ);
     assert_eq!(with(|sheet| sheet.price.truncate(13)), differ);
     assert_eq!(with(|sheet| sheet.currency.push(0)), differ);
+    assert_eq!(with(|sheet| sheet.rating.push(2)), differ);
     assert_eq!(with(|sheet| sheet.long.push(0)), differ);
     assert_eq!(with(|sheet| sheet.short.clear()), differ);
     assert_eq!(with(|sheet| sheet.amount.truncate(5)), differ);
@@ -106,6 +107,10 @@ fn every_refusal_of_a_holding() {
         assert_eq!(with(|sheet| sheet.value[at] = 0), refusal);
         let refusal = Err(Refusal::CurrencyUnknown { holding });
         assert_eq!(with(|sheet| sheet.currency[at] = 3), refusal);
+        let refusal = Err(Refusal::RatingInvalid { holding });
+        assert_eq!(with(|sheet| sheet.rating[at] = 0), refusal);
+        assert_eq!(with(|sheet| sheet.rating[at] = 3), refusal);
+        assert_eq!(with(|sheet| sheet.issuer[at] = 100), refusal);
         let refusal = Err(Refusal::PriceTooHigh { holding });
         assert_eq!(with(|sheet| sheet.price[at] = 43_801), refusal);
     }
@@ -184,13 +189,24 @@ fn parts_and_back() {
     for number in 0..=40 {
         for place in [0, 1, 255, u64::MAX] {
             for second in [0, 1, 255, u64::MAX] {
-                let has_place = matches!(number, 4..=8 | 10..=16 | 19..=24);
-                let known = (1..=24).contains(&number)
+                let has_place = matches!(number, 4..=8 | 10..=16 | 19..=25);
+                let known = (1..=25).contains(&number)
                     && (has_place || place == 0)
                     && (number == 16 || second == 0);
                 let refusal = Refusal::from_parts(number, place, second);
                 assert_eq!(refusal.is_some(), known, "{number} {place} {second}");
                 if let Some(refusal) = refusal {
+                    let parts = (refusal.number(), refusal.place(), refusal.second());
+                    assert_eq!(parts, (number, place, second));
+                }
+                let of_reader = Refusal::from_reader_parts(number, place, second);
+                let given = matches!(number, 2 | 3 | 9 | 18..=22 | 25);
+                assert_eq!(
+                    of_reader.is_some(),
+                    known && given,
+                    "{number} {place} {second}"
+                );
+                if let Some(refusal) = of_reader {
                     let parts = (refusal.number(), refusal.place(), refusal.second());
                     assert_eq!(parts, (number, place, second));
                 }
@@ -201,17 +217,18 @@ fn parts_and_back() {
 }
 
 /// Number, place and second place, and what it says.
-const SENTENCES: [((u64, u64, u64), &str); 25] = [
+const SENTENCES: [((u64, u64, u64), &str); 26] = [
     (
         (1, 0, 0),
-        "the columns of the holdings, price and currency among them, must all have the same \
-         length in whole numbers, and so must the columns of the lines",
+        "the columns of the holdings, price, currency and rating among them, must all have the \
+         same length in whole numbers, and so must the columns of the lines",
     ),
     (
         (2, 0, 0),
         "a list lent for the results is too short: remainder, ranking and the columns of \
          the holdings need one entry for each holding, the columns of the lines one for \
-         each line, the head one entry, the answer 16 bytes",
+         each line, the head one entry, the LEIs 20 bytes for each corporation, the answer \
+         16 bytes",
     ),
     ((3, 0, 0), "the book has more than 256 holdings"),
     (
@@ -227,7 +244,8 @@ const SENTENCES: [((u64, u64, u64), &str); 25] = [
     (
         (6, 1, 0),
         "holding 1, counting from 0, has an unknown issuer: it must be 0 for Canada, 1 to \
-         10 for a province, 11 for the United States or 12 for the United Kingdom",
+         10 for a province, 11 for the United States, 12 for the United Kingdom or 100 to \
+         355 for a corporation",
     ),
     (
         (7, 255, 0),
@@ -257,7 +275,8 @@ const SENTENCES: [((u64, u64, u64), &str); 25] = [
         (13, 5, 0),
         "line 5, counting from 0, pairs two holdings that may not be paired: both must lie \
          in one period and be in one currency; in CAD they must be of Canada or a province \
-         and not both bonds; in USD or GBP they must be of the same government, Canada, US \
+         and not both bonds, or of the same corporation, exactly one a bond, and that rated \
+         single A or higher; in USD or GBP they must be of the same government, Canada, US \
          or GB, and exactly one a bond",
     ),
     (
@@ -287,7 +306,7 @@ const SENTENCES: [((u64, u64, u64), &str); 25] = [
     ),
     (
         (20, 0, 0),
-        "record 0, counting from 0, does not have eight fields",
+        "record 0, counting from 0, does not have nine fields",
     ),
     (
         (21, 767, 0),
@@ -313,6 +332,12 @@ const SENTENCES: [((u64, u64, u64), &str); 25] = [
         (24, 9, 0),
         "the maturity of holding 9, counting from 0, is no day of the years 1900 to 2299",
     ),
+    (
+        (25, 9, 0),
+        "holding 9, counting from 0, has a rating that does not fit its issuer: it must be 0 \
+         for single A or higher or 1 for lower on a corporation, and 2 for none on a \
+         government",
+    ),
 ];
 
 #[test]
@@ -322,12 +347,18 @@ fn every_refusal_in_words() {
         let error: &dyn std::error::Error = &refusal;
         assert_eq!(error.to_string(), words);
     }
+    let of_reader = Refusal::from_reader_parts(25, 9, 0).expect("a refusal");
+    assert_eq!(
+        of_reader.to_string(),
+        "record 9, counting from 0, has an LEI whose check digits do not fit it, no rating on a \
+         corporation, or a rating on a government"
+    );
 }
 
 #[test]
 fn the_words_fit_after_a_colon() {
-    for number in 1..=24 {
-        let has_place = matches!(number, 4..=8 | 10..=16 | 19..=24);
+    for number in 1..=25 {
+        let has_place = matches!(number, 4..=8 | 10..=16 | 19..=25);
         let (place, second) = (
             if has_place { 4_711 } else { 0 },
             if number == 16 { 815 } else { 0 },

@@ -134,7 +134,8 @@ fn rated_bond(long: Leg, short: Leg) -> bool
 fn corporate_rule(long: Leg, short: Leg) -> Rule
     ensures { λ r. ⌜ r ≡ corporateRule long short ⌝ }
 {
-    if long.issuer != short.issuer {
+    let issuer = long.issuer;
+    if issuer != short.issuer {
         return Rule::NotAllowed;
     }
     if rated_bond(long, short) {

@@ -102,14 +102,23 @@ pub fn account_of(head: Head) -> Headed
     })
 }
 
+// Whether a number is a corporation's.
+fn is_corporation(issuer: u64) -> bool
+    ensures { λ r. ⌜ r ≡ isCorporation issuer ⌝ }
+{
+    match issuer {
+        100..=355 => true,
+        _ => false,
+    }
+}
+
 // Whether a number is an issuer's: a government's or a corporation's.
 fn is_issuer(issuer: u64) -> bool
     ensures { λ r. ⌜ r ≡ isIssuer issuer ⌝ }
 {
     match issuer {
         0..=12 => true,
-        100..=355 => true,
-        _ => false,
+        _ => is_corporation(issuer),
     }
 }
 
@@ -156,16 +165,6 @@ pub fn worth_fault(row: Row) -> u64
         return 8;
     }
     0
-}
-
-// Whether a number is a corporation's.
-fn is_corporation(issuer: u64) -> bool
-    ensures { λ r. ⌜ r ≡ isCorporation issuer ⌝ }
-{
-    match issuer {
-        100..=355 => true,
-        _ => false,
-    }
 }
 
 // Whether a rating is one that an issuer has: of a corporation 0 or 1, of any other 2.

@@ -5,6 +5,7 @@ ghost use Rattle.holding.specs.Holding.{headBy};
 ghost use Rattle.columns.specs.Columns.{makeColumns};
 ghost use Rattle.lent.specs.Boundary.{makeLent, Checks};
 ghost use Rattle.received.specs.Reading.{Reads};
+ghost use Rattle.received.specs.Naming.{Names};
 
 // The check of a proposal, for the host: returns the refusal number, 0 for accepted. Scratch has 4 entries for a book of up to 4 holdings,
 // 16 for one of up to 16, and 256 for any other. Nothing is presumed of the bytes or the lengths; that a pointer leads to its bytes, and that no other
@@ -130,6 +131,7 @@ pub extern "C" fn margin_read(
     value: &mut [u8],
     price: &mut [u8],
     currency: &mut [u8],
+    rating: &mut [u8],
     long: &mut [u8],
     short: &mut [u8],
     amount: &mut [u8],
@@ -137,23 +139,27 @@ pub extern "C" fn margin_read(
 ) -> u64
     ensures { λ r. ⌜ Reads (now (text .entry)) (now (head .entry)) (now (head .exit))
         (makeColumns
-        (now (side .entry) ∷ now (kind .entry) ∷ now (issuer .entry) ∷ now (maturity .entry) ∷ now (value .entry) ∷ now (currency .entry) ∷ [])
+        (now (side .entry) ∷ now (kind .entry) ∷ now (issuer .entry) ∷ now (maturity .entry) ∷ now (value .entry) ∷ now (currency .entry) ∷ now (rating .entry) ∷ [])
         (now (price .entry))
         (now (long .entry) ∷ now (short .entry) ∷ now (amount .entry) ∷ []))
         (makeColumns
-        (now (side .exit) ∷ now (kind .exit) ∷ now (issuer .exit) ∷ now (maturity .exit) ∷ now (value .exit) ∷ now (currency .exit) ∷ [])
+        (now (side .exit) ∷ now (kind .exit) ∷ now (issuer .exit) ∷ now (maturity .exit) ∷ now (value .exit) ∷ now (currency .exit) ∷ now (rating .exit) ∷ [])
         (now (price .exit))
         (now (long .exit) ∷ now (short .exit) ∷ now (amount .exit) ∷ []))
         (now (answer .entry)) (now (answer .exit)) r ⌝ }
 {
+    let mut high = lists::zeros();
+    let mut low = lists::zeros();
     if text.len() <= 64 {
-        let mut book = [0u8; 512 * layout::VALUES];
+        let mut book = [0u8; 512 * (csv::FIELDS - 1)];
         let mut lines = [0u8; 512 * 3];
         return received::read_into(
             text,
             64,
             &mut book,
             &mut lines,
+            &mut high,
+            &mut low,
             head,
             side,
             kind,
@@ -162,19 +168,22 @@ pub extern "C" fn margin_read(
             value,
             price,
             currency,
+            rating,
             long,
             short,
             amount,
             answer,
         );
     }
-    let mut book = [0u8; 4096 * layout::VALUES];
+    let mut book = [0u8; 4096 * (csv::FIELDS - 1)];
     let mut lines = [0u8; 4096 * 3];
     received::read_into(
         text,
         512,
         &mut book,
         &mut lines,
+        &mut high,
+        &mut low,
         head,
         side,
         kind,
@@ -183,9 +192,46 @@ pub extern "C" fn margin_read(
         value,
         price,
         currency,
+        rating,
         long,
         short,
         amount,
+        answer,
+    )
+}
+
+// Writes the LEIs of a file's corporations, for the host: 20 bytes each, in the order of their numbers from 100. Returns the refusal number, 0 for none. The
+// tables are those of `margin_read`, and nothing is presumed either.
+#[no_mangle]
+pub extern "C" fn margin_leis(text: &[u8], leis: &mut [u8], answer: &mut [u8]) -> u64
+    ensures { λ r. ⌜ Names (now (text .entry)) (now (leis .entry)) (now (leis .exit)) (now (answer .entry)) (now (answer .exit)) r ⌝ }
+{
+    let mut high = lists::zeros();
+    let mut low = lists::zeros();
+    if text.len() <= 64 {
+        let mut book = [0u8; 512 * (csv::FIELDS - 1)];
+        let mut lines = [0u8; 512 * 3];
+        return received::leis_into(
+            text,
+            64,
+            &mut book,
+            &mut lines,
+            &mut high,
+            &mut low,
+            leis,
+            answer,
+        );
+    }
+    let mut book = [0u8; 4096 * (csv::FIELDS - 1)];
+    let mut lines = [0u8; 4096 * 3];
+    received::leis_into(
+        text,
+        512,
+        &mut book,
+        &mut lines,
+        &mut high,
+        &mut low,
+        leis,
         answer,
     )
 }

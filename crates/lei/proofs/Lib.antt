@@ -10,5 +10,4 @@ pub mod Numbers
 pub mod Forms
 pub mod Damage
 pub mod Identifiers
-pub mod Entered
 pub mod Computed

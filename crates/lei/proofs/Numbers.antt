@@ -31,20 +31,6 @@ unfolding knownFrom
 known-snoc known [] x = refl
 known-snoc known (y ∷ xs) x = known-snoc (enter known y) xs x
 
-pub numbers-snoc : (known xs : List Key) (x : Key) → numbersFrom known (xs ++ (x ∷ [])) ≡ numbersFrom known xs ++ ((100 + firstPlace x (knownFrom known xs)) ∷ [])
-unfolding numbersFrom knownFrom
-numbers-snoc known [] x = refl
-numbers-snoc known (y ∷ xs) x = rw (numbers-snoc (enter known y) xs x)
-
--- each LEI adds one at most to those known
-pub known-few : (known xs : List Key) → length (knownFrom known xs) ≤ length known + length xs
-unfolding knownFrom enter
-known-few known [] = omega arith
-known-few known (x ∷ xs) =
-    by-test (λ (ks : List Key). length (knownFrom ks xs) ≤ length known + suc (length xs)) (ltb (firstPlace x known) (length known))
-    (λ _. omega (arith, known-few known xs))
-    (λ _. omega (arith, known-few (known ++ (x ∷ [])) xs, length-append known (x ∷ [])))
-
 -- a number is 100 and the place among those known before
 numbers-at : (known xs : List Key) (i : ℕ) → i < length xs → getD (numbersFrom known xs) i 0 ≡ 100 + firstPlace (getD xs i noKey) (knownFrom known (take i xs))
 unfolding numbersFrom knownFrom

@@ -7,10 +7,11 @@ use Prim.Native.Nat.{ℕ, zero, suc, _+_, _≤_, _<_}
 use native.Mathlib.Numerals.{add-one}
 use native.Mathlib.Omega.{arith}
 use lib.Dec.{eqb}
-use lib.ListN.{length, getD, drop, drop-of-length-le}
-use lib.Seq.{drop-cons}
+use lib.ListN.{length, getD, set, drop, drop-of-length-le}
+use lib.Seq.{drop-cons, getD-set-same, getD-set-other}
 use borrow.Author.Tests.{eq-eqb, eqb-true}
-use Rattle.lists.proofs.Tables.{length-to, getD-to}
+use Rattle.lists.specs.Tables.{listTo}
+use Rattle.lists.proofs.Tables.{length-to, getD-to, to-eq}
 use Rattle.lists.proofs.Tests.{by-test}
 use Rattle.lei.specs.Lei.{Key, noKey}
 use Rattle.lei.specs.Numbering.{sameLei, firstPlace, table}
@@ -104,6 +105,18 @@ length-table count high low = length-to count _
 getD-table : (count : ℕ) (high low : List ℕ) (i : ℕ) → i < count → getD (table count high low) i noKey ≡ (getD high i 0, getD low i 0)
 unfolding table
 getD-table count high low i h = getD-to count _ i noKey h
+
+-- one LEI more is written behind them
+pub table-more : (high low : List ℕ) (count h l : ℕ) → count < length high → count < length low
+    → table (count + 1) (set high count h) (set low count l) ≡ table count high low ++ ((h, l) ∷ [])
+unfolding table listTo
+table-more high low count h l a b =
+    rw (add-one count, getD-set-same high count h 0 a, getD-set-same low count l 0 b)
+    (ap (λ (ks : List Key). ks ++ ((h, l) ∷ []))
+    (to-eq count _ _ (λ k q.
+    let n = getD-set-other {A = ℕ} high count k h 0 (λ e. omega arith) in
+    let m = getD-set-other {A = ℕ} low count k l 0 (λ e. omega arith) in
+    λ i. (n i, m i))))
 
 -- an LEI is at none of the first i places of a table
 pub record Searched (x : Key) (count : ℕ) (high low : List ℕ) (i : ℕ) : Type 0 where

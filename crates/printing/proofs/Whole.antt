@@ -18,7 +18,7 @@ use Rattle.proposal.proofs.Clear.{number}
 use Rattle.proposal.proofs.Demands.{demands}
 use Rattle.holding.specs.declared.Head.{Head}
 use Rattle.columns.specs.Columns.{submission}
-use Rattle.reader.specs.File.{parsedIn, valuesBy, submissionOf, submissionIn, fileFault, ReadsFile}
+use Rattle.reader.specs.File.{parsedIn, valuesBy, holdingsOf, submissionOf, submissionIn, fileFault, ReadsFile}
 use Rattle.reader.specs.declared.Contents.{Contents}
 use Rattle.reader.specs.declared.Contents.the-variants.{Read, Refused}
 use Rattle.readable.specs.Readable.{Submits}
@@ -100,7 +100,7 @@ module _ (text : List ℕ) where
         only = read-exactly text .only;
       }
 
-  module _ {book lines book′ lines′ : List ℕ} {d : Contents} (from-file : ReadsFile text 512 book lines book′ lines′ d) where
+  module _ {book lines book′ lines′ high′ low′ : List ℕ} {d : Contents} (from-file : ReadsFile text 512 book lines book′ lines′ high′ low′ d) where
     pub refused-printed : {n place : ℕ} {before after : List ℕ} {r : Printed} → d ≡ Refused n place
         → (let line = refusalLine (makeAnswer n place 0) in Prints line before after r × (length line ≤ reportRoom)) → PrintsFile text before after r
     unfolding printed printedOf printedLines
@@ -111,7 +111,7 @@ module _ (text : List ℕ) where
         promised (rw line p) (rw line few)
 
     -- tables that the file was read into
-    module _ {h : Head} {n m : ℕ} (e : d ≡ Read h n m) (whole : length book ≡ 8 * (512 * 8)) (whole-lines : length lines ≡ 8 * (512 * 3)) where
+    module _ {h : Head} {n m corporations : ℕ} (e : d ≡ Read h n m corporations) (whole : length book ≡ 8 * (512 * 8)) (whole-lines : length lines ≡ 8 * (512 * 3)) where
       pub tables-hold : TablesHold n m book′ lines′
       tables-hold = record {
         few-holdings = few-holdings from-file e;
@@ -126,7 +126,7 @@ module _ (text : List ℕ) where
           let read = was-read from-file e in
           let holds : submission h (columnsOf n m book′ lines′) ≡ submissionIn text =
           rw (← head-read from-file e)
-          (tables-submitted n m book′ lines′ _ (valuesBy 1 (parsedIn text)) (valuesBy 2 (parsedIn text)) (from-file .each-holding read) (from-file .each-line read)
+          (tables-submitted n m book′ lines′ _ (holdingsOf (parsedIn text)) (valuesBy 2 (parsedIn text)) (from-file .each-holding read) (from-file .each-line read)
           (holdings-held from-file e) (lines-held from-file e) (file-fits text (no-fault from-file e))) in
           let same : printedOf (submission h (columnsOf n m book′ lines′)) (outcomeIn false h (columnsOf n m book′ lines′)) ≡ printed text =
           rw (answer-checked (no-fault from-file e), tables-even n m book′ lines′ tables-hold, holds) in

@@ -88,15 +88,18 @@ fn print_tables(
 pub fn print_file(text: &[u8], out: &mut [u8]) -> Printed
     ensures { λ r. ⌜ PrintsFile (now (text .entry)) (now (out .entry)) (now (out .exit)) r ⌝ }
 {
-    let mut book = [0u8; 4096 * layout::VALUES];
+    let mut book = [0u8; 4096 * (csv::FIELDS - 1)];
     let mut lines = [0u8; 4096 * 3];
-    let contents = reader::read(text, 512, &mut book, &mut lines);
+    let mut high = lists::zeros();
+    let mut low = lists::zeros();
+    let contents = reader::read(text, 512, &mut book, &mut lines, &mut high, &mut low);
     match contents {
         Contents::Refused { number, place } => report::refusal(number, place, 0, out),
         Contents::Read {
             head,
             holdings,
             lines: pairs,
+            corporations: _,
         } => print_tables(head, holdings, pairs, &book, &lines, out),
     }
 }

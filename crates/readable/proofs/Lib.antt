@@ -2,6 +2,8 @@ pub mod Values
 pub mod Layouts
 pub mod Orders
 pub mod Numbers
+pub mod Known
+pub mod ByFirst
 pub mod Submitted
 pub mod Exactly
 pub mod Below

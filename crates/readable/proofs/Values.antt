@@ -19,12 +19,13 @@ use Rattle.dates.specs.Text.{readDate}
 use Rattle.dates.specs.declared.text.Reading.{Reading}
 use Rattle.dates.specs.declared.text.Reading.the-variants.{Number as Dated, NotADate}
 use Rattle.dates.proofs.Texts.{read-exactly}
-use Rattle.layout.specs.Layout.{IsValue, AreValues, no-values, value-and, sides, kinds, issuers, currencies}
+use Rattle.layout.specs.Layout.{IsValue, AreValues, no-values, value-and, sides, kinds, currencies, ratings}
 use Rattle.layout.specs.Layout.{byPlace, byNumeral, byDate, valueOf, Values, values, wrong, andValue, valuesOf}
 use Rattle.layout.specs.declared.Sort.{Sort}
-use Rattle.layout.specs.declared.Sort.the-variants.{Side, Kind, Issuer, Currency, Date, Six, Twelve, Empty}
+use Rattle.layout.specs.declared.Sort.the-variants.{Side, Kind, Issuer, Currency, Rating, Date, Six, Twelve, Empty}
 use Rattle.layout.specs.declared.Value.{Value}
-use Rattle.layout.specs.declared.Value.the-variants.{Of, Wrong}
+use Rattle.layout.specs.declared.Value.the-variants.{Of, Refused}
+use Rattle.layout.proofs.Issuers.{issuer-exactly}
 
 -- the value of a place, of a numeral or of a date is its number
 place-value : (p : Place) (v : ℕ) → (byPlace p ≡ Of v) ↔ (p ≡ At v)
@@ -45,7 +46,7 @@ unfolding valueOf
 empty-value [] v = (λ e. (refl, cc), λ h. rw (h .1))
 empty-value (c ∷ t) v = (
   λ e.
-      let w : Wrong ≡ Of v = rw (ne-eqb (suc (length t)) 0 (omega arith)) at e in
+      let w : Refused 21 ≡ Of v = rw (ne-eqb (suc (length t)) 0 (omega arith)) at e in
       (cc, cc),
   λ h. absurd (omega (arith, ap (length {A = ℕ}) (h .0))),
 )
@@ -55,8 +56,9 @@ pub value-exactly : (s : Sort) (t : List ℕ) (v : ℕ) → (valueOf s t ≡ Of 
 unfolding valueOf same
 value-exactly Side t v = Iff·trans (place-value (placeOf t sides) v) (distinct-exactly t sides refl v)
 value-exactly Kind t v = Iff·trans (place-value (placeOf t kinds) v) (distinct-exactly t kinds refl v)
-value-exactly Issuer t v = Iff·trans (place-value (placeOf t issuers) v) (distinct-exactly t issuers refl v)
+value-exactly Issuer t v = issuer-exactly t v
 value-exactly Currency t v = Iff·trans (place-value (placeOf t currencies) v) (distinct-exactly t currencies refl v)
+value-exactly Rating t v = Iff·trans (place-value (placeOf t ratings) v) (distinct-exactly t ratings refl v)
 value-exactly Date t v = Iff·trans (date-value (readDate t) v) (read-exactly t v)
 value-exactly Six t v = Iff·trans (numeral-value (numeralOf 6 t) v) (numeral-exactly 6 t v)
 value-exactly Twelve t v = Iff·trans (numeral-value (numeralOf 12 t) v) (numeral-exactly 12 t v)
@@ -65,7 +67,7 @@ value-exactly Empty t v = empty-value t v
 -- several texts, where they are read as values
 abbrev Good : List Sort → List (List ℕ) → Values → Type 0
 Good ss ts (values vs) = AreValues ss ts vs
-Good ss ts wrong = Unit {0}
+Good ss ts (wrong number) = Unit {0}
 
 good-values : (ss : List Sort) (ts : List (List ℕ)) → Good ss ts (valuesOf ss ts)
 unfolding valuesOf
@@ -76,8 +78,9 @@ good-values (s ∷ ss) (t ∷ ts) = by (valueOf s t) (valuesOf ss ts) refl (good
   where
     by : (w : Value) (ws : Values) → valueOf s t ≡ w → Good ss ts ws → Good (s ∷ ss) (t ∷ ts) (andValue w ws)
     by (Of v) (values vs) e h = value-and (value-exactly s t v .0 e) h
-    by (Of v) wrong e h = tt
-    by Wrong ws e h = tt
+    by (Of v) (wrong number) e h = tt
+    by (Refused first) (values vs) e h = tt
+    by (Refused first) (wrong number) e h = tt
 
 are-values : {ss : List Sort} {ts : List (List ℕ)} {vs : List ℕ} → AreValues ss ts vs → valuesOf ss ts ≡ values vs
 unfolding valuesOf

@@ -1,4 +1,5 @@
--- What each turn does with the record that it looked at: it refuses the file, or passes the record and keeps the head of a D, puts an H or a P into its table. Assumes nothing.
+-- What each turn does with the record that it looked at: it refuses the file, or passes the record and keeps the head of a D, numbers
+-- the issuer of an H, and puts an H or a P into its table. Assumes nothing.
 use mathlib.Core.Path.{_≡_, refl, sym, ap, _∙_}
 use mathlib.Core.Bool.{true, false, false≢true}
 use mathlib.Core.List.{List, [], _∷_, _++_, map, append-nil}
@@ -6,7 +7,7 @@ use Prim.Native.Nat.{ℕ, suc, _+_, _-_, _*_, _≤_, _<_}
 use native.Mathlib.Numerals.{add-one}
 use native.Mathlib.Omega.{arith}
 use lib.Dec.{ltb}
-use lib.ListN.{length, getD, take, drop, length-append, length-drop}
+use lib.ListN.{length, getD, take, drop, length-append, length-drop, length-set}
 use lib.Seq.{take-suc, drop-cons}
 use borrow.Author.Tests.{eq-eqb, ne-eqb, le-ltb, ltb-true, ltb-false}
 use Rattle.lists.specs.Choice.{firstOf}
@@ -19,14 +20,18 @@ use Rattle.codes.specs.declared.Place.{Place}
 use Rattle.codes.specs.declared.Place.the-variants.{At, Nowhere}
 use Rattle.csv.specs.Reading.{Split, fields, malformed, recordAt, recordsAt, fieldCount}
 use Rattle.csv.proofs.Places.{clash, progress, records-broken, records-next}
+use Rattle.lei.specs.Lei.{Key}
+use Rattle.lei.specs.Numbering.{table}
+use Rattle.lei.proofs.Places.{length-table}
 use Rattle.columns.specs.Columns.{EntryRoom, EntryPut}
 use Rattle.columns.proofs.Tables.{entered-more}
 use Rattle.layout.specs.Layout.{letters, Meaning, good, refused, mayFollow, parse, readOf, meaningOf, EntryAt}
 use Rattle.layout.specs.declared.Entry.{Entry}
 use Rattle.layout.specs.declared.Parsed.the-variants.{Good, Refused}
 use Rattle.layout.proofs.Letters.{parse-good, good-length, parse-refused}
-use Rattle.reader.specs.File.{parsedIn, valuesBy, faultsOf, atRecord, fileLimit, fileFaults}
-use Rattle.reader.proofs.Reading.{values-append, values-few, Passing, countBy, Tabled, headIn, Refuses}
+use Rattle.reader.specs.File.{parsedIn, valuesBy, withNumber, holdingsOf, leisOf, faultsOf, atRecord, fileLimit, fileFaults, NumbersIssuer}
+use Rattle.reader.proofs.Reading.{values-append, values-few, Passing, countBy, Tabled, heldIn, linedIn, Listed, headIn, Refuses}
+use Rattle.reader.proofs.Numbering.{numbered-more, leis-more, length-numbered, leis-few}
 use Rattle.reader.proofs.Comes.{Comes, comes-exactly}
 
 -- a list of which x and others are left
@@ -108,11 +113,11 @@ module _ {text : List ℕ} {before : Place} {n i : ℕ} {vs : List ℕ} {e : Ent
   means : meaningOf (e .parsed) vs ≡ good k vs
   means = rw (g .good)
 
-  -- its letter is a known one, and it has a value for each field after it
+  -- its letter is a known one, and it has a value for each field after it and two for an LEI
   pub turn-letter : k < length letters
   turn-letter = parse-good (readOf text (recordAt text i)) (parsed-here (g .turn) means)
 
-  pub turn-values : length vs ≡ fieldCount - 1
+  pub turn-values : length vs ≡ fieldCount + 1
   turn-values = good-length (readOf text (recordAt text i)) (parsed-here (g .turn) means)
 
   pub turn-late : mayFollow before k ≡ false → Refuses text (makeAnswer 22 n 0)
@@ -180,29 +185,78 @@ module _ {text : List ℕ} {before : Place} {n i : ℕ} {vs : List ℕ} {e : Ent
   pub headed-same : {head : Head} → (k ≡ 0 → ⊥) → head ≡ headIn text n → head ≡ headIn text (n + 1)
   headed-same other same = rw (values-same 0 other) same
 
-  module _ {j most columns rows put : ℕ} {old now : List ℕ} (t : Tabled text n j most columns rows old now put) where
-    -- a table of another letter stays as it is
-    pub tabled-same : (k ≡ j → ⊥) → Tabled text (n + 1) j most columns rows old now put
-    tabled-same other = record { counted = rw (values-same j other, ← t .counted) refl; few = t .few; entered = rw (values-same j other) (t .entered) }
+  -- the values of its own letter have its values behind them
+  values-here : (j : ℕ) → k ≡ j → valuesBy j (take (n + 1) (parsedIn text)) ≡ valuesBy j (take n (parsedIn text)) ++ (vs ∷ [])
+  unfolding valuesBy
+  values-here j here = values-more (g .turn) means j ∙ rw (eq-eqb k j here)
 
-    -- in the table of its letter there is room for it, and it is put there
-    module _ (here : k ≡ j) (less : put ≡ most → ⊥) where
-      pub entry-room : length old ≡ 8 * (rows * columns) → (rows < 512 → length text ≤ rows) → columns < fieldCount → most ≤ 512 → EntryRoom columns rows put vs now
-      entry-room whole enough wide low = record {
-        whole = t .entered .long ∙ whole;
-        within =
-            either-way (ltb rows 512)
-            (λ l. omega (arith, enough (ltb-true rows 512 l), values-few j n (parsedIn text), t .counted, g .turn .passing .few, g .turn .more))
-            (λ l. omega (arith, ltb-false rows 512 l, t .few));
-        enough = omega (arith, turn-values);
+  -- a record that is no H, and an H with the number of its issuer
+  pub held-same : (k ≡ 1 → ⊥) → heldIn text (n + 1) ≡ heldIn text n
+  unfolding holdingsOf
+  held-same other = rw (values-same 1 other)
+
+  pub held-more : k ≡ 1 → heldIn text (n + 1) ≡ heldIn text n ++ (withNumber (leisOf (take n (parsedIn text))) vs ∷ [])
+  unfolding holdingsOf leisOf
+  held-more here = rw (values-here 1 here) (numbered-more [] (valuesBy 1 (take n (parsedIn text))) vs)
+
+  module _ {count : ℕ} {high₀ low₀ high low : List ℕ} (m : Listed text n high₀ low₀ high low count) where
+    pub listed-same : (k ≡ 1 → ⊥) → Listed text (n + 1) high₀ low₀ high low count
+    unfolding leisOf
+    listed-same other = record { known = m .known ∙ rw (values-same 1 other); long-high = m .long-high; long-low = m .long-low }
+
+    -- fewer are known than there may be holdings
+    pub listed-few : countBy text n 1 < 256 → count < 256
+    unfolding leisOf
+    listed-few l = omega (arith, length-table count high low, ap (λ (ks : List Key). length ks) (m .known), leis-few [] (valuesBy 1 (take n (parsedIn text))))
+
+    -- an H with the number of its issuer, whose values are as many as before, and the LEIs that are known then
+    module _ {after : List Key} {vs′ : List ℕ} (done : NumbersIssuer (table count high low) after vs vs′) where
+      pub numbered-values : length vs′ ≡ fieldCount + 1
+      numbered-values = ap (length {A = ℕ}) (done .number) ∙ length-set vs 2 _ ∙ turn-values
+
+      pub held-numbered : k ≡ 1 → heldIn text (n + 1) ≡ heldIn text n ++ (vs′ ∷ [])
+      held-numbered here = held-more here ∙ rw (done .number, m .known)
+
+      pub listed-more : (count′ : ℕ) (high′ low′ : List ℕ) → k ≡ 1 → after ≡ table count′ high′ low′ → length high′ ≡ length high → length low′ ≡ length low
+          → Listed text (n + 1) high₀ low₀ high′ low′ count′
+      unfolding leisOf
+      listed-more count′ high′ low′ here is h l = record {
+        known = sym is ∙ done .entered ∙ rw (m .known, values-here 1 here) (sym (leis-more [] (valuesBy 1 (take n (parsedIn text))) vs));
+        long-high = h ∙ m .long-high;
+        long-low = l ∙ m .long-low;
       }
 
-      pub tabled-more : {new : List ℕ} → EntryRoom columns rows put vs now → EntryPut columns rows put vs now new → Tabled text (n + 1) j most columns rows old new (put + 1)
-      unfolding valuesBy
-      tabled-more room done =
-          let same : valuesBy j (take (n + 1) (parsedIn text)) ≡ valuesBy j (take n (parsedIn text)) ++ (vs ∷ []) = values-more (g .turn) means j ∙ rw (eq-eqb k j here) in
-          record {
-            counted = rw (same, length-append, ← t .counted) refl;
-            few = omega (arith, t .few);
-            entered = rw same (entered-more (t .entered) (rw (t .counted) at done) (rw (t .counted) at (room .within)));
-          }
+  -- the values of a line
+  pub lined-same : (k ≡ 2 → ⊥) → linedIn text (n + 1) ≡ linedIn text n
+  lined-same other = values-same 2 other
+
+  pub lined-more : k ≡ 2 → linedIn text (n + 1) ≡ linedIn text n ++ (vs ∷ [])
+  lined-more here = values-here 2 here
+
+  -- no more of either than records
+  pub held-few : length (heldIn text n) ≡ countBy text n 1
+  unfolding holdingsOf
+  held-few = length-numbered [] (valuesBy 1 (take n (parsedIn text)))
+
+-- a table that has room for one more
+module _ {values : List (List ℕ)} {most columns rows put : ℕ} {old now : List ℕ} (t : Tabled values most columns rows old now put) where
+  pub tabled-same : {values′ : List (List ℕ)} → values′ ≡ values → Tabled values′ most columns rows old now put
+  tabled-same e = rw e t
+
+  module _ {vs : List ℕ} (less : put ≡ most → ⊥) where
+    -- as there are no more entries than bytes before the record
+    pub entry-room : (text : List ℕ) (i : ℕ) → length values ≤ i → i < length text → length old ≡ 8 * (rows * columns) → (rows < 512 → length text ≤ rows)
+        → columns ≤ length vs → most ≤ 512 → EntryRoom columns rows put vs now
+    entry-room text i before more whole enough wide low = record {
+      whole = t .entered .long ∙ whole;
+      within = either-way (ltb rows 512) (λ l. omega (arith, enough (ltb-true rows 512 l), t .counted)) (λ l. omega (arith, ltb-false rows 512 l, t .few));
+      enough = wide;
+    }
+
+    pub tabled-more : {values′ : List (List ℕ)} {new : List ℕ} → values′ ≡ values ++ (vs ∷ []) → EntryRoom columns rows put vs now → EntryPut columns rows put vs now new
+        → Tabled values′ most columns rows old new (put + 1)
+    tabled-more e room done = record {
+      counted = rw (e, length-append, ← t .counted) refl;
+      few = omega (arith, t .few);
+      entered = rw e (entered-more (t .entered) (rw (t .counted) at done) (rw (t .counted) at (room .within)));
+    }

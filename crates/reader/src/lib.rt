@@ -2,17 +2,21 @@
 use codes::Place;
 use holding::Head;
 use layout::Parsed;
-ghost use Rattle.reader.specs.File.{TableRoom, ReadsFile};
+ghost use Prim.Native.Nat.{_+_, _≤_, _<_};
+ghost use lib.ListN.{length};
+ghost use Rattle.lei.specs.Numbering.{table};
+ghost use Rattle.reader.specs.File.{TableRoom, NumbersIssuer, ReadsFile};
 
 // The most bytes that a file may have.
 pub const LIMIT: usize = 65536;
 
-// A file that was read: its head, and how many holdings and lines it has, or its refusal with the place.
+// A file that was read: its head, and how many holdings, lines and corporations it has, or its refusal with the place.
 pub enum Contents {
     Read {
         head: Head,
         holdings: usize,
         lines: usize,
+        corporations: usize,
     },
     Refused {
         number: u64,
@@ -20,12 +24,47 @@ pub enum Contents {
     },
 }
 
-// Reads a file: 18; an empty file 22; each record in turn 19 to 22, then 3 or 9; else its head is handed back, and what it submits is in the two
-// tables, each of whose columns has `rows` entries.
+// Numbers the issuer of an H, of a corporation by the place of its LEI among the first `count` of two lists, where a new one joins at the end. Returns
+// how many are known then.
+fn number_issuer(
+    values: &mut [u64; layout::VALUES],
+    high: &mut [u64],
+    low: &mut [u64],
+    count: usize,
+) -> usize
+    requires { ⌜ (count < length (now high)) × (count < length (now low)) ⌝ }
+    ensures { λ r. ⌜ NumbersIssuer (table count (now (high .entry)) (now (low .entry))) (table r (now (high .exit)) (now (low .exit)))
+        (now (values .entry)) (now (values .exit)) × (r ≤ count + 1) ⌝ }
+{
+    if values[2] != 100 {
+        return count;
+    }
+    let first = values[layout::VALUES - 2];
+    let last = values[layout::VALUES - 1];
+    let place = lei::number_of(high, low, count, first, last);
+    values[2] = 100 + place as u64;
+    if place < count {
+        return count;
+    }
+    high[count] = first;
+    low[count] = last;
+    count + 1
+}
+
+// Reads a file: 18; an empty file 22; each record in turn 19 to 21, 25 and 22, then 3 or 9; else its head is handed back, what it submits is in the two
+// tables, each of whose columns has `rows` entries, and the LEIs of its corporations are in the lists `high` and `low`.
 // A value that depends on the records before is worked out here, between `entry_at` and `put_entry`.
-pub fn read(text: &[u8], rows: usize, book: &mut [u8], lines: &mut [u8]) -> Contents
-    requires { ⌜ TableRoom rows (now text) (now book) (now lines) ⌝ }
-    ensures { λ r. ⌜ ReadsFile (now (text .entry)) rows (now (book .entry)) (now (lines .entry)) (now (book .exit)) (now (lines .exit)) r ⌝ }
+pub fn read(
+    text: &[u8],
+    rows: usize,
+    book: &mut [u8],
+    lines: &mut [u8],
+    high: &mut [u64],
+    low: &mut [u64],
+) -> Contents
+    requires { ⌜ TableRoom rows (now text) (now book) (now lines) (now high) (now low) ⌝ }
+    ensures { λ r. ⌜ ReadsFile (now (text .entry)) rows (now (book .entry)) (now (lines .entry))
+        (now (book .exit)) (now (lines .exit)) (now (high .exit)) (now (low .exit)) r ⌝ }
 {
     if text.len() > LIMIT {
         return Contents::Refused {
@@ -44,6 +83,7 @@ pub fn read(text: &[u8], rows: usize, book: &mut [u8], lines: &mut [u8]) -> Cont
     let mut date: u64 = 0;
     let mut holdings: usize = 0;
     let mut pairs: usize = 0;
+    let mut corporations: usize = 0;
     let mut record: usize = 0;
     let mut at: usize = 0;
     while at < text.len() {
@@ -75,7 +115,8 @@ pub fn read(text: &[u8], rows: usize, book: &mut [u8], lines: &mut [u8]) -> Cont
                             place: 0,
                         };
                     }
-                    columns::put_entry(&values, layout::VALUES, rows, holdings, book);
+                    corporations = number_issuer(&mut values, high, low, corporations);
+                    columns::put_entry(&values, csv::FIELDS - 1, rows, holdings, book);
                     holdings = holdings + 1;
                     record = record + 1;
                     at = entry.next;
@@ -98,5 +139,6 @@ pub fn read(text: &[u8], rows: usize, book: &mut [u8], lines: &mut [u8]) -> Cont
         head: Head { date },
         holdings,
         lines: pairs,
+        corporations,
     }
 }

@@ -24,7 +24,7 @@ use Rattle.columns.proofs.ReadBack.{price-read, rows-read, lines-read}
 use Rattle.sizes.specs.Sizes.{Room, tooShort}
 use Rattle.sizes.proofs.Sizes.{room-exactly}
 use Rattle.lent.specs.Boundary.{Answers}
-use Rattle.reader.specs.File.{parsedIn, valuesBy, submissionOf, submissionIn, TableRoom, ReadsFile}
+use Rattle.reader.specs.File.{parsedIn, valuesBy, holdingsOf, submissionOf, submissionIn, TableRoom, ReadsFile}
 use Rattle.reader.specs.declared.Contents.{Contents}
 use Rattle.reader.specs.declared.Contents.the-variants.{Read, Refused}
 use Rattle.readable.specs.Readable.{Submits}
@@ -62,16 +62,16 @@ with-room n lists h =
     each-so (λ (c : List ℕ). Holds (n, length c)) (λ c. 8 * n ≤ length c) (λ c l. omega arith) lists
     (each-back (λ (size : ℕ). Holds (n, size)) length lists (each-back Holds (λ (size : ℕ). (n, size)) (map length lists) h))
 
--- a table of holdings has seven columns, all but the price's those of its holdings
-module _ (P : List ℕ → Type 0) (table lined : List (List ℕ)) (seven : length table ≡ 7) where
+-- a table of holdings has eight columns, all but the price's those of its holdings
+module _ (P : List ℕ → Type 0) (table lined : List (List ℕ)) (eight : length table ≡ 8) where
   in-order : Each P (byTables table lined .holdings ++ (byTables table lined .price ∷ [])) → Each P table
   unfolding listTo
   in-order =
-      rw (← to-back 7 table [] seven) (λ (side, (kind, (issuer, (maturity, (value, (currency, (price, _))))))).
-      (side, (kind, (issuer, (maturity, (value, (price, (currency, tt))))))))
+      rw (← to-back 8 table [] eight) (λ (side, (kind, (issuer, (maturity, (value, (currency, (rating, (price, _)))))))).
+      (side, (kind, (issuer, (maturity, (value, (price, (currency, (rating, tt)))))))))
 
-six : (table lined : List (List ℕ)) → length table ≡ 7 → length (byTables table lined .holdings) ≡ 6
-six table lined h = length-append (take 5 table) (drop 6 table) ∙ omega (arith, length-take 5 table, length-drop 6 table, h)
+seven : (table lined : List (List ℕ)) → length table ≡ 8 → length (byTables table lined .holdings) ≡ 7
+seven table lined h = length-append (take 5 table) (drop 6 table) ∙ omega (arith, length-take 5 table, length-drop 6 table, h)
 
 -- a text, and what is lent: a list for the head, columns of holdings in the order of a table's, of lines, and an answer slice
 module _ (text head : List ℕ) (table lined : List (List ℕ)) (out : List ℕ) where
@@ -120,7 +120,7 @@ module _ (text head : List ℕ) (table lined : List (List ℕ)) (out : List ℕ)
         only = read-exactly text .only;
       }
 
-  module _ {rows : ℕ} {book lines book′ lines′ : List ℕ} {d : Contents} (from-file : ReadsFile text rows book lines book′ lines′ d) where
+  module _ {rows : ℕ} {book lines book′ lines′ high′ low′ : List ℕ} {d : Contents} (from-file : ReadsFile text rows book lines book′ lines′ high′ low′ d) where
     pub record-refused : {n place : ℕ} (out′ : List ℕ) (r : ℕ) → d ≡ Refused n place → Answers (makeAnswer n place 0) out out′ r
         → Reads text head head before before out out′ r
     unfolding readingAnswer
@@ -129,7 +129,7 @@ module _ (text head : List ℕ) (table lined : List (List ℕ)) (out : List ℕ)
         refused (makeAnswer n place 0) out′ r (answer-refused text short (λ z. other (sym (ap number fault) ∙ z)) ∙ fault) other t
 
     -- nothing is refused
-    module _ {h : Head} {n m : ℕ} (e : d ≡ Read h n m) where
+    module _ {h : Head} {n m corporations : ℕ} (e : d ≡ Read h n m corporations) where
       -- the lists are measured for what the text submits
       pub measured : {two : Bool}
           → two ≡ tooShort ((1, length head) ∷ (map (λ size. (n, size)) (holdingSizes before) ++ map (λ size. (m, size)) (lineSizes before))) (length out) → two ≡ short
@@ -160,12 +160,12 @@ module _ (text head : List ℕ) (table lined : List (List ℕ)) (out : List ℕ)
                 rw (← lines-counted from-file e) (with-room _ (before .lines) lines),
               )
 
-          module _ (room : TableRoom rows text book lines) where
-            pub book-room : length table ≡ 7 → CopyRoom rows n book′ table
-            book-room seven = record {
+          module _ {high low : List ℕ} (room : TableRoom rows text book lines high low) where
+            pub book-room : length table ≡ 8 → CopyRoom rows n book′ table
+            book-room eight = record {
               few = few-holdings from-file e;
-              whole = from-file .each-holding (was-read from-file e) .long ∙ room .whole-book ∙ rw seven;
-              each = in-order _ table lined seven (each-list .0);
+              whole = from-file .each-holding (was-read from-file e) .long ∙ room .whole-book ∙ rw eight;
+              each = in-order _ table lined eight (each-list .0);
             }
 
             pub lines-room : length lined ≡ 3 → CopyRoom rows m lines′ lined
@@ -180,22 +180,22 @@ module _ (text head : List ℕ) (table lined : List (List ℕ)) (out : List ℕ)
       unfolding headNumbers
       date-put p = p ∙ rw (← head-read from-file e) (first-column (s .head .date) head)
 
-      all-filled : {table′ lined′ : List (List ℕ)} → length table ≡ 7 → length lined ≡ 3 → table′ ≡ copied rows n book′ 0 table → lined′ ≡ copied rows m lines′ 0 lined
+      all-filled : {table′ lined′ : List (List ℕ)} → length table ≡ 8 → length lined ≡ 3 → table′ ≡ copied rows n book′ 0 table → lined′ ≡ copied rows m lines′ 0 lined
           → byTables table′ lined′ ≡ filled s before
       unfolding submissionOf
-      all-filled seven three f g =
-          let held = entered-copied (from-file .each-holding (was-read from-file e)) (holdings-held from-file e) 0 table (omega (arith, seven)) in
+      all-filled eight three f g =
+          let held = entered-copied (from-file .each-holding (was-read from-file e)) (holdings-held from-file e) 0 table (omega (arith, eight)) in
           let taken = entered-copied (from-file .each-line (was-read from-file e)) (lines-held from-file e) 0 lined (omega (arith, three)) in
           (λ i. byTables ((f ∙ held) i) ((g ∙ taken) i))
-          ∙ sym (filled-values (s .head) (valuesBy 1 (parsedIn text)) (valuesBy 2 (parsedIn text)) table lined seven three)
+          ∙ sym (filled-values (s .head) (holdingsOf (parsedIn text)) (valuesBy 2 (parsedIn text)) table lined eight three)
 
       pub all-read : {two : Bool} {head′ : List ℕ} {table′ lined′ : List (List ℕ)} (out′ : List ℕ) (r : ℕ) → two ≡ short → two ≡ false
-          → length table ≡ 7 → length lined ≡ 3 → head′ ≡ withWord head 0 (h .date) → table′ ≡ copied rows n book′ 0 table → lined′ ≡ copied rows m lines′ 0 lined
+          → length table ≡ 8 → length lined ≡ 3 → head′ ≡ withWord head 0 (h .date) → table′ ≡ copied rows n book′ 0 table → lined′ ≡ copied rows m lines′ 0 lined
           → Answers (makeAnswer 0 n m) out out′ r → Reads text head head′ before (byTables table′ lined′) out out′ r
       unfolding readingAnswer filled headNumbers
-      all-read out′ r same fits seven three p f g answered =
+      all-read out′ r same fits eight three p f g answered =
           let put = date-put p in
-          let after = all-filled seven three f g in
+          let after = all-filled eight three f g in
           let whole : readingAnswer text head before out ≡ makeAnswer 0 n m =
           answer-none text short (no-fault from-file e) ∙ rw (sym same ∙ fits, holdings-counted from-file e, lines-counted from-file e) in
           let zero : eqb (readingAnswer text head before out .number) 0 ≡ true = rw whole in
@@ -209,7 +209,7 @@ module _ (text head : List ℕ) (table lined : List (List ℕ)) (out : List ℕ)
             date = λ _. ap (λ (c : List ℕ). wordAt c 0) put ∙ price-read (headNumbers (s .head)) head (fit .head) 0 (omega arith);
             holding = λ _ k h.
                 subst (λ (c : Columns). RowAt (c .holdings) k (getD (s .rows) k noRow)) (sym after)
-                (rows-read (s .rows) (fit .rows) k h (before .holdings) (six table lined seven));
+                (rows-read (s .rows) (fit .rows) k h (before .holdings) (seven table lined eight));
             price = λ _ k h. ap (λ (c : Columns). wordAt (c .price) k) after ∙ price-read (s .prices) (before .price) (fit .prices) k (omega (arith, as-many));
             line = λ _ k h. subst (λ (c : Columns). LineAt (c .lines) k (getD (s .lines) k noLine)) (sym after) (lines-read (s .lines) (fit .lines) k h lined three);
             exactly = rw (answered .number ∙ sym (ap number whole)) read-when;

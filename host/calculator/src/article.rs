@@ -1,10 +1,10 @@
-//! Article 7204, Groups I, II and XI paragraphs 1, 2 and 4: terms, rates and pairs.
+//! Article 7204, Groups I, II, V and XI paragraphs 1 to 4: terms, rates and pairs.
 
 use std::ops::RangeInclusive;
 
-use crate::Row;
 use crate::dates::{anniversary, day_count, is_date};
 use crate::fraction::Fraction;
+use crate::{FIRST_CORPORATION, Row};
 
 /// The years of each period but the fifth, which has no end.
 const PERIOD_ENDS: [u64; 4] = [1, 3, 7, 11];
@@ -18,8 +18,9 @@ const DAYS_OF_A_YEAR: u64 = 365;
 const UNITS_OF_A_PERCENT: Fraction = Fraction::new(146_000, 100);
 
 /// Per cent of market value by issuer class and period, as the article prints them; in the first period
-/// they are still to be multiplied by days / 365.
-const PERCENT: [[u64; 5]; 2] = [[1, 1, 2, 4, 4], [2, 3, 4, 5, 5]];
+/// those of governments are still to be multiplied by days / 365.
+const PERCENT: [[u64; 5]; CLASSES] = [[1, 1, 2, 4, 4], [2, 3, 4, 5, 5], [3, 6, 7, 10, 10]];
+const CLASSES: usize = 3;
 /// What the bond's rate is multiplied by: a bond, a strip, a strip of 20 years or more.
 const MULTIPLE: [Fraction; 3] = [
     Fraction::new(1, 1),
@@ -27,16 +28,17 @@ const MULTIPLE: [Fraction; 3] = [
     Fraction::new(3, 1),
 ];
 
-/// Units per cent of market value by class, multiple and period; in the first period for each day.
-/// The compiler works these out and stops at one that is no whole number.
-const UNITS: [[[u64; 5]; 3]; 2] = units_table();
+/// Units per cent of market value by class, multiple and period; in the first period of a government for each
+/// day. The compiler works these out and stops at one that is no whole number.
+const UNITS: [[[u64; 5]; 3]; CLASSES] = units_table();
 
-const fn units_table() -> [[[u64; 5]; 3]; 2] {
-    let mut table = [[[0; 5]; 3]; 2];
+const fn units_table() -> [[[u64; 5]; 3]; CLASSES] {
+    let mut table = [[[0; 5]; 3]; CLASSES];
     let mut cell = 0;
-    while cell < 30 {
+    while cell < 15 * CLASSES {
         let (class, multiple, period) = (cell / 15, cell / 5 % 3, cell % 5);
-        let term = if period == 0 { DAYS_OF_A_YEAR } else { 1 };
+        let by_the_day = period == 0 && class != Class::Corporation as usize;
+        let term = if by_the_day { DAYS_OF_A_YEAR } else { 1 };
         table[class][multiple][period] = Fraction::new(PERCENT[class][period], term)
             .times(MULTIPLE[multiple])
             .times(UNITS_OF_A_PERCENT)
@@ -46,6 +48,9 @@ const fn units_table() -> [[[u64; 5]; 3]; 2] {
     table
 }
 
+/// What a pair of a corporation has at most: 20 per cent.
+const CORPORATE_CAP: u64 = Fraction::new(20, 1).times(UNITS_OF_A_PERCENT).whole();
+
 /// The numbers of the ten provinces.
 const PROVINCES: RangeInclusive<u64> = 1..=10;
 /// The issuers of paragraph 4, by their numbers: Canada, the United States and the United Kingdom.
@@ -53,7 +58,7 @@ const GOVERNMENTS: [usize; 3] = [0, 11, 12];
 /// The foreign currencies, by their numbers: USD and GBP.
 const FOREIGN_CURRENCIES: [usize; 2] = [1, 2];
 
-/// Among whom a holding is paired, by the numbers of its currency and its issuer.
+/// Among whom a holding of a government is paired, by the numbers of its currency and its issuer.
 const MARKETS: [[Market; 13]; 3] = markets();
 
 const fn markets() -> [[Market; 13]; 3] {
@@ -79,6 +84,8 @@ pub enum Class {
     National,
     /// Group II: one of the ten provinces.
     Province,
+    /// Group V: a corporation.
+    Corporation,
 }
 
 /// Among whom a holding is paired.
@@ -89,13 +96,31 @@ pub enum Market {
     /// Paragraph 4: one government in one foreign currency. There are [`Market::FOREIGN`] of these,
     /// numbered from 0.
     Foreign(u8),
-    /// Neither paragraph: a province in a foreign currency, another government in Canadian dollars.
+    /// Paragraph 3: one corporation in Canadian dollars, its strips and those bonds that are rated single A or
+    /// higher. Corporations are numbered from 0.
+    Corporate(u8),
+    /// No paragraph: a province or a corporation in a foreign currency, another government in Canadian dollars,
+    /// a corporation's bond of a lower rating.
     Unpaired,
 }
 
 impl Market {
     /// How many governments in foreign currencies there are.
     pub const FOREIGN: usize = GOVERNMENTS.len() * FOREIGN_CURRENCIES.len();
+
+    /// The market of a holding whose numbers are in their ranges.
+    #[inline]
+    fn of(holding: &Row) -> Market {
+        let Some(corporation) = holding.issuer.checked_sub(FIRST_CORPORATION) else {
+            return MARKETS[holding.currency as usize][holding.issuer as usize];
+        };
+        let (strip, rated) = (holding.kind != 0, holding.rating == 0);
+        if holding.currency == 0 && (strip || rated) {
+            Market::Corporate(corporation as u8)
+        } else {
+            Market::Unpaired
+        }
+    }
 }
 
 /// A valuation date, with the anniversaries that a maturity is compared with.
@@ -158,8 +183,10 @@ impl Position {
             .count();
         let class = if PROVINCES.contains(&holding.issuer) {
             Class::Province
-        } else {
+        } else if holding.issuer < FIRST_CORPORATION {
             Class::National
+        } else {
+            Class::Corporation
         };
         let bond = holding.kind == 0;
         let multiple = match (bond, holding.maturity >= valuation.long_term) {
@@ -169,7 +196,7 @@ impl Position {
         };
         let units = UNITS[class as usize][multiple][period];
         Position {
-            rate: if period == 0 {
+            rate: if period == 0 && class != Class::Corporation {
                 units * (day_count(holding.maturity) - valuation.day_count)
             } else {
                 units
@@ -177,7 +204,7 @@ impl Position {
             period: period as u8,
             class,
             bond,
-            market: MARKETS[holding.currency as usize][holding.issuer as usize],
+            market: Market::of(holding),
         }
     }
 }
@@ -186,7 +213,7 @@ impl Position {
 pub(crate) fn may_pair(one: &Position, other: &Position) -> bool {
     let kinds = match one.market {
         Market::Domestic => !(one.bond && other.bond),
-        Market::Foreign(_) => one.bond != other.bond,
+        Market::Foreign(_) | Market::Corporate(_) => one.bond != other.bond,
         Market::Unpaired => false,
     };
     kinds && one.market == other.market && one.period == other.period
@@ -206,7 +233,9 @@ pub fn saving_rate(one: &Position, other: &Position) -> Option<u64> {
 
 #[inline]
 fn allowed_pair_rate(one: &Position, other: &Position) -> u64 {
-    if one.class == other.class {
+    if one.class == Class::Corporation {
+        corporate_pair_rate(one.rate, other.rate)
+    } else if one.class == other.class {
         one.rate.abs_diff(other.rate)
     } else {
         // Exact, because every rate is even: the tests go through them all.
@@ -214,25 +243,44 @@ fn allowed_pair_rate(one: &Position, other: &Position) -> u64 {
     }
 }
 
+/// The lesser of the cap and the greater of the two rates.
+#[inline]
+pub(crate) fn corporate_pair_rate(one: u64, other: u64) -> u64 {
+    CORPORATE_CAP.min(one.max(other))
+}
+
 #[cfg(test)]
 mod tests {
     use super::{Position, Valuation, pair_rate, saving_rate};
-    use crate::{Row, VALUED};
+    use crate::{NOT_RATED, Row, VALUED};
 
     fn position_on(date: u64, currency: u64, kind: u64, issuer: u64, maturity: u64) -> Position {
-        let valuation = Valuation::on(date).expect("a date");
+        let (side, value, rating) = (0, 1, NOT_RATED);
+        let holding = Row {
+            side,
+            kind,
+            issuer,
+            maturity,
+            value,
+            currency,
+            rating,
+        };
+        Position::of(&Valuation::on(date).expect("a date"), &holding)
+    }
+
+    /// A position of a corporation, by the number of its currency and of its rating.
+    fn corporate(currency: u64, rating: u64, kind: u64, issuer: u64, maturity: u64) -> Position {
         let (side, value) = (0, 1);
-        Position::of(
-            &valuation,
-            &Row {
-                side,
-                kind,
-                issuer,
-                maturity,
-                value,
-                currency,
-            },
-        )
+        let holding = Row {
+            side,
+            kind,
+            issuer,
+            maturity,
+            value,
+            currency,
+            rating,
+        };
+        Position::of(&Valuation::on(VALUED).expect("a date"), &holding)
     }
 
     fn position_in(currency: u64, kind: u64, issuer: u64, maturity: u64) -> Position {
@@ -331,5 +379,54 @@ mod tests {
         let (bond, strip) = (position(0, 11, 2046_11_27), position(1, 11, 2046_11_27));
         assert_eq!((bond.rate, strip.rate), (5_840, 17_520));
         assert_eq!(pair_rate(&bond, &strip), None);
+    }
+
+    #[test]
+    fn rates_of_a_corporation() {
+        for (maturity, bond, strip) in [
+            (2025_01_02, 4_380, 6_570),
+            (2026_01_01, 4_380, 6_570),
+            (2026_01_02, 8_760, 13_140),
+            (2030_06_24, 10_220, 15_330),
+            (2033_03_20, 14_600, 21_900),
+            (2044_12_31, 14_600, 21_900),
+            (2045_01_01, 14_600, 43_800),
+        ] {
+            for (currency, rating, issuer) in [(0, 0, 100), (1, 1, 355)] {
+                let rate = |kind| corporate(currency, rating, kind, issuer, maturity).rate;
+                assert_eq!([0, 1, 2].map(rate), [bond, strip, strip], "{maturity}");
+            }
+        }
+    }
+
+    #[test]
+    fn a_pair_of_a_corporation_follows_its_rule() {
+        let bond = corporate(0, 0, 0, 100, 2046_11_27);
+        for (maturity, rate, saving) in [
+            (2038_09_10, 21_900, 14_600),
+            (2044_12_31, 21_900, 14_600),
+            (2045_01_01, 29_200, 29_200),
+        ] {
+            for rating in [0, 1] {
+                let strip = corporate(0, rating, 2, 100, maturity);
+                assert_eq!(pair_rate(&bond, &strip), Some(rate));
+                assert_eq!(saving_rate(&strip, &bond), Some(saving));
+                assert_eq!(pair_rate(&strip, &strip), None);
+            }
+        }
+        let strip = corporate(0, 0, 1, 100, 2046_11_27);
+        assert_eq!(pair_rate(&bond, &bond), None);
+        for other in [
+            corporate(0, 1, 0, 100, 2046_11_27),
+            corporate(1, 0, 0, 100, 2046_11_27),
+            corporate(0, 0, 0, 101, 2046_11_27),
+            corporate(0, 0, 0, 100, 2036_01_01),
+            position(0, 0, 2046_11_27),
+            position(0, 7, 2046_11_27),
+        ] {
+            assert_eq!(pair_rate(&strip, &other), None, "{other:?}");
+        }
+        let dollars = [0, 1].map(|kind| corporate(1, 0, kind, 100, 2046_11_27));
+        assert_eq!(pair_rate(&dollars[0], &dollars[1]), None);
     }
 }

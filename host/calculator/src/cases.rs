@@ -7,6 +7,7 @@
 use crate::print;
 
 mod books;
+mod corporate;
 mod dates;
 mod fields;
 mod foreign;
@@ -33,6 +34,7 @@ pub fn all() -> Vec<Case> {
     let mut list = List::default();
     paper::add(&mut list);
     foreign::add(&mut list);
+    corporate::add(&mut list);
     dates::add(&mut list);
     judged::add(&mut list);
     grammar::add(&mut list);

@@ -4,7 +4,7 @@ use std::hint::select_unpredictable;
 
 use margin_host::Refusal;
 
-use crate::article::{Class, Market, Position};
+use crate::article::{Class, Market, Position, corporate_pair_rate};
 use crate::plain::Entry;
 
 /// A short, as far as cover asks, side by side with the others of its group.
@@ -39,16 +39,17 @@ impl Short {
 }
 
 const PERIODS: usize = 5;
-/// One group in each period for paragraph 2; for paragraph 4 one of bonds and one of strips for each
-/// government and currency.
-const GROUPS: usize = PERIODS * (1 + 2 * Market::FOREIGN);
 
-/// The group of the shorts in this position's market and period, in a foreign currency of its bonds or of
-/// its strips.
+/// The group of the shorts in this position's market and period. For paragraph 2 there is one in each period;
+/// for paragraph 4 one of bonds and one of strips for each government and currency, and for paragraph 3 for
+/// each corporation.
 fn group(position: &Position, bonds: bool) -> Option<usize> {
     let kinds = match position.market {
         Market::Domestic => 0,
         Market::Foreign(number) => 1 + 2 * usize::from(number) + usize::from(bonds),
+        Market::Corporate(number) => {
+            1 + 2 * (Market::FOREIGN + usize::from(number)) + usize::from(bonds)
+        }
         Market::Unpaired => return None,
     };
     Some(PERIODS * kinds + usize::from(position.period))
@@ -78,50 +79,47 @@ pub(super) fn cover(entries: &[Entry]) -> Result<(), Refusal> {
 #[inline]
 fn needed(long: &Position, short: &Short) -> u64 {
     let sum = long.rate + short.rate;
+    if long.class == Class::Corporation {
+        return sum - corporate_pair_rate(long.rate, short.rate);
+    }
     let difference = long.rate.abs_diff(short.rate);
     let pair = select_unpredictable(long.class == short.class, difference, sum / 2);
     select_unpredictable(long.bond & short.bond, 0, sum - pair)
 }
 
-/// The shorts by group and in order within each, and where each group starts and ends.
+/// The shorts by group and in order within each, and where each group starts and ends, up to the last in use.
 struct Shorts {
     shorts: Vec<Short>,
-    starts: [u16; GROUPS],
-    ends: [u16; GROUPS],
+    bounds: Vec<(u16, u16)>,
 }
 
 impl Shorts {
     fn of(entries: &[Entry]) -> Shorts {
-        let mut ends = [0; GROUPS];
-        let mut used = 0;
+        let used = grouped(entries).map(|(_, _, group)| group + 1).max();
+        let mut bounds = vec![(0, 0); used.unwrap_or(0)];
         for (_, _, group) in grouped(entries) {
-            ends[group] += 1;
-            used = used.max(group + 1);
+            bounds[group].1 += 1;
         }
-        let mut starts = [0; GROUPS];
         let mut count = 0;
-        for group in 0..used {
-            starts[group] = count;
-            count += std::mem::replace(&mut ends[group], count);
+        for (start, end) in &mut bounds {
+            *start = count;
+            count += std::mem::replace(end, count);
         }
         let mut shorts = vec![NOBODY; usize::from(count)];
         for (number, entry, group) in grouped(entries) {
-            shorts[usize::from(ends[group])] = Short::of(number, &entry.position, entry.price);
-            ends[group] += 1;
+            let end = &mut bounds[group].1;
+            shorts[usize::from(*end)] = Short::of(number, &entry.position, entry.price);
+            *end += 1;
         }
-        Shorts {
-            shorts,
-            starts,
-            ends,
-        }
+        Shorts { shorts, bounds }
     }
 
-    /// The shorts that a long may be paired with, and in Canadian dollars other bonds beside a bond.
+    /// The shorts that a long may be paired with, and in Canadian dollars other bonds beside a government's
+    /// bond.
     fn partners(&self, long: &Position) -> &[Short] {
-        let Some(group) = group(long, !long.bond) else {
-            return &[];
-        };
-        &self.shorts[usize::from(self.starts[group])..usize::from(self.ends[group])]
+        let bounds = group(long, !long.bond).and_then(|group| self.bounds.get(group));
+        let (start, end) = bounds.copied().unwrap_or_default();
+        &self.shorts[usize::from(start)..usize::from(end)]
     }
 }
 
@@ -139,6 +137,20 @@ mod tests {
     use super::{Short, group, needed};
     use crate::{Position, Row, VALUED, Valuation, saving_rate};
 
+    /// Issuers, each with a rating.
+    const ISSUERS: [(u64, u64); 10] = [
+        (0, 2),
+        (1, 2),
+        (5, 2),
+        (10, 2),
+        (11, 2),
+        (12, 2),
+        (100, 0),
+        (100, 1),
+        (101, 0),
+        (355, 0),
+    ];
+
     fn positions() -> Vec<Position> {
         let valuation = Valuation::on(VALUED).expect("a date");
         let mut positions = Vec::new();
@@ -147,7 +159,7 @@ mod tests {
             2036_01_01, 2038_09_10, 2045_01_01,
         ] {
             for kind in 0..3 {
-                for issuer in [0, 1, 5, 10, 11, 12] {
+                for (issuer, rating) in ISSUERS {
                     for currency in 0..3 {
                         let (side, value) = (0, 1);
                         let holding = Row {
@@ -157,6 +169,7 @@ mod tests {
                             maturity,
                             value,
                             currency,
+                            rating,
                         };
                         positions.push(Position::of(&valuation, &holding));
                     }

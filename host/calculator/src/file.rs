@@ -5,6 +5,6 @@ mod printer;
 mod reader;
 mod records;
 
-pub use lent::margin_read;
+pub use lent::{margin_leis, margin_read};
 pub use printer::print;
-pub use reader::{CURRENCIES, FIELDS, ISSUERS, KINDS, MOST_BYTES, SIDES, read};
+pub use reader::{CURRENCIES, FIELDS, ISSUERS, KINDS, MOST_BYTES, RATINGS, SIDES, read};

@@ -2,7 +2,8 @@
 //! with what was asked for later, and from the article's text alone. It shares nothing with the proved crates, and the tests hold the one against the other.
 //!
 //! [`margin_check`] says what the check must return and what it must leave in every lent list, byte for
-//! byte, and [`margin_read`] the same of the file's reader. [`print()`] says what the program prints for
+//! byte, [`margin_read`] the same of the file's reader, and [`margin_leis`] of what gives the LEIs of a file.
+//! [`print()`] says what the program prints for
 //! a file. [`optimise`] finds the pairing with the largest saving, and prices that show it. [`calendar`]
 //! counts days, [`samples`] makes books from seeds, [`texts`] writes files, and [`cases`] has those that the
 //! program `cases` is given.
@@ -16,6 +17,7 @@ mod cover;
 mod dates;
 mod file;
 mod fraction;
+mod lei;
 mod optimise;
 mod plain;
 pub mod samples;
@@ -23,10 +25,14 @@ mod sheet;
 pub mod texts;
 
 pub use article::{Class, Market, Position, Valuation, pair_rate, saving_rate};
-pub use file::{CURRENCIES, FIELDS, ISSUERS, KINDS, MOST_BYTES, SIDES, margin_read, print, read};
+pub use file::{
+    CURRENCIES, FIELDS, ISSUERS, KINDS, MOST_BYTES, RATINGS, SIDES, margin_leis, margin_read,
+    print, read,
+};
+pub use lei::with_check_digits;
 pub use optimise::{Best, optimise};
 pub use plain::margin_check;
-pub use sheet::{Row, Sheet, VALUED};
+pub use sheet::{FIRST_CORPORATION, NOT_RATED, Row, Sheet, VALUED};
 
 /// The Rust examples of the README.
 #[cfg(doctest)]

@@ -154,7 +154,7 @@ fn savings(positions: &[Position], longs: &Side, shorts: &Side) -> Vec<Option<u6
     savings
 }
 
-/// The position of each holding, or the refusal of the book: 1, 3, 4 to 8, 23 or 24.
+/// The position of each holding, or the refusal of the book: 1, 3, 4 to 8, 23, 24 or 25.
 fn positions(book: &Sheet) -> Result<Vec<Position>, Refusal> {
     let count = book.side.len();
     let columns = [
@@ -163,6 +163,7 @@ fn positions(book: &Sheet) -> Result<Vec<Position>, Refusal> {
         &book.maturity,
         &book.value,
         &book.currency,
+        &book.rating,
     ];
     if columns.iter().any(|column| column.len() != count) {
         return Err(Refusal::ColumnsDiffer);

@@ -4,14 +4,15 @@ use std::cmp::Reverse;
 
 use margin_host::{Columns, Figures, Refusal};
 
-use crate::Row;
 use crate::article::{Position, Valuation, pair_rate};
 use crate::cover::cover;
 use crate::dates::is_date;
+use crate::{FIRST_CORPORATION, NOT_RATED, Row};
 
 pub(crate) const MOST_HOLDINGS: usize = 256;
 pub(crate) const MOST_LINES: usize = 512;
-const HIGHEST_ISSUER: u64 = 12;
+const HIGHEST_GOVERNMENT: u64 = 12;
+const HIGHEST_CORPORATION: u64 = FIRST_CORPORATION + MOST_HOLDINGS as u64 - 1;
 const HIGHEST_CURRENCY: u64 = 2;
 const HIGHEST_VALUE: u64 = 100_000_000_000;
 const HIGHEST_PRICE: u64 = 43_800;
@@ -85,7 +86,7 @@ fn lengths(
     answer: usize,
 ) -> Result<(), Refusal> {
     let of_holdings = [
-        c.side, c.kind, c.issuer, c.maturity, c.value, c.price, c.currency,
+        c.side, c.kind, c.issuer, c.maturity, c.value, c.price, c.currency, c.rating,
     ]
     .map(<[u8]>::len);
     let of_lines = [c.long, c.short, c.amount].map(<[u8]>::len);
@@ -111,7 +112,7 @@ pub(crate) fn valuation(date: u64) -> Result<Valuation, Refusal> {
     Valuation::on(date).ok_or(Refusal::DateInvalid { holding: 0 })
 }
 
-/// Refusals 4 to 6, 24, 7, 8, 23 and 10 of each holding in turn.
+/// Refusals 4 to 6, 24, 7, 8, 23, 25 and 10 of each holding in turn.
 fn holdings(valuation: &Valuation, columns: &Columns<&[u8]>) -> Result<Vec<Entry>, Refusal> {
     let sides = numbers(columns.side);
     let mut entries = Vec::with_capacity(sides.len());
@@ -120,8 +121,9 @@ fn holdings(valuation: &Valuation, columns: &Columns<&[u8]>) -> Result<Vec<Entry
         .zip(numbers(columns.maturity))
         .zip(numbers(columns.value))
         .zip(numbers(columns.price))
-        .zip(numbers(columns.currency));
-    for (number, (side, (((((kind, issuer), maturity), value), price), currency))) in
+        .zip(numbers(columns.currency))
+        .zip(numbers(columns.rating));
+    for (number, (side, ((((((kind, issuer), maturity), value), price), currency), rating))) in
         sides.zip(others).enumerate()
     {
         let holding = Row {
@@ -131,6 +133,7 @@ fn holdings(valuation: &Valuation, columns: &Columns<&[u8]>) -> Result<Vec<Entry
             maturity,
             value,
             currency,
+            rating,
         };
         in_range(valuation, number as u64, &holding, price)?;
         entries.push(Entry {
@@ -144,7 +147,7 @@ fn holdings(valuation: &Valuation, columns: &Columns<&[u8]>) -> Result<Vec<Entry
     Ok(entries)
 }
 
-/// Refusals 4 to 6, 24, 7, 8, 23 and 10 of one holding, in this order.
+/// Refusals 4 to 6, 24, 7, 8, 23, 25 and 10 of one holding, in this order.
 #[inline]
 pub(crate) fn in_range(
     valuation: &Valuation,
@@ -152,11 +155,12 @@ pub(crate) fn in_range(
     holding: &Row,
     price: u64,
 ) -> Result<(), Refusal> {
+    let corporate = (FIRST_CORPORATION..=HIGHEST_CORPORATION).contains(&holding.issuer);
     let refusal = if holding.side > 1 {
         Refusal::SideUnknown { holding: number }
     } else if holding.kind > 2 {
         Refusal::KindUnknown { holding: number }
-    } else if holding.issuer > HIGHEST_ISSUER {
+    } else if holding.issuer > HIGHEST_GOVERNMENT && !corporate {
         Refusal::IssuerUnknown { holding: number }
     } else if !is_date(holding.maturity) {
         Refusal::DateInvalid { holding: number }
@@ -166,6 +170,8 @@ pub(crate) fn in_range(
         Refusal::ValueOutOfRange { holding: number }
     } else if holding.currency > HIGHEST_CURRENCY {
         Refusal::CurrencyUnknown { holding: number }
+    } else if holding.rating > NOT_RATED || corporate == (holding.rating == NOT_RATED) {
+        Refusal::RatingInvalid { holding: number }
     } else if price > HIGHEST_PRICE {
         Refusal::PriceTooHigh { holding: number }
     } else {

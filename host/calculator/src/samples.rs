@@ -2,7 +2,7 @@
 
 use margin_host::Line;
 
-use crate::{Row, Sheet, VALUED, calendar, optimise};
+use crate::{FIRST_CORPORATION, NOT_RATED, Row, Sheet, VALUED, calendar, optimise};
 
 /// `SplitMix64`: the same numbers from the same seed everywhere.
 #[derive(Clone, Debug)]
@@ -95,21 +95,53 @@ pub struct Shape {
     pub values: &'static [(u64, u64)],
     /// The currencies.
     pub currencies: &'static [u64],
+    /// The ratings of corporations; governments have none.
+    pub ratings: &'static [u64],
     /// How many holdings are drawn before the rest repeats them.
     pub different: usize,
 }
 
-/// A shape with everything in it, what is paired by either paragraph and what is not; the others narrow it.
+/// A shape with everything in it, what is paired by any paragraph and what is not; the others narrow it.
 pub const ANY: Shape = Shape {
-    name: "any currency",
+    name: "any issuer and currency",
     sides: &[0, 1],
     kinds: &[0, 1, 2],
-    issuers: &[0, 0, 0, 0, 1, 4, 7, 10, 11, 11, 12, 12],
+    issuers: &[0, 0, 1, 7, 10, 11, 12, 100, 100, 100, 101, 102, 103],
     terms: &PERIODS,
     values: &[(1, 10), (1, 10_000), (1, 100_000_000_000)],
-    currencies: &[0, 0, 1, 1, 2],
+    currencies: &[0, 0, 0, 0, 1, 1, 2],
+    ratings: &[0, 0, 1],
     different: usize::MAX,
 };
+
+/// What paragraphs 2 and 4 pair, and what of governments is not paired.
+pub const GOVERNMENTS: Shape = Shape {
+    name: "any currency",
+    issuers: &[0, 0, 0, 0, 1, 4, 7, 10, 11, 11, 12, 12],
+    currencies: &[0, 0, 1, 1, 2],
+    ..ANY
+};
+
+/// What paragraph 3 pairs, and bonds of lower ratings: a few corporations in CAD.
+pub const CORPORATE: Shape = Shape {
+    name: "corporations",
+    issuers: &[100, 101, 102, 103],
+    currencies: &[0],
+    ..ANY
+};
+
+/// The numbers of all corporations that a book may have.
+pub const CORPORATIONS: [u64; 256] = corporations();
+
+const fn corporations() -> [u64; 256] {
+    let mut numbers = [FIRST_CORPORATION; 256];
+    let mut place = 0;
+    while place < numbers.len() {
+        numbers[place] += place as u64;
+        place += 1;
+    }
+    numbers
+}
 
 /// What paragraph 2 pairs: Canada and the provinces in CAD.
 pub const DOMESTIC: Shape = Shape {
@@ -141,7 +173,7 @@ const ENDS: &[Term] = &[
 ];
 
 /// Books of many kinds.
-pub const SHAPES: [Shape; 29] = [
+pub const SHAPES: [Shape; 40] = [
     DOMESTIC,
     Shape {
         name: "ends of periods",
@@ -233,22 +265,22 @@ pub const SHAPES: [Shape; 29] = [
         terms: &[PERIODS[0]],
         ..DOMESTIC
     },
-    ANY,
+    GOVERNMENTS,
     Shape {
         name: "any currency, third period",
         terms: &[PERIODS[2]],
-        ..ANY
+        ..GOVERNMENTS
     },
     Shape {
         name: "any currency, about 20 years",
         terms: &[ABOUT_20_YEARS],
-        ..ANY
+        ..GOVERNMENTS
     },
     Shape {
         name: "any currency, highest value",
         values: &[(HIGHEST_VALUE, HIGHEST_VALUE)],
         terms: ENDS,
-        ..ANY
+        ..GOVERNMENTS
     },
     FOREIGN,
     Shape {
@@ -293,6 +325,61 @@ pub const SHAPES: [Shape; 29] = [
         terms: &[PERIODS[3]],
         ..ANY
     },
+    ANY,
+    Shape {
+        name: "any issuer and currency, fifth period",
+        terms: &[FIFTH],
+        ..ANY
+    },
+    Shape {
+        name: "any issuer and currency, highest value",
+        values: &[(HIGHEST_VALUE, HIGHEST_VALUE)],
+        terms: ENDS,
+        ..ANY
+    },
+    CORPORATE,
+    Shape {
+        name: "corporations at the ends of periods",
+        terms: ENDS,
+        ..CORPORATE
+    },
+    Shape {
+        name: "corporations about 20 years",
+        terms: &[ABOUT_20_YEARS],
+        ..CORPORATE
+    },
+    Shape {
+        name: "one corporation",
+        issuers: &[355],
+        terms: &[FIFTH],
+        ..CORPORATE
+    },
+    Shape {
+        name: "one corporation, first period",
+        issuers: &[100],
+        terms: &[PERIODS[0]],
+        ratings: &[0],
+        ..CORPORATE
+    },
+    Shape {
+        name: "a corporation and governments in CAD",
+        issuers: &[0, 7, 9, 100, 100, 100],
+        terms: &[PERIODS[2], PERIODS[3]],
+        ..CORPORATE
+    },
+    Shape {
+        name: "corporations in any currency",
+        issuers: &[100, 101],
+        currencies: &[0, 0, 1, 2],
+        terms: &[PERIODS[1]],
+        ..ANY
+    },
+    Shape {
+        name: "many corporations",
+        issuers: &CORPORATIONS,
+        terms: &[FIFTH],
+        ..CORPORATE
+    },
 ];
 
 /// Draws a valuation date: document 01's, a leap day or any other, so early that each has its 100th
@@ -329,20 +416,30 @@ pub fn holdings(random: &mut Random, shape: &Shape, date: u64, size: usize) -> V
     let mut book: Vec<Row> = Vec::with_capacity(size);
     for number in 0..size {
         let holding = if number < shape.different {
-            Row {
-                side: random.pick(shape.sides),
-                kind: random.pick(shape.kinds),
-                issuer: random.pick(shape.issuers),
-                maturity: maturity(random, date, shape.terms),
-                value: random.within(shape.values),
-                currency: random.pick(shape.currencies),
-            }
+            holding(random, shape, date)
         } else {
             random.pick(&book[..shape.different])
         };
         book.push(holding);
     }
     book
+}
+
+fn holding(random: &mut Random, shape: &Shape, date: u64) -> Row {
+    let issuer = random.pick(shape.issuers);
+    Row {
+        side: random.pick(shape.sides),
+        kind: random.pick(shape.kinds),
+        issuer,
+        maturity: maturity(random, date, shape.terms),
+        value: random.within(shape.values),
+        currency: random.pick(shape.currencies),
+        rating: if issuer < FIRST_CORPORATION {
+            NOT_RATED
+        } else {
+            random.pick(shape.ratings)
+        },
+    }
 }
 
 /// The book of a sheet with a best proposal on it.

@@ -1,5 +1,6 @@
 //! A book on its valuation date and a proposal in plain numbers, which may be outside their ranges.
 
+use std::collections::HashMap;
 use std::ops::{Deref, DerefMut};
 
 use margin_host::{Columns, Line};
@@ -8,6 +9,10 @@ use crate::{Position, Valuation};
 
 /// The valuation date of document 01's worked cases.
 pub const VALUED: u64 = 2025_01_01;
+/// The issuer number of a book's first corporation.
+pub const FIRST_CORPORATION: u64 = 100;
+/// The rating number of a government.
+pub const NOT_RATED: u64 = 2;
 
 /// One holding in the papers' numbers.
 #[derive(Clone, Copy, Debug, PartialEq, Eq)]
@@ -16,7 +21,7 @@ pub struct Row {
     pub side: u64,
     /// 0 bond or debenture, 1 stripped coupon, 2 residual.
     pub kind: u64,
-    /// 0 Canada, 1 to 10 a province, 11 the United States, 12 the United Kingdom.
+    /// 0 Canada, 1 to 10 a province, 11 the United States, 12 the United Kingdom, 100 to 355 a corporation.
     pub issuer: u64,
     /// The maturity, YYYYMMDD.
     pub maturity: u64,
@@ -24,6 +29,8 @@ pub struct Row {
     pub value: u64,
     /// 0 CAD, 1 USD, 2 GBP.
     pub currency: u64,
+    /// Of a corporation 0 single A or higher, 1 lower; of a government 2.
+    pub rating: u64,
 }
 
 /// A valuation date, and the columns of a book and of a proposal on it, which are reached as its own.
@@ -83,6 +90,7 @@ impl Sheet {
             maturity: self.maturity[number],
             value: self.value[number],
             currency: self.currency[number],
+            rating: self.rating[number],
         }
     }
 
@@ -106,6 +114,7 @@ impl Sheet {
         self.value.push(row.value);
         self.price.push(price);
         self.currency.push(row.currency);
+        self.rating.push(row.rating);
     }
 
     /// Adds a line.
@@ -113,6 +122,20 @@ impl Sheet {
         self.long.push(line.long);
         self.short.push(line.short);
         self.amount.push(line.amount);
+    }
+
+    /// The sheet with its corporations numbered from 100 by first appearance, as those of a file are.
+    #[must_use]
+    pub fn renumbered(&self) -> Sheet {
+        let mut sheet = self.clone();
+        let mut numbers = HashMap::new();
+        for issuer in &mut sheet.issuer {
+            if *issuer >= FIRST_CORPORATION {
+                let next = FIRST_CORPORATION + numbers.len() as u64;
+                *issuer = *numbers.entry(*issuer).or_insert(next);
+            }
+        }
+        sheet
     }
 
     /// The columns as bytes.

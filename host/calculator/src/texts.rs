@@ -3,22 +3,27 @@
 //! A record is a text without its CRLF, so that it can be changed before it goes into a file. The
 //! empty fields that end a record are added here alone: the rest names the filled ones.
 
-use crate::{CURRENCIES, FIELDS, ISSUERS, KINDS, SIDES, Sheet, VALUED};
+use crate::samples::Random;
+use crate::{
+    CURRENCIES, FIELDS, FIRST_CORPORATION, ISSUERS, KINDS, RATINGS, SIDES, Sheet, VALUED,
+    with_check_digits,
+};
 
 /// The records of the file that document 01 prints: the valuation date, three holdings and two lines.
 pub const PRINTED: [&str; 6] = [
-    "D,2025-01-01,,,,,,",
-    "H,L,C,CA,2030-06-24,1000000,0,CAD",
-    "H,S,B,CA,2030-06-24,600000,5840,CAD",
-    "H,S,R,ON,2030-06-24,300000,6570,CAD",
-    "P,0,1,600000,,,,",
-    "P,0,2,300000,,,,",
+    "D,2025-01-01,,,,,,,",
+    "H,L,C,CA,2030-06-24,1000000,0,CAD,",
+    "H,S,B,CA,2030-06-24,600000,5840,CAD,",
+    "H,S,R,ON,2030-06-24,300000,6570,CAD,",
+    "P,0,1,600000,,,,,",
+    "P,0,2,300000,,,,,",
 ];
 
 /// Fields of a valuation date that are filled, its letter among them; the others are empty.
 const FILLED_OF_DATE: usize = 2;
-/// Fields of a holding that are filled, its letter among them; the others are empty.
-const FILLED_OF_HOLDING: usize = 8;
+/// Fields of a holding that are filled, its letter among them and, of a corporation, its rating; the others are
+/// empty.
+const FILLED_OF_HOLDING: usize = 9;
 /// Fields of a line that are filled, its letter among them; the others are empty.
 const FILLED_OF_LINE: usize = 4;
 
@@ -35,17 +40,47 @@ pub fn valued(date: &str) -> String {
     format!("D,{date}{}", ",".repeat(FIELDS - FILLED_OF_DATE))
 }
 
-/// The record of a holding in CAD with these fields after its letter and before its currency.
+/// The record of a government's holding in CAD with these fields after its letter and before its currency.
 #[must_use]
 pub fn holding(fields: &str) -> String {
     holding_in("CAD", fields)
 }
 
-/// The record of a holding in a currency with these fields after its letter and before its currency.
+/// The record of a government's holding in a currency with these fields after its letter and before its
+/// currency.
 #[must_use]
 pub fn holding_in(currency: &str, fields: &str) -> String {
+    rated_in(currency, "", fields)
+}
+
+/// The record of a holding in CAD with a rating and these fields after its letter and before its currency.
+#[must_use]
+pub fn rated(rating: &str, fields: &str) -> String {
+    rated_in("CAD", rating, fields)
+}
+
+/// The record of a holding in a currency with a rating and these fields after its letter and before its
+/// currency.
+#[must_use]
+pub fn rated_in(currency: &str, rating: &str, fields: &str) -> String {
     let empty = ",".repeat(FIELDS - FILLED_OF_HOLDING);
-    format!("H,{fields},{currency}{empty}")
+    format!("H,{fields},{currency},{rating}{empty}")
+}
+
+/// The text of an issuer: of a corporation an LEI of its own, which the seed of its number makes.
+///
+/// # Panics
+///
+/// If it is neither a government nor a corporation.
+#[must_use]
+pub fn issuer_text(number: u64) -> String {
+    if number < FIRST_CORPORATION {
+        return ISSUERS[number as usize].to_string();
+    }
+    let mut random = Random::new(number);
+    let mut character = || char::from(random.pick(b"0123456789ABCDEFGHIJKLMNOPQRSTUVWXYZ"));
+    let first: String = (0..18).map(|_| character()).collect();
+    with_check_digits(&first)
 }
 
 /// The record of a line with these fields after its letter.
@@ -54,7 +89,8 @@ pub fn line(fields: &str) -> String {
     format!("P,{fields}{}", ",".repeat(FIELDS - FILLED_OF_LINE))
 }
 
-/// The file of holdings in CAD and lines with these fields after their letters, valued on document 01's date.
+/// The file of governments' holdings in CAD and lines with these fields after their letters, valued on document
+/// 01's date.
 #[must_use]
 pub fn file(holdings: &[&str], lines: &[&str]) -> Vec<u8> {
     let mut records: Vec<String> = holdings.iter().map(|fields| holding(fields)).collect();
@@ -68,16 +104,21 @@ pub fn dated<T: AsRef<str>>(records: &[T]) -> Vec<u8> {
     [joined(&[date]), joined(records)].concat()
 }
 
-/// The last line of a file of equal ones: as the others, and with a fault for each refusal of a record, each
+/// The last record of a file of equal lines: as the others, and with a fault for each refusal of a record, each
 /// with its name and the number that the file gets.
 #[must_use]
-pub fn last_lines() -> [(&'static str, String, u64); 5] {
+pub fn last_lines() -> [(&'static str, String, u64); 6] {
     let good = PRINTED[4];
     [
         ("no fault", good.to_string(), 0),
         ("a tab", format!("{good}\t"), 19),
         ("a field too many", of_width(good, FIELDS + 1), 20),
         ("an amount of 01", line("0,1,01"), 21),
+        (
+            "a rating on Canada",
+            rated("Y", "L,B,CA,2030-06-24,1,0"),
+            25,
+        ),
         ("a second date", PRINTED[0].to_string(), 22),
     ]
 }
@@ -140,7 +181,7 @@ pub fn quoted_at(record: &str, places: &[usize]) -> String {
 ///
 /// # Panics
 ///
-/// If a side, kind, issuer or currency is unknown, or the columns differ in length.
+/// If a side, kind, issuer, currency or rating is unknown, or the columns differ in length.
 #[must_use]
 pub fn records(sheet: &Sheet) -> Vec<String> {
     let mut records = Vec::with_capacity(1 + sheet.side.len() + sheet.long.len());
@@ -149,11 +190,12 @@ pub fn records(sheet: &Sheet) -> Vec<String> {
         let row = sheet.row(number);
         let side = SIDES[row.side as usize];
         let kind = KINDS[row.kind as usize];
-        let issuer = ISSUERS[row.issuer as usize];
+        let issuer = issuer_text(row.issuer);
         let currency = CURRENCIES[row.currency as usize];
+        let rating = RATINGS[row.rating as usize];
         let (maturity, value) = (date_text(row.maturity), row.value);
         let fields = format!("{side},{kind},{issuer},{maturity},{value},{price}");
-        records.push(holding_in(currency, &fields));
+        records.push(rated_in(currency, rating, &fields));
     }
     for ((long, short), amount) in sheet.long.iter().zip(&sheet.short).zip(&sheet.amount) {
         records.push(line(&format!("{long},{short},{amount}")));

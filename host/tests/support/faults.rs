@@ -1,6 +1,6 @@
 //! Faults to plant in a proposal that is accepted, and the paper's order between them.
 
-use margin_calculator::{Row, Sheet, VALUED};
+use margin_calculator::{NOT_RATED, Row, Sheet, VALUED};
 use margin_host::Line;
 
 use super::lent::Lent;
@@ -14,11 +14,11 @@ pub const HOLDINGS: u64 = 14;
 /// Stands for 24 of the valuation date among the numbers of faults.
 pub const VALUATION: u64 = 1_024;
 /// The numbers that the check can give.
-pub const NUMBERS: [u64; 20] = [
-    1, 2, 3, 4, 5, 6, 7, 8, 9, 10, 11, 12, 13, 14, 15, 16, 17, 23, 24, VALUATION,
+pub const NUMBERS: [u64; 21] = [
+    1, 2, 3, 4, 5, 6, 7, 8, 9, 10, 11, 12, 13, 14, 15, 16, 17, 23, 24, 25, VALUATION,
 ];
 /// The numbers of a holding's faults, in their order.
-const OF_A_HOLDING: [u64; 8] = [4, 5, 6, 24, 7, 8, 23, 10];
+const OF_A_HOLDING: [u64; 9] = [4, 5, 6, 24, 7, 8, 23, 25, 10];
 /// The saving rate of a pair of the sound sheet is twice this, and this the price on each leg.
 const RATE: u64 = 8_760;
 
@@ -34,7 +34,7 @@ impl Fault {
     /// A fault at this holding or line; the second place is for 16 only.
     pub fn at(number: u64, place: u64, second: u64) -> Fault {
         let (place, second) = match number {
-            4..=8 | 10..=15 | 23 | 24 => (place, 0),
+            4..=8 | 10..=15 | 23..=25 => (place, 0),
             16 => (place, second),
             _ => (0, 0),
         };
@@ -48,7 +48,7 @@ impl Fault {
     /// How many places there are for a fault of this number.
     pub fn places(number: u64) -> u64 {
         match number {
-            4..=8 | 10 | 23 | 24 => HOLDINGS,
+            4..=8 | 10 | 23..=25 => HOLDINGS,
             11..=16 => PAIRS,
             _ => 1,
         }
@@ -63,7 +63,7 @@ impl Fault {
             9 => 2,
             2 => 3,
             VALUATION => 4,
-            4..=8 | 10 | 23 | 24 => 5,
+            4..=8 | 10 | 23..=25 => 5,
             11..=15 => 6,
             16 => 7,
             _ => 8,
@@ -95,6 +95,7 @@ pub fn sound() -> Sheet {
         maturity: 2030_06_24,
         value: 1_000,
         currency: 0,
+        rating: NOT_RATED,
     };
     let bond = |side| Row {
         side,
@@ -103,6 +104,7 @@ pub fn sound() -> Sheet {
         maturity: 2033_03_20,
         value: 500,
         currency: 0,
+        rating: NOT_RATED,
     };
     let mut sheet = Sheet::empty(VALUED);
     for side in [0, 1] {
@@ -174,6 +176,7 @@ fn plant_in_sheet(sheet: &mut Sheet, fault: &Fault, all: &[Fault]) {
                 1899_12_31
             }
         }
+        25 => sheet.rating[at] = [0, 1, 3, u64::MAX][at % 4],
         VALUATION => sheet.date = 2025_02_29,
         // The leg that a wrong side on the same line leaves free.
         11 if all.contains(&Fault::at(12, fault.place, 0)) => sheet.long[at] = 1_000,
@@ -206,6 +209,7 @@ fn lengthen_book(sheet: &mut Sheet) {
         maturity: 2033_03_20,
         value: 500,
         currency: 0,
+        rating: NOT_RATED,
     };
     while sheet.side.len() < 257 {
         sheet.add_holding(bond, 0);

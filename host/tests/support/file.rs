@@ -6,13 +6,15 @@ use std::ops::Range;
 
 use margin_calculator::samples::Random;
 use margin_calculator::texts::PRINTED;
-use margin_calculator::{Sheet, margin_read};
+use margin_calculator::{Sheet, margin_leis, margin_read};
 use margin_host::{Columns, raw};
 
 use super::lent::{NAMES, OF_HOLDINGS, pattern};
 
 /// Bytes before and after each list that nobody may write; odd, so that few lists are aligned.
 const GUARD: usize = 13;
+/// Bytes for the LEIs of every file, and one that is never written.
+const ROOM_OF_LEIS: usize = 20 * 256 + 1;
 /// The lists that a reader fills.
 pub const LISTS: usize = NAMES.len();
 /// The head comes after the text, then the lists and then the answer.
@@ -169,7 +171,7 @@ pub struct Files {
     seed: u64,
     count: usize,
     /// How many files were refused with each number.
-    pub seen: [usize; 23],
+    pub seen: [usize; 26],
     /// The random numbers of the test.
     pub random: Random,
 }
@@ -180,7 +182,7 @@ impl Files {
             name,
             seed,
             count: 0,
-            seen: [0; 23],
+            seen: [0; 26],
             random: Random::new(seed),
         }
     }
@@ -213,8 +215,19 @@ impl Files {
             "bytes that are not to be written: {}",
             story()
         );
+        self.same_leis(file, &what);
         self.seen[ours.number as usize] += 1;
         ours
+    }
+
+    /// Asks for the LEIs of the same text, with room for those of every file; both must leave the same.
+    fn same_leis(&self, file: &File, what: &dyn Display) {
+        let [ours, calculated] = [raw::margin_leis, margin_leis].map(|call| {
+            let (mut leis, mut answer) = ([0x51; ROOM_OF_LEIS], [0xA3; 17]);
+            let number = call(&file.text, &mut leis, &mut answer);
+            (number, answer, leis)
+        });
+        assert!(ours == calculated, "the LEIs: {}", self.story(file, what));
     }
 
     /// Compares, and demands this refusal at this place.

@@ -8,11 +8,12 @@ use margin_host::Columns;
 /// Bytes on each side of a list that nobody may write.
 const GUARD: usize = 24;
 /// The names of the columns in the order of the call.
-pub const NAMES: [&str; 10] = [
-    "side", "kind", "issuer", "maturity", "value", "price", "currency", "long", "short", "amount",
+pub const NAMES: [&str; 11] = [
+    "side", "kind", "issuer", "maturity", "value", "price", "currency", "rating", "long", "short",
+    "amount",
 ];
 /// How many of them are columns of the holdings; the rest are columns of the lines.
-pub const OF_HOLDINGS: usize = 7;
+pub const OF_HOLDINGS: usize = 8;
 
 /// The bytes that a call gets. The lists are filled with a pattern.
 #[derive(Clone)]

@@ -19,7 +19,7 @@ use margin_host::raw;
 /// One of the columns of a sheet, in the order in which they are lent.
 pub fn column(sheet: &mut Sheet, at: usize) -> &mut Vec<u64> {
     let columns = sheet.each_mut().into_array();
-    columns.into_iter().nth(at).expect("there are ten")
+    columns.into_iter().nth(at).expect("there are eleven")
 }
 
 /// A test's books: where its random numbers start, and how many books it has compared.

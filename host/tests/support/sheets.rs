@@ -1,7 +1,7 @@
 //! Sheets in the papers' numbers, and the papers' rates and pairs, typed from them. All are valued on
 //! 2025-01-01.
 
-use margin_calculator::{Row, Sheet, VALUED, calendar};
+use margin_calculator::{NOT_RATED, Row, Sheet, VALUED, calendar};
 use margin_host::Line;
 
 use super::Run;
@@ -21,7 +21,7 @@ pub const CAD: u64 = 0;
 pub const USD: u64 = 1;
 pub const GBP: u64 = 2;
 
-/// A holding in CAD.
+/// A government's holding in CAD.
 pub fn holding(side: u64, kind: u64, issuer: u64, maturity: u64, value: u64) -> Row {
     Row {
         side,
@@ -30,6 +30,7 @@ pub fn holding(side: u64, kind: u64, issuer: u64, maturity: u64, value: u64) -> 
         maturity,
         value,
         currency: CAD,
+        rating: NOT_RATED,
     }
 }
 

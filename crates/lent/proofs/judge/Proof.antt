@@ -10,17 +10,17 @@ use Rattle.lent.proofs.judge.Statement.{statement}
 use Rattle.lent.proofs.judge.Tie as tie
 
 -- from where the check's case is looked at back to the check, and to what 2 is
-abbrev checked : tie.After-slice-known12 → tie.After-check
+abbrev checked : tie.After-slice-known11 → tie.After-check
 checked c = c .before .before .before .before .before .before .before .before
 
 abbrev tested : tie.After-check → tie.After-lists-too-short
 tested c = c .before .before .before .before .before
 
 -- from the two ends back to the check's case
-abbrev accepted : tie.After-slice-known15 → tie.After-verdict
+abbrev accepted : tie.After-slice-known14 → tie.After-verdict
 accepted c = c .before .before .before .before .before .before .before .before .before .before .before .before .before .before .before
 
-abbrev refused : tie.After-slice-known16 → tie.After-verdict2
+abbrev refused : tie.After-slice-known15 → tie.After-verdict2
 refused c = c .before .before .before .before .before
 
 abbrev begun : tie.After-lists-too-short → tie.Start

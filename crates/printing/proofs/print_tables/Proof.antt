@@ -3,6 +3,10 @@ use borrow.Author.Needs.{needs}
 use Rattle.printing.proofs.print_tables.Statement.{statement}
 use Rattle.printing.proofs.print_tables.Tie as tie
 
+-- the start, from where the last two columns are handed out
+abbrev begun : tie.After-column9 → tie.Start
+begun c = c .before .before .before .before .before .before .before .before .before .before .before .before
+
 returns : tie.Need-returns
 returns c =
     let printed = c .before .before in
@@ -44,8 +48,8 @@ print-tables-spec =
     (λ c κs. search needs)
     (λ c κs. search needs)
     (λ c κs. search needs)
-    (λ c κs. search needs)
-    (λ c κs. let start = c .before .before .before .before .before .before .before .before .before .before .before .before .before in search needs)
+    (λ c κs. let start = begun c in search needs)
+    (λ c κs. let start = begun (c .before) in search needs)
     (λ c κs. search needs)
     (λ c. search needs)
     returns)

@@ -1,7 +1,8 @@
--- `read` reads the records in turn: before each turn those before it are passed, the head is that of the D, and the others are in their tables. Assumes nothing.
-use mathlib.Core.Path.{_≡_, sym, _∙_}
+-- `read` reads the records in turn: before each turn those before it are passed, the head is that of the D, the others are in their tables, and the LEIs of
+-- the corporations in their lists. Assumes nothing.
+use mathlib.Core.Path.{_≡_, refl, sym, _∙_}
 use mathlib.Core.Bool.{true}
-use Prim.Native.Nat.{ℕ, _-_}
+use Prim.Native.Nat.{ℕ, _-_, _<_}
 use native.Mathlib.Omega.{arith}
 use lib.ListN.{length}
 use borrow.Author.Needs.{needs}
@@ -9,19 +10,22 @@ use borrow.Author.Tests.{not-true, not-false}
 use Rattle.csv.specs.Reading.{fieldCount}
 use Rattle.columns.specs.Columns.{EntryRoom}
 use Rattle.layout.specs.Layout.{mayFollow}
-use Rattle.reader.proofs.Reading.{Reading, reading-none}
+use Rattle.reader.specs.File.{parsedIn}
+use Rattle.reader.proofs.Reading.{Reading, values-few, countBy, reading-none}
 use Rattle.reader.proofs.Turns.{Turn, GoodTurn, turn-refused, turn-number, turn-letter, turn-values, turn-late, turn-ahead, turn-full-holdings, turn-full-lines}
-use Rattle.reader.proofs.Turns.{turn-passing, headed-first, headed-same, tabled-same, entry-room, tabled-more}
+use Rattle.reader.proofs.Turns.{turn-passing, headed-first, headed-same, held-same, listed-same, listed-few, held-numbered, listed-more, numbered-values}
+use Rattle.reader.proofs.Turns.{held-few, lined-same, lined-more, tabled-same, entry-room, tabled-more}
 use Rattle.reader.proofs.FileRead.{contents-refused, contents-read, too-long, no-record}
 use Rattle.reader.proofs.read.Statement.{statement}
 use Rattle.reader.proofs.read.Tie as tie
 
 abbrev Inv-loop : tie.InvT-loop
-Inv-loop text rows book₀ lines₀ values₀ before₀ date₀ holdings₀ pairs₀ record₀ at₀ book lines values before date holdings pairs «record» at =
-    Reading text rows book₀ lines₀ book lines before (record { date = date }) holdings pairs «record» at
+Inv-loop text rows book₀ lines₀ high₀ low₀ values₀ before₀ date₀ holdings₀ pairs₀ corporations₀ record₀ at₀ book lines high low values before date holdings pairs corporations «record» at =
+    Reading text rows book₀ lines₀ high₀ low₀ book lines high low before (record { date = date }) holdings pairs corporations «record» at
 
 abbrev μ-loop : tie.MeasureT-loop
-μ-loop text rows book₀ lines₀ values₀ before₀ date₀ holdings₀ pairs₀ record₀ at₀ book lines values before date holdings pairs «record» at = length text - at
+μ-loop text rows book₀ lines₀ high₀ low₀ values₀ before₀ date₀ holdings₀ pairs₀ corporations₀ record₀ at₀ book lines high low values before date holdings pairs corporations «record» at =
+    length text - at
 
 -- a turn, from the record that was looked at
 module _ (c : tie.After-entry-at Inv-loop μ-loop) where
@@ -29,7 +33,7 @@ module _ (c : tie.After-entry-at Inv-loop μ-loop) where
   at = c .before .before .before
 
   abbrev start : tie.Start Inv-loop μ-loop
-  start = at .before .before .before .before .before .before
+  start = at .before .before .before .before .before .before .before .before
 
   turn : Turn (start .args .text .now) (at .loop .before) (at .loop .«record») (at .loop .at) (c .entry-at .last .1 .1 .0) (c .entry-at .result)
   turn = record { short = at .before .before .if1 .left; passing = at .loop .inv .passing; more = c .before .before .loop-test .taken; looked = c .entry-at .ensures }
@@ -78,41 +82,67 @@ loop-again c =
     record {
       passing = turn-passing (good m) (follows (c .before), λ z. absurd (omega (arith, here)), λ z. absurd (omega (arith, here)));
       headed = headed-first (good m) here (follows (c .before));
-      each-holding = tabled-same (good m) (r .each-holding) (λ z. omega (arith, here));
-      each-line = tabled-same (good m) (r .each-line) (λ z. omega (arith, here));
+      each-holding = tabled-same (r .each-holding) (held-same (good m) (λ z. omega (arith, here)));
+      each-line = tabled-same (r .each-line) (lined-same (good m) (λ z. omega (arith, here)));
+      each-lei = listed-same (good m) (r .each-lei) (λ z. omega (arith, here));
     }
+
+-- as many holdings as records of their letter
+counted : (m : tie.After-may-follow Inv-loop μ-loop) → at (looked m) .loop .holdings ≡ countBy (start (looked m) .args .text .now) (at (looked m) .loop .«record») 1
+counted m = at (looked m) .loop .inv .each-holding .counted ∙ held-few (good m)
 
 -- a holding
 returns-5 : tie.Need-returns-5 Inv-loop μ-loop
 returns-5 c =
     let m = c .before .before .before .before in
     contents-refused _ 3 0
-    (turn-full-holdings (good m) (follows (c .before .before .before)) (c .before .if5 .taken) (sym (at (looked m) .loop .inv .each-holding .counted) ∙ c .if6 .taken))
+    (turn-full-holdings (good m) (follows (c .before .before .before)) (c .before .if5 .taken) (sym (counted m) ∙ c .if6 .taken))
     (λ z. omega arith)
 
--- there is room for it
+-- its issuer is numbered: fewer are known than there may be holdings
 module _ (c : tie.Else6 Inv-loop μ-loop) where
   abbrev held : tie.After-may-follow Inv-loop μ-loop
   held = c .before .before .before .before
 
-  holding-room : EntryRoom (fieldCount - 1) (start (looked held) .args .rows) (at (looked held) .loop .holdings) (looked held .entry-at .last .1 .1 .0)
-      (at (looked held) .loop .book)
+  few-known : at (looked held) .loop .corporations < 256
+  few-known =
+      listed-few (good held) (at (looked held) .loop .inv .each-lei)
+      (omega (arith, counted held, at (looked held) .loop .inv .each-holding .few, c .if6 .left))
+
+-- there is room for it
+module _ (c : tie.After-number-issuer Inv-loop μ-loop) where
+  abbrev fits : tie.Else6 Inv-loop μ-loop
+  fits = c .before .before .before .before
+
+  abbrev turned : tie.After-may-follow Inv-loop μ-loop
+  turned = held fits
+
+  holding-room : EntryRoom (fieldCount - 1) (start (looked turned) .args .rows) (at (looked turned) .loop .holdings) (c .number-issuer .last .0)
+      (at (looked turned) .loop .book)
   holding-room =
-      entry-room (good held) (at (looked held) .loop .inv .each-holding) (c .before .if5 .taken) (c .if6 .left)
-      (start (looked held) .pre .whole-book) (start (looked held) .pre .enough) (omega arith) (omega arith)
+      let r = at (looked turned) .loop .inv in
+      entry-room (r .each-holding) (fits .if6 .left) (start (looked turned) .args .text .now) (at (looked turned) .loop .at)
+      (omega (arith, held-few (good turned), values-few 1 (at (looked turned) .loop .«record») (parsedIn (start (looked turned) .args .text .now)), r .passing .few))
+      (looked turned .before .before .loop-test .taken)
+      (start (looked turned) .pre .whole-book) (start (looked turned) .pre .enough)
+      (omega (arith, numbered-values (good turned) (r .each-lei) (c .number-issuer .ensures .0))) (omega arith)
 
 loop-again-2 : tie.Need-loop-again-2 Inv-loop μ-loop
 loop-again-2 c =
-    let few = c .before .before .before .before .before in
+    let put = c .before .before in
+    let numbered = put .before .before .before .before .before .before .before in
+    let few = fits numbered in
     let second = few .before in
     let m = held few in
     let r = at (looked m) .loop .inv in
     let here = second .if5 .taken in
+    let done = numbered .number-issuer .ensures .0 in
     record {
-      passing = turn-passing (good m) (follows (second .before .before), λ z full. few .if6 .left (r .each-holding .counted ∙ full), λ z. absurd (omega (arith, here)));
+      passing = turn-passing (good m) (follows (second .before .before), λ z full. few .if6 .left (counted m ∙ full), λ z. absurd (omega (arith, here)));
       headed = headed-same (good m) (second .before .if4 .left) (r .headed);
-      each-holding = tabled-more (good m) (r .each-holding) here (few .if6 .left) (holding-room few) (c .before .before .put-entry .ensures);
-      each-line = tabled-same (good m) (r .each-line) (λ z. omega (arith, here));
+      each-holding = tabled-more (r .each-holding) (few .if6 .left) (held-numbered (good m) (r .each-lei) done here) (holding-room numbered) (put .put-entry .ensures);
+      each-line = tabled-same (r .each-line) (lined-same (good m) (λ z. omega (arith, here)));
+      each-lei = listed-more (good m) (r .each-lei) done _ _ _ here refl (numbered .number-issuer .kept .1 .0) (numbered .number-issuer .kept .1 .1 .0);
     }
 
 -- a line
@@ -129,8 +159,11 @@ module _ (c : tie.Else7 Inv-loop μ-loop) where
 
   line-room : EntryRoom 3 (start (looked lined) .args .rows) (at (looked lined) .loop .pairs) (looked lined .entry-at .last .1 .1 .0) (at (looked lined) .loop .lines)
   line-room =
-      entry-room (good lined) (at (looked lined) .loop .inv .each-line) (third (c .before)) (c .if7 .left)
-      (start (looked lined) .pre .whole-lines) (start (looked lined) .pre .enough) (omega arith) (omega arith)
+      let r = at (looked lined) .loop .inv in
+      entry-room (r .each-line) (c .if7 .left) (start (looked lined) .args .text .now) (at (looked lined) .loop .at)
+      (omega (arith, values-few 2 (at (looked lined) .loop .«record») (parsedIn (start (looked lined) .args .text .now)), r .passing .few))
+      (looked lined .before .before .loop-test .taken)
+      (start (looked lined) .pre .whole-lines) (start (looked lined) .pre .enough) (omega (arith, turn-values (good lined))) (omega arith)
 
 loop-again-3 : tie.Need-loop-again-3 Inv-loop μ-loop
 loop-again-3 c =
@@ -141,8 +174,9 @@ loop-again-3 c =
     record {
       passing = turn-passing (good m) (follows (other .before .before), λ z. absurd (other .if5 .left z), λ z full. few .if7 .left (r .each-line .counted ∙ full));
       headed = headed-same (good m) (other .before .if4 .left) (r .headed);
-      each-holding = tabled-same (good m) (r .each-holding) (other .if5 .left);
-      each-line = tabled-more (good m) (r .each-line) (third other) (few .if7 .left) (line-room few) (c .before .before .put-entry2 .ensures);
+      each-holding = tabled-same (r .each-holding) (held-same (good m) (other .if5 .left));
+      each-line = tabled-more (r .each-line) (few .if7 .left) (lined-more (good m) (third other)) (line-room few) (c .before .before .put-entry2 .ensures);
+      each-lei = listed-same (good m) (r .each-lei) (other .if5 .left);
     }
 
 pub read-spec : {M : Type 1} → statement M
@@ -153,14 +187,18 @@ read-spec =
     μ-loop
     returns
     returns-2
-    (λ c. reading-none _ _ _ _)
+    (λ c. reading-none _ _ _ _ _ _)
     (λ c κs. search needs)
+    (λ c. search needs)
+    (λ c. search needs)
     (λ c. search needs)
     (λ c. search needs)
     (λ c. search needs)
     returns-3
     (λ c. search needs)
     (λ c κs. search needs)
+    (λ c. search needs)
+    (λ c. search needs)
     (λ c. search needs)
     (λ c. search needs)
     returns-4
@@ -170,13 +208,25 @@ read-spec =
     loop-again
     (λ c. search needs)
     (λ c. search needs)
+    (λ c. search needs)
+    (λ c. search needs)
     returns-5
-    (λ c. sym (turn-values (good (held (c .before)))))
-    (λ c κs. holding-room (c .before .before))
+    (λ c κs.
+    let few = c .before .before .before in
+    let lists = at (looked (held few)) .loop .inv .each-lei in
+    let pre = start (looked (held few)) .pre in
+    (omega (arith, few-known few, lists .long-high, pre .room-high), omega (arith, few-known few, lists .long-low, pre .room-low)))
+    (λ c.
+    let numbered = c .before .before .before .before .before in
+    sym (numbered-values (good (turned numbered)) (at (looked (turned numbered)) .loop .inv .each-lei) (numbered .number-issuer .ensures .0)))
+    (λ c. search needs)
+    (λ c κs. holding-room (c .before .before .before .before .before .before))
     (λ c. search needs)
     (λ c. search needs)
-    (λ c. let a = turn-ahead (good (held (c .before .before .before .before .before))) in omega arith)
+    (λ c. let a = turn-ahead (good (turned (c .before .before .before .before .before .before .before .before .before))) in omega arith)
     loop-again-2
+    (λ c. search needs)
+    (λ c. search needs)
     (λ c. search needs)
     (λ c. search needs)
     returns-6
@@ -186,6 +236,8 @@ read-spec =
     (λ c. search needs)
     (λ c. let a = turn-ahead (good (lined (c .before .before .before .before .before))) in omega arith)
     loop-again-3
+    (λ c. search needs)
+    (λ c. search needs)
     (λ c. search needs)
     (λ c. search needs)
     (λ c. contents-read (c .before .loop .inv) (c .loop-test .left) (c .before .before .before .if1 .left) (c .before .before .if2 .left)))

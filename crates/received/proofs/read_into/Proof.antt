@@ -11,7 +11,9 @@ use Rattle.received.proofs.read_into.Tie as tie
 -- from where the text was read back to what is lent
 module _ (c : tie.After-read) where
   abbrev start : tie.Start
-  start = c .before .before .before .before .before .before .before .before .before .before .before .before .before .before .before .before .before .before
+  start =
+      let known = c .before .before .before .before .before in
+      known .before .before .before .before .before .before .before .before .before .before .before .before .before .before .before .before .before .before
 
   abbrev text : List ℕ
   text = start .args .text .now
@@ -25,14 +27,14 @@ module _ (c : tie.After-read) where
   abbrev held : List (List ℕ)
   held =
       let a = start .args in
-      a .side .now ∷ a .kind .now ∷ a .issuer .now ∷ a .maturity .now ∷ a .value .now ∷ a .price .now ∷ a .currency .now ∷ []
+      a .side .now ∷ a .kind .now ∷ a .issuer .now ∷ a .maturity .now ∷ a .value .now ∷ a .price .now ∷ a .currency .now ∷ a .rating .now ∷ []
 
   abbrev taken : List (List ℕ)
   taken = start .args .long .now ∷ start .args .short .now ∷ start .args .amount .now ∷ []
 
 -- from where the lists were measured back to there
 abbrev file : tie.After-columns-too-short → tie.After-read
-file c = c .before .before .before .before .before .before .before .before
+file c = c .before .before .before .before .before .before .before .before .before .before .before .before
 
 same : (c : tie.After-columns-too-short) → c .columns-too-short .result ≡ short (text (file c)) (head (file c)) (held (file c)) (taken (file c)) (answer (file c))
 unfolding holdingSizes lineSizes
@@ -41,27 +43,27 @@ same c =
     measured (text f) (head f) (held f) (taken f) (answer f) (f .read .ensures) (c .before .before .contents2 .given .1) (c .columns-too-short .ensures)
 
 -- from the answer to a list too short back to the lists, and from that to a record back to the text
-abbrev too-short : tie.After-slice-known18 → tie.Then1
+abbrev too-short : tie.After-slice-known23 → tie.Then1
 too-short c = c .before .before .before .before
 
-abbrev refused : tie.After-slice-known17 → tie.After-contents
+abbrev refused : tie.After-slice-known22 → tie.After-contents
 refused c = c .before .before .before .before .before
 
-abbrev refused-file : tie.After-slice-known17 → tie.After-read
-refused-file c = refused c .before .before .before .before .before .before
+abbrev refused-file : tie.After-slice-known22 → tie.After-read
+refused-file c = refused c .before .before .before .before .before .before .before .before .before .before
 
 -- from the tables copied back to the date put, and to the lists that have room
-abbrev dated : tie.After-copy-book-arg8 → tie.After-put-word
-dated c = c .before .before .before .before .before .before .before .before .before .before
+abbrev dated : tie.After-copy-book-arg9 → tie.After-put-word
+dated c = c .before .before .before .before .before .before .before .before .before .before .before
 
 abbrev fitting : tie.After-put-word → tie.Else1
 fitting c = c .before .before
 
 abbrev booked : tie.After-copy-lines-arg4 → tie.After-copy-book
-booked c = c .before .before .before .before .before .before .before .before .before .before .before .before .before .before .before .before .before .before
+booked c = c .before .before .before .before .before .before .before .before .before .before .before .before .before .before .before .before .before .before .before .before
 
 -- from the answer to a text that was read back to the tables copied
-module _ (c : tie.After-slice-known30) where
+module _ (c : tie.After-slice-known36) where
   abbrev lined : tie.After-copy-lines
   lined = c .before .before .before .before .before .before .before .before .before .before
 
@@ -114,7 +116,7 @@ returns-3 c =
     let l = lined c .copy-lines .last .1 .1 .1 in
     all-read (text f) (head f) (held f) (taken f) (answer f) (f .read .ensures) (asked .before .before .contents2 .given .1)
     {head′ = date-put c .put-word .last .0}
-    {table′ = b .0 ∷ b .1 .0 ∷ b .1 .1 .0 ∷ b .1 .1 .1 .0 ∷ b .1 .1 .1 .1 .0 ∷ b .1 .1 .1 .1 .1 .0 ∷ b .1 .1 .1 .1 .1 .1 .0 ∷ []}
+    {table′ = b .0 ∷ b .1 .0 ∷ b .1 .1 .0 ∷ b .1 .1 .1 .0 ∷ b .1 .1 .1 .1 .0 ∷ b .1 .1 .1 .1 .1 .0 ∷ b .1 .1 .1 .1 .1 .1 .0 ∷ b .1 .1 .1 .1 .1 .1 .1 .0 ∷ []}
     {lined′ = l .0 ∷ l .1 .0 ∷ l .1 .1 .0 ∷ []}
     _ _ (same asked) (fits c .if1 .left) refl refl (date-put c .put-word .ensures) (book-copied c .copy-book .ensures) (lined c .copy-lines .ensures) (c .before .before .put-answer3 .ensures)
 
@@ -122,7 +124,9 @@ pub read-into-spec : {M : Type 1} → statement M
 read-into-spec =
     tie.close
     (tie.spec
-    (λ c κs. c .before .before .before .before .before .before .before .before .before .before .before .before .before .before .before .before .before .pre)
+    (λ c κs.
+    let known = c .before .before .before .before in
+    known .before .before .before .before .before .before .before .before .before .before .before .before .before .before .before .before .before .before .pre)
     (λ c. search needs)
     (λ c κs. tt)
     (λ c. search needs)
@@ -130,6 +134,8 @@ read-into-spec =
     (λ c κs. tt)
     (λ c. file (too-short c .before) .read .kept .1 .1 .0)
     (λ c. file (too-short c .before) .read .kept .1 .1 .1 .0)
+    (λ c. file (too-short c .before) .read .kept .1 .1 .1 .1 .0)
+    (λ c. file (too-short c .before) .read .kept .1 .1 .1 .1 .1 .0)
     (λ c. c .before .before .put-answer2 .kept .1 .1 .1 .0)
     returns
     put-word-requires
@@ -138,10 +144,14 @@ read-into-spec =
     (λ c κs. tt)
     (λ c. refused-file c .read .kept .1 .1 .0)
     (λ c. refused-file c .read .kept .1 .1 .1 .0)
+    (λ c. refused-file c .read .kept .1 .1 .1 .1 .0)
+    (λ c. refused-file c .read .kept .1 .1 .1 .1 .1 .0)
     (λ c. c .before .before .put-answer .kept .1 .1 .1 .0)
     returns-2
     (λ c. file (fits c .before) .read .kept .1 .1 .0)
     (λ c. file (fits c .before) .read .kept .1 .1 .1 .0)
+    (λ c. file (fits c .before) .read .kept .1 .1 .1 .1 .0)
+    (λ c. file (fits c .before) .read .kept .1 .1 .1 .1 .1 .0)
     (λ c. date-put c .put-word .kept .0)
     (λ c. book-copied c .copy-book .kept .1 .1 .1 .0)
     (λ c. book-copied c .copy-book .kept .1 .1 .1 .1 .0)
@@ -150,6 +160,7 @@ read-into-spec =
     (λ c. book-copied c .copy-book .kept .1 .1 .1 .1 .1 .1 .1 .0)
     (λ c. book-copied c .copy-book .kept .1 .1 .1 .1 .1 .1 .1 .1 .0)
     (λ c. book-copied c .copy-book .kept .1 .1 .1 .1 .1 .1 .1 .1 .1 .0)
+    (λ c. book-copied c .copy-book .kept .1 .1 .1 .1 .1 .1 .1 .1 .1 .1 .0)
     (λ c. lined c .copy-lines .kept .1 .1 .1 .0)
     (λ c. lined c .copy-lines .kept .1 .1 .1 .1 .0)
     (λ c. lined c .copy-lines .kept .1 .1 .1 .1 .1 .0)

@@ -2,10 +2,18 @@
 
 use super::{Files, List};
 use crate::Sheet;
-use crate::samples::{ANY, DOMESTIC, Random, SHAPES, best_sheet, book, split_lines};
+use crate::samples::{
+    ANY, CORPORATE, CORPORATIONS, DOMESTIC, GOVERNMENTS, Random, SHAPES, Shape, best_sheet, book,
+    split_lines,
+};
 use crate::texts::{dated, file, holding, joined, quoted, records, text_of};
 
 const SEED: u64 = 0x0C01;
+
+const MANY_CORPORATIONS: Shape = Shape {
+    issuers: &CORPORATIONS,
+    ..CORPORATE
+};
 
 const TIES: Files<3> = [
     (
@@ -57,9 +65,15 @@ pub(super) fn add(list: &mut List) {
             "",
         );
     }
-    let sheet = best_sheet(&book(&mut random, &ANY, 256));
-    let title = "best proposal of 256 holdings in any currency";
-    list.add(title, text_of(&sheet), "");
+    for (what, shape) in [
+        ("in any currency", GOVERNMENTS),
+        ("of any issuer and currency", ANY),
+        ("of many corporations", MANY_CORPORATIONS),
+    ] {
+        let sheet = best_sheet(&book(&mut random, &shape, 256));
+        let title = format!("best proposal of 256 holdings {what}");
+        list.add(title, text_of(&sheet), "");
+    }
     full(list, &mut random);
     next_to_best(list, &mut random);
     ties(list);
@@ -93,7 +107,7 @@ fn change(random: &mut Random, sheet: &mut Sheet) -> &'static str {
     let (names, first) = if sheet.long.is_empty() || random.below(2) == 0 {
         (&["maturity", "value", "price"][..], 3)
     } else {
-        (&["long", "short", "amount"][..], 7)
+        (&["long", "short", "amount"][..], 8)
     };
     let at = random.place(names.len());
     let column = sheet
@@ -101,7 +115,7 @@ fn change(random: &mut Random, sheet: &mut Sheet) -> &'static str {
         .into_array()
         .into_iter()
         .nth(first + at)
-        .expect("there are ten");
+        .expect("there are eleven");
     let entry = random.place(column.len());
     column[entry] = match random.below(3) {
         0 => column[entry] + 1,

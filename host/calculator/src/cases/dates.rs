@@ -179,16 +179,16 @@ fn orders(list: &mut List) {
         (
             "21 of a first record that is no date",
             0,
-            "H,,,,,,,",
+            "H,,,,,,,,",
             "X,21,0,0",
         ),
-        ("19 of another date", 3, "D,2025-01-01,,,,,,\"", "X,19,3,0"),
-        ("20 of another date", 3, "D,2025-01-01,,,,,", "X,20,3,0"),
-        ("21 of another date", 3, "D,2025-01-1,,,,,,", "X,21,3,0"),
+        ("19 of another date", 3, "D,2025-01-01,,,,,,,\"", "X,19,3,0"),
+        ("20 of another date", 3, "D,2025-01-01,,,,,,", "X,20,3,0"),
+        ("21 of another date", 3, "D,2025-01-1,,,,,,,", "X,21,3,0"),
         (
             "22 of another date that is none",
             3,
-            "D,2025-01-99,,,,,,",
+            "D,2025-01-99,,,,,,,",
             "X,22,3,0",
         ),
     ] {

@@ -40,10 +40,10 @@ const MORE: [(&str, &str); 5] = [
 /// What another record of the file of both paragraphs shows, where it stands, and what is printed.
 #[rustfmt::skip]
 const CHANGES: [(&str, usize, &str, &str); 4] = [
-    ("a foreign pair uncovered", 5, "H,S,C,US,2030-06-24,400000,5839,USD", "X,16,3,4"),
-    ("a price on what is never paired", 8, "H,L,C,GB,2030-06-24,200,1,CAD", "X,17,0,0"),
-    ("too much of the foreign short", 11, "P,3,4,400001,,,,", "X,15,2,0"),
-    ("one paragraph's long with the other's short", 11, "P,0,4,100000,,,,", "X,13,2,0"),
+    ("a foreign pair uncovered", 5, "H,S,C,US,2030-06-24,400000,5839,USD,", "X,16,3,4"),
+    ("a price on what is never paired", 8, "H,L,C,GB,2030-06-24,200,1,CAD,", "X,17,0,0"),
+    ("too much of the foreign short", 11, "P,3,4,400001,,,,,", "X,15,2,0"),
+    ("one paragraph's long with the other's short", 11, "P,0,4,100000,,,,,", "X,13,2,0"),
 ];
 
 pub(super) fn add(list: &mut List) {

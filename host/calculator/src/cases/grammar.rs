@@ -42,9 +42,9 @@ pub(super) fn add(list: &mut List) {
     alone(list);
     line_ends(list);
     let sound = records();
-    let date = quoted_at(&sound[0], &[1, 3, 7]);
-    let some = quoted_at(&sound[1], &[0, 2, 4, 6, 7]);
-    let empty = quoted_at(&sound[9], &[1, 4, 6, 7]);
+    let date = quoted_at(&sound[0], &[1, 3, 7, 8]);
+    let some = quoted_at(&sound[1], &[0, 2, 4, 6, 7, 8]);
+    let empty = quoted_at(&sound[9], &[1, 4, 6, 7, 8]);
     list.add(
         "some fields in quotes",
         with(&[(0, date), (1, some), (9, empty)]),
@@ -118,7 +118,7 @@ fn at_record_4() -> [(&'static str, String, u64); 20] {
         ("a quote that never closes", price("\"8760"), 19),
         ("a quote that closes in the next record", price("\"8760\r\n\""), 21),
         ("19 before 20 of a record", text("H,S,C\t"), 19),
-        ("19 at the end of nine fields", text("H,S,C,ON,1,1,0,,\x7F"), 19),
+        ("19 at the end of ten fields", text("H,S,C,ON,1,1,0,,,\x7F"), 19),
         ("19 before 21 of a record", text("h,S,C,ON,007,1,\""), 19),
         ("20 before 21 of a record", text("x,y"), 20),
         ("a field of two lines and nothing else", text("\"H\r\nS\""), 20),

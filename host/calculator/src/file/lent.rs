@@ -1,9 +1,10 @@
-//! The reader on the same lent bytes as the exported one.
+//! The reader and the LEIs of a file on the same lent bytes as the exported ones.
 
 use margin_host::{Columns, Refusal};
 
-use super::reader::read;
+use super::reader::{read, read_with_leis};
 use crate::Sheet;
+use crate::lei::LEI_LENGTH;
 
 /// Returns the refusal number, 0 for accepted, and leaves in the lists what the reader must leave there.
 #[must_use]
@@ -25,11 +26,37 @@ pub fn margin_read(
         }
         Err(refusal) => (refusal.number(), refusal.place(), 0),
     };
+    write_answer(answer, first, second);
+    number
+}
+
+/// Returns the refusal number, 0 for a file that is read, and leaves in the lists what must be left there: the
+/// LEIs of its corporations one after the other, and how many they are.
+#[must_use]
+pub fn margin_leis(text: &[u8], leis: &mut [u8], answer: &mut [u8]) -> u64 {
+    let fitting = read_with_leis(text).and_then(|(_, found)| {
+        let fits = leis.len() >= LEI_LENGTH * found.len() && answer.len() >= 16;
+        fits.then_some(found).ok_or(Refusal::ListTooShort)
+    });
+    let (number, first) = match &fitting {
+        Ok(found) => {
+            for (slot, lei) in leis.chunks_mut(LEI_LENGTH).zip(found) {
+                slot.copy_from_slice(lei);
+            }
+            (0, found.len() as u64)
+        }
+        Err(refusal) => (refusal.number(), refusal.place()),
+    };
+    write_answer(answer, first, 0);
+    number
+}
+
+/// An answer that is too short for both numbers is kept.
+fn write_answer(answer: &mut [u8], first: u64, second: u64) {
     if let ([low, high, ..], _) = answer.as_chunks_mut::<8>() {
         *low = first.to_le_bytes();
         *high = second.to_le_bytes();
     }
-    number
 }
 
 /// Whether each column has room for what it must hold.

@@ -66,6 +66,7 @@ mod tests {
     #[test]
     fn refused_files() {
         assert_eq!(print_with("6570", "6569"), b"X,16,0,2\r\n");
+        assert_eq!(print_with("6570,CAD,", "6570,CAD,Y"), b"X,25,3,0\r\n");
         assert_eq!(print_with("P,0,2", "P,0,\"2"), b"X,19,5,0\r\n");
         assert_eq!(print_with("2025-01-01", "2025-02-29"), b"X,24,0,0\r\n");
         assert_eq!(print_with("2025-01-01", "2030-06-24"), b"X,7,0,0\r\n");

@@ -1,15 +1,18 @@
 //! Records to columns, with the refusals of the file.
 
+use std::collections::HashMap;
+
 use margin_host::{Line, Refusal};
 
 use super::records::{IllFormed, Records};
+use crate::lei::{Lei, in_form, is_good};
 use crate::plain::{MOST_HOLDINGS, MOST_LINES};
-use crate::{Row, Sheet};
+use crate::{FIRST_CORPORATION, NOT_RATED, Row, Sheet};
 
 /// A longer file is refused.
 pub const MOST_BYTES: usize = 65_536;
 /// The fields of every record.
-pub const FIELDS: usize = 8;
+pub const FIELDS: usize = 9;
 /// Long and short, in the order of their numbers.
 pub const SIDES: [&str; 2] = ["L", "S"];
 /// Bond, stripped coupon and residual, in the order of their numbers.
@@ -20,6 +23,8 @@ pub const ISSUERS: [&str; 13] = [
 ];
 /// The currencies by their ISO 4217 codes, in the order of their numbers.
 pub const CURRENCIES: [&str; 3] = ["CAD", "USD", "GBP"];
+/// Single A or higher, lower, and none, in the order of their numbers.
+pub const RATINGS: [&str; 3] = ["Y", "N", ""];
 /// The digits that a value or an amount may have, and those of all other numerals.
 const DIGITS_OF_CENTS: usize = 12;
 const DIGITS: usize = 6;
@@ -28,18 +33,53 @@ const DIGITS: usize = 6;
 enum Contents {
     /// The valuation date.
     Date(u64),
-    /// A holding and its price.
-    Holding(Row, u64),
+    /// A holding and its price; of a corporation its LEI, which has no number yet.
+    Holding(Row, u64, Option<Lei>),
     Line(Line),
+}
+
+impl Contents {
+    /// Whether an LEI has the right check digits and whether a rating stands on a corporation and on no
+    /// government.
+    fn is_sound(&self) -> bool {
+        match self {
+            Contents::Holding(row, _, Some(lei)) => is_good(lei) && row.rating != NOT_RATED,
+            Contents::Holding(row, _, None) => row.rating == NOT_RATED,
+            Contents::Date(_) | Contents::Line(_) => true,
+        }
+    }
+}
+
+/// The corporations of a file in the order of their numbers.
+#[derive(Default)]
+struct Corporations {
+    leis: Vec<Lei>,
+    numbers: HashMap<Lei, u64>,
+}
+
+impl Corporations {
+    /// The number of a corporation, the next one if it is new.
+    fn number(&mut self, lei: Lei) -> u64 {
+        let next = FIRST_CORPORATION + self.leis.len() as u64;
+        *self.numbers.entry(lei).or_insert_with(|| {
+            self.leis.push(lei);
+            next
+        })
+    }
 }
 
 /// Reads a file.
 ///
 /// # Errors
 ///
-/// The first refusal in the reader's order: 18; 22 for an empty file; each record in turn 19 to 22, then 3 or
-/// 9.
+/// The first refusal in the reader's order: 18; 22 for an empty file; each record in turn 19, 20, 21, 25, 22, then
+/// 3 or 9.
 pub fn read(text: &[u8]) -> Result<Sheet, Refusal> {
+    read_with_leis(text).map(|(sheet, _)| sheet)
+}
+
+/// Reads a file, and gives the LEIs of its corporations in the order of their numbers.
+pub(super) fn read_with_leis(text: &[u8]) -> Result<(Sheet, Vec<Lei>), Refusal> {
     if text.len() > MOST_BYTES {
         return Err(Refusal::FileTooLong);
     }
@@ -47,6 +87,7 @@ pub fn read(text: &[u8]) -> Result<Sheet, Refusal> {
         return Err(Refusal::RecordOutOfOrder { record: 0 });
     }
     let mut sheet = Sheet::empty(0);
+    let mut corporations = Corporations::default();
     let mut records = Records::of(text);
     let mut record = 0;
     while let Some(found) = records.next() {
@@ -55,6 +96,9 @@ pub fn read(text: &[u8]) -> Result<Sheet, Refusal> {
             .fields()
             .ok_or(Refusal::WrongNumberOfFields { record })?;
         let contents = contents(fields).ok_or(Refusal::FieldNotOfItsSort { record })?;
+        if !contents.is_sound() {
+            return Err(Refusal::LeiOrRatingInvalid { record });
+        }
         let in_order = match contents {
             Contents::Date(_) => record == 0,
             Contents::Holding(..) => record > 0 && sheet.long.is_empty(),
@@ -71,29 +115,49 @@ pub fn read(text: &[u8]) -> Result<Sheet, Refusal> {
                 return Err(Refusal::TooManyLines);
             }
             Contents::Date(date) => sheet.date = date,
-            Contents::Holding(holding, price) => sheet.add_holding(holding, price),
+            Contents::Holding(mut holding, price, lei) => {
+                if let Some(lei) = lei {
+                    holding.issuer = corporations.number(lei);
+                }
+                sheet.add_holding(holding, price);
+            }
             Contents::Line(line) => sheet.add_line(line),
         }
         record += 1;
     }
-    Ok(sheet)
+    Ok((sheet, corporations.leis))
 }
 
 fn contents(fields: [&[u8]; FIELDS]) -> Option<Contents> {
     match fields {
-        [b"D", day, b"", b"", b"", b"", b"", b""] => Some(Contents::Date(date(day)?)),
-        [b"H", side, kind, issuer, maturity, value, price, currency] => {
+        [b"D", day, b"", b"", b"", b"", b"", b"", b""] => Some(Contents::Date(date(day)?)),
+        [
+            b"H",
+            side,
+            kind,
+            issuer,
+            maturity,
+            value,
+            price,
+            currency,
+            rating,
+        ] => {
+            let lei = in_form(issuer);
             let holding = Row {
                 side: place_among(&SIDES, side)?,
                 kind: place_among(&KINDS, kind)?,
-                issuer: place_among(&ISSUERS, issuer)?,
+                issuer: match lei {
+                    Some(_) => FIRST_CORPORATION,
+                    None => place_among(&ISSUERS, issuer)?,
+                },
                 maturity: date(maturity)?,
                 value: numeral(value, DIGITS_OF_CENTS)?,
                 currency: place_among(&CURRENCIES, currency)?,
+                rating: place_among(&RATINGS, rating)?,
             };
-            Some(Contents::Holding(holding, numeral(price, DIGITS)?))
+            Some(Contents::Holding(holding, numeral(price, DIGITS)?, lei))
         }
-        [b"P", long, short, amount, b"", b"", b"", b""] => Some(Contents::Line(Line {
+        [b"P", long, short, amount, b"", b"", b"", b"", b""] => Some(Contents::Line(Line {
             long: numeral(long, DIGITS)?,
             short: numeral(short, DIGITS)?,
             amount: numeral(amount, DIGITS_OF_CENTS)?,

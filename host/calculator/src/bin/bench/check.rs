@@ -3,9 +3,10 @@
 use std::hint::black_box;
 
 use margin_calculator::samples::{
-    ANY, DOMESTIC, FOREIGN, PERIODS, Random, Shape, best_sheet, holdings, split_lines,
+    ANY, CORPORATE, DOMESTIC, FOREIGN, GOVERNMENTS, PERIODS, Random, Shape, best_sheet, holdings,
+    split_lines,
 };
-use margin_calculator::{Row, Sheet, VALUED, margin_check};
+use margin_calculator::{FIRST_CORPORATION, Row, Sheet, VALUED, margin_check};
 use margin_host::{Columns, raw};
 
 use crate::SEED;
@@ -35,12 +36,17 @@ pub fn run() {
     println!(
         "First period: every long with every short is allowed. Both paragraphs: half in USD or GBP,"
     );
-    println!("each long there with a short. Any currency: also what no paragraph pairs.");
+    println!(
+        "each long there with a short. All paragraphs: half of the rest of corporations. Few and many"
+    );
+    println!(
+        "corporations: 4, and a fourth of the holdings, in CAD. Any currency, any issuer: also what no paragraph pairs."
+    );
     println!("Valued on 2025-01-01. Outputs are not cleared before a call.");
     println!("Median of {BATCHES} alternating batches; calls a second, and their ratio.");
     println!();
     println!(
-        "{:>8}  {:<15} {:>5}  {:>6}  {:>12}  {:>12}  {:>12}",
+        "{:>8}  {:<17} {:>5}  {:>6}  {:>12}  {:>12}  {:>12}",
         "holdings", "book", "lines", "number", "check", "plain", "check/plain"
     );
     for size in [1, 16, 64, 256] {
@@ -48,9 +54,15 @@ pub fn run() {
         print_line("mixed periods", &sheet_of(&mixed_periods(size)), 0);
         if size > 1 {
             print_line("both paragraphs", &sheet_of(&both_paragraphs(size)), 0);
+            print_line("all paragraphs", &sheet_of(&all_paragraphs(size)), 0);
+        }
+        if size > 16 {
+            print_line("few corporations", &sheet_of(&book_of(size, &CORPORATE)), 0);
+            print_line("many corporations", &sheet_of(&many_corporations(size)), 0);
         }
     }
-    print_line("any currency", &sheet_of(&book_of(256, &ANY)), 0);
+    print_line("any currency", &sheet_of(&book_of(256, &GOVERNMENTS)), 0);
+    print_line("any issuer", &sheet_of(&book_of(256, &ANY)), 0);
     print_line("uncovered late", &uncovered_late(), 16);
     print_line("nothing paired", &nothing_paired(), 0);
 }
@@ -61,7 +73,7 @@ fn print_line(book: &str, sheet: &Sheet, number: u64) {
     let (size, lines) = (sheet.side.len(), sheet.long.len());
     let ratio = ours / plain;
     println!(
-        "{size:>8}  {book:<15} {lines:>5}  {number:>6}  {ours:>12.0}  {plain:>12.0}  {ratio:>12.2}"
+        "{size:>8}  {book:<17} {lines:>5}  {number:>6}  {ours:>12.0}  {plain:>12.0}  {ratio:>12.2}"
     );
 }
 
@@ -96,9 +108,36 @@ fn both_paragraphs(size: usize) -> Vec<Row> {
     book
 }
 
+/// The same, but of every eight holdings a long and a short in CAD are a bond and a strip of one corporation.
+fn all_paragraphs(size: usize) -> Vec<Row> {
+    let mut random = Random::new(SEED);
+    let mut book = both_paragraphs(size);
+    for eight in book.as_chunks_mut::<8>().0 {
+        let [long, short, ..] = eight;
+        long.issuer = random.pick(CORPORATE.issuers);
+        long.rating = random.pick(&[0, 1]);
+        (short.issuer, short.rating) = (long.issuer, 0);
+        short.maturity = long.maturity;
+        short.kind = 0;
+    }
+    book
+}
+
+/// In turn a long strip and a short bond of a corporation in CAD, in all periods: of each corporation two.
+fn many_corporations(size: usize) -> Vec<Row> {
+    let mut book = book_of(size, &CORPORATE);
+    for (number, two) in book.as_chunks_mut().0.iter_mut().enumerate() {
+        let [long, short] = two;
+        long.issuer = FIRST_CORPORATION + (number % (size / 4)) as u64;
+        (short.issuer, short.kind, short.rating) = (long.issuer, 0, 0);
+        short.maturity = long.maturity;
+    }
+    book
+}
+
 /// Longs and shorts of a shape in turn. The longs are strips, so that in one period and in CAD each of them
-/// may be paired with every short.
-fn book_of(size: usize, shape: &Shape) -> Vec<Row> {
+/// may be paired with every short of a government.
+pub fn book_of(size: usize, shape: &Shape) -> Vec<Row> {
     let mut random = Random::new(SEED);
     let long = Shape {
         sides: &[0],

@@ -2,14 +2,22 @@
 
 use std::hint::black_box;
 
-use margin_calculator::texts::{equal_lines, joined, last_lines, quoted, records};
-use margin_calculator::{MOST_BYTES, margin_read};
+use margin_calculator::samples::CORPORATE;
+use margin_calculator::texts::{
+    dated, equal_lines, issuer_text, joined, last_lines, quoted, rated, records,
+};
+use margin_calculator::{MOST_BYTES, margin_leis, margin_read};
 use margin_host::{Columns, raw};
 
-use crate::check::{mixed_periods, sheet_of};
+use crate::check::{book_of, mixed_periods, sheet_of};
 use crate::timing::{BATCHES, rates};
 
 type Call = fn(&[u8], &mut [u8], &mut Columns<&mut [u8]>, &mut [u8]) -> u64;
+
+type LeisCall = fn(&[u8], &mut [u8], &mut [u8]) -> u64;
+
+/// Bytes for the LEIs of every file.
+const ROOM_OF_LEIS: usize = 20 * 256;
 
 /// What a call writes: the head, the columns and the answer.
 type Written = ([u8; 8], Columns<Vec<u8>>, [u8; 16]);
@@ -22,8 +30,24 @@ pub fn full_file() -> Vec<String> {
     records(&sheet_of(&mixed_periods(256)))
 }
 
+/// A valuation date, 256 holdings of four corporations and 512 lines that the check accepts.
+fn few_corporations() -> Vec<u8> {
+    joined(&records(&sheet_of(&book_of(256, &CORPORATE))))
+}
+
+/// A valuation date and 256 holdings, each of another corporation.
+fn many_corporations() -> Vec<u8> {
+    let record = |number| {
+        rated(
+            "Y",
+            &format!("L,B,{},2030-06-24,1000,0", issuer_text(number)),
+        )
+    };
+    dated(&(100..356).map(record).collect::<Vec<String>>())
+}
+
 /// The texts that are read, with their names.
-fn texts() -> [(&'static str, Vec<u8>); 7] {
+fn texts() -> [(&'static str, Vec<u8>); 9] {
     let full = full_file();
     let in_quotes: Vec<String> = full.iter().map(|record| quoted(record)).collect();
     let mut field = vec![b'x'; MOST_BYTES];
@@ -31,6 +55,8 @@ fn texts() -> [(&'static str, Vec<u8>); 7] {
     [
         ("full file", joined(&full)),
         ("full file in quotes", joined(&in_quotes)),
+        ("four corporations", few_corporations()),
+        ("256 corporations", many_corporations()),
         ("commas", vec![b','; MOST_BYTES]),
         ("one field in quotes", field),
         ("one holding", joined(&full[..2])),
@@ -43,6 +69,8 @@ fn texts() -> [(&'static str, Vec<u8>); 7] {
 pub fn run() {
     run_beside_plain();
     println!();
+    run_leis();
+    println!();
     run_by_length();
 }
 
@@ -50,7 +78,7 @@ fn run_beside_plain() {
     println!(
         "Files of 256 holdings and 512 lines, texts of the greatest length, which are refused, and small files."
     );
-    println!("The longest file that can be read at all has 41,252 bytes.");
+    println!("The longest file that can be read at all has 48,423 bytes.");
     println!(
         "Median of {BATCHES} alternating batches; calls and megabytes (MB) a second, and their ratio."
     );
@@ -69,6 +97,41 @@ fn run_beside_plain() {
              {plain_rate:>9.1}  {ratio:>10.2}"
         );
     }
+}
+
+/// Calls a second for the LEIs of a file.
+fn run_leis() {
+    println!("The LEIs of the corporations of a file.");
+    println!("Median of {BATCHES} alternating batches; calls a second, and their ratio.");
+    println!();
+    println!(
+        "{:<20} {:>6}  {:>6}  {:>11}  {:>11}  {:>10}",
+        "text", "bytes", "LEIs", "leis", "plain", "leis/plain"
+    );
+    for (name, text) in [
+        ("full file", joined(&full_file())),
+        ("four corporations", few_corporations()),
+        ("256 corporations", many_corporations()),
+    ] {
+        let (count, [ours, plain]) = measure_leis(&text);
+        let (bytes, ratio) = (text.len(), ours / plain);
+        println!("{name:<20} {bytes:>6}  {count:>6}  {ours:>11.0}  {plain:>11.0}  {ratio:>10.2}");
+    }
+}
+
+/// How many LEIs a file has that is read, and calls a second of each.
+fn measure_leis(text: &[u8]) -> (u64, [f64; 2]) {
+    let calls: [LeisCall; 2] = [raw::margin_leis, margin_leis];
+    let [mut ours, mut plain] = calls.map(|_| (vec![1; ROOM_OF_LEIS], [1; 16]));
+    let read = |call: LeisCall, lists: &mut (Vec<u8>, [u8; 16])| {
+        let (leis, answer) = black_box(lists);
+        assert_eq!(call(black_box(text), leis, answer), 0, "the file is read");
+    };
+    let rates = rates([&mut || read(calls[0], &mut ours), &mut || {
+        read(calls[1], &mut plain)
+    }]);
+    assert!(ours == plain, "both leave the same bytes");
+    (u64::from_le_bytes(ours.1.as_chunks().0[0]), rates)
 }
 
 fn run_by_length() {
