@@ -241,8 +241,8 @@ withoutParagraph3 =
 abbrev two-strips : ℕ → List Row
 two-strips value = rated Y (row L B K1 20380910 1000) ∷ rated N (row S C K1 20380910 1000) ∷ rated N (row S R K1 20461127 value) ∷ []
 
-unfoldable pub corporateBooks : List Case
-corporateBooks =
+unfoldable pub hedgedBooks : List Case
+hedgedBooks =
     proposal "the bond with the strip from 20 years" (two-strips 1000) (29200 ∷ 0 ∷ 0 ∷ []) (line 0 2 1000 ∷ []) (0 ∷ 51100000 ∷ 350 ∷ 0 ∷ 1000 ∷ 0 ∷ 1 ∷ 0 ∷ 2 ∷ [])
     ∷ proposal "the bond with the strip below 20 years is not the least" (two-strips 1000) (29200 ∷ 0 ∷ 0 ∷ []) (line 0 1 1000 ∷ []) (17 ∷ 0 ∷ 0 ∷ [])
     ∷ proposal "the bond with both" (two-strips 400) (14600 ∷ 0 ∷ 14600 ∷ []) (line 0 1 600 ∷ line 0 2 400 ∷ []) (0 ∷ 33580000 ∷ 230 ∷ 0 ∷ 400 ∷ 0 ∷ 1 ∷ 0 ∷ 2 ∷ [])
@@ -289,8 +289,8 @@ leiTexts =
     ∷ refuses "small letters" Issuer ("5493001KJTIIGC8Y1r12" ∷ "5493001kjtiigc8y1r12" ∷ "a493001KJTIIGC8Y1R12" ∷ "z493001KJTIIGC8Y1R12" ∷ []) (replicate 4 21)
     ∷ refuses "a letter in the check digits" Issuer ("5493001KJTIIGC8Y1RA2" ∷ "5493001KJTIIGC8Y1R1A" ∷ "5493001KJTIIGC8Y1RZZ" ∷ []) (replicate 3 21)
     ∷ refuses "another character" Issuer
-    ("5493001KJT-IGC8Y1R12" ∷ "5493 01KJTIIGC8Y1R12" ∷ "/493001KJTIIGC8Y1R12" ∷ ":493001KJTIIGC8Y1R12" ∷ "@493001KJTIIGC8Y1R12" ∷ "[493001KJTIIGC8Y1R12" ∷ "5493001KJTIIGC8Y1R1/" ∷ "5493001KJTIIGC8Y1R:2" ∷ [])
-    (replicate 8 21)
+    ("5493001KJT-IGC8Y1R12" ∷ "5493 01KJTIIGC8Y1R12" ∷ "/493001KJTIIGC8Y1R12" ∷ ":493001KJTIIGC8Y1R12"
+    ∷ "@493001KJTIIGC8Y1R12" ∷ "[493001KJTIIGC8Y1R12" ∷ "5493001KJTIIGC8Y1R1/" ∷ "5493001KJTIIGC8Y1R:2" ∷ []) (replicate 8 21)
     ∷ refuses "numbers of corporations, and no text" Issuer ("100" ∷ "355" ∷ "" ∷ "XX" ∷ []) (replicate 4 21)
     ∷ code "the ratings" Rating ("Y" ∷ "N" ∷ "" ∷ []) (0 ∷ 1 ∷ 2 ∷ [])
     ∷ refuses "no ratings" Rating ("y" ∷ "n" ∷ "A" ∷ "0" ∷ "1" ∷ "2" ∷ " " ∷ "YN" ∷ "Y " ∷ "YES" ∷ "NO" ∷ []) (replicate 11 21)

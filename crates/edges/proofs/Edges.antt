@@ -54,28 +54,35 @@ use Rattle.edges.proofs.Dated.{actualDays, anniversaries, twentyYears, 
 use Rattle.edges.proofs.Dated.{headList, headKept}
 use Rattle.edges.proofs.Corporate.{groupFive, hedges, longerHedges, capped, belowCap, hedgeEnds, ratedLower, sameKinds, twoCorporations, corporationAndCanada}
 use Rattle.edges.proofs.Corporate.{corporationAndProvince, corporationAbroad, corporationInUsd, corporationInGbp, corporatePeriods, ratingFaults, ratingPlaces}
-use Rattle.edges.proofs.Corporate.{threeParagraphs, withoutParagraph3, corporateBooks, corporateUnpaired, leis, leiTexts, recordValues, misratedRecords}
+use Rattle.edges.proofs.Corporate.{threeParagraphs, withoutParagraph3, hedgedBooks, corporateUnpaired, leis, leiTexts, recordValues, misratedRecords}
 use Rattle.edges.proofs.Corporate.{firstAppearance, mostCorporations, numberedFile, alikeInHalf, corporateColumns, smallCorporateFile, twoIssuersFile}
 use Rattle.edges.proofs.Corporate.{ratedLowerFile, corporateFile, ninthField, beforeOrder, nineFields, namedLeis, namedLonger, namedShort, namedOthers}
 
 -- the table: document 01's cases, the starred first, then those of document 02 a), of b) and of d). Most groups are as small as the prover computes when it names
 -- a case that fails; of the others it names the group
+abbrev pub corporateTexts : List (List Case)
+corporateTexts =
+    smallCorporateFile ∷ twoIssuersFile ∷ ratedLowerFile ∷ corporateFile ∷ ninthField ∷ beforeOrder ∷ nineFields ∷ namedLeis ∷ namedLonger
+    ∷ namedShort ∷ namedOthers ∷ []
+
 abbrev pub identifiers : List (List Case)
 identifiers =
     leis ∷ leiTexts ∷ recordValues ∷ misratedRecords ∷ firstAppearance ∷ mostCorporations ∷ numberedFile ∷ alikeInHalf ∷ corporateColumns
-    ∷ smallCorporateFile ∷ twoIssuersFile ∷ ratedLowerFile ∷ corporateFile ∷ ninthField ∷ beforeOrder ∷ nineFields ∷ namedLeis ∷ namedLonger
-    ∷ namedShort ∷ namedOthers ∷ []
+    ∷ corporateTexts
 
-abbrev pub corporations : List (List Case)
-corporations =
+abbrev pub corporateBooks : List (List Case)
+corporateBooks =
+    ratingFaults ∷ ratingPlaces ∷ threeParagraphs ∷ withoutParagraph3 ∷ hedgedBooks ∷ corporateUnpaired ∷ identifiers
+
+abbrev pub corporatePairs : List (List Case)
+corporatePairs =
     groupFive ∷ hedges ∷ longerHedges ∷ capped ∷ belowCap ∷ hedgeEnds ∷ ratedLower ∷ sameKinds ∷ twoCorporations ∷ corporationAndCanada
-    ∷ corporationAndProvince ∷ corporationAbroad ∷ corporationInUsd ∷ corporationInGbp ∷ corporatePeriods ∷ ratingFaults ∷ ratingPlaces
-    ∷ threeParagraphs ∷ withoutParagraph3 ∷ corporateBooks ∷ corporateUnpaired ∷ identifiers
+    ∷ corporationAndProvince ∷ corporationAbroad ∷ corporationInUsd ∷ corporationInGbp ∷ corporatePeriods ∷ corporateBooks
 
 abbrev pub dates : List (List Case)
 dates =
     actualDays ∷ anniversaries ∷ twentyYears ∷ periodEnds ∷ otherEnds ∷ maturities ∷ valuations ∷ dateTexts ∷ valuationRecord ∷ datedFiles
-    ∷ headAnswers ∷ headList ∷ headKept ∷ corporations
+    ∷ headAnswers ∷ headList ∷ headKept ∷ corporatePairs
 
 abbrev pub currencies : List (List Case)
 currencies =
@@ -113,12 +120,14 @@ unfolding
     lei.valueOf lei.digitsOf lei.number lei.remainder halfOf leiOf judgedOf characterOf characters leiText sameLei firstPlace enter misrated issuerNumber knownAfter
     numberedFrom leisFrom holdingsOf leisOf answerTo namedTexts leisTooShort namingAnswer naming
     groupFive hedges longerHedges capped belowCap hedgeEnds ratedLower sameKinds twoCorporations corporationAndCanada corporationAndProvince corporationAbroad
-    corporationInUsd corporationInGbp corporatePeriods ratingFaults ratingPlaces threeParagraphs withoutParagraph3 corporateBooks corporateUnpaired leis
-    leiTexts recordValues misratedRecords firstAppearance mostCorporations numberedFile alikeInHalf corporateColumns smallCorporateFile twoIssuersFile
-    ratedLowerFile corporateFile ninthField beforeOrder nineFields namedLeis namedLonger namedShort namedOthers
+    corporationInUsd corporationInGbp corporatePeriods ratingFaults ratingPlaces threeParagraphs withoutParagraph3 hedgedBooks corporateUnpaired leis leiTexts
+    recordValues misratedRecords firstAppearance mostCorporations numberedFile alikeInHalf corporateColumns smallCorporateFile twoIssuersFile ratedLowerFile
+    corporateFile ninthField beforeOrder nineFields namedLeis namedLonger namedShort namedOthers
 none-fails =
-    let d : NoneFails identifiers = (refl, (refl, (refl, (refl, (refl, (refl, (refl, (refl, (refl, (refl, (refl, (refl, (refl, (refl, (refl, (refl, (refl, (refl, (refl, (refl, tt)))))))))))))))))))) in
-    let c : NoneFails corporations = (refl, (refl, (refl, (refl, (refl, (refl, (refl, (refl, (refl, (refl, (refl, (refl, (refl, (refl, (refl, (refl, (refl, (refl, (refl, (refl, (refl, d))))))))))))))))))))) in
+    let f : NoneFails corporateTexts = (refl, (refl, (refl, (refl, (refl, (refl, (refl, (refl, (refl, (refl, (refl, tt))))))))))) in
+    let e : NoneFails identifiers = (refl, (refl, (refl, (refl, (refl, (refl, (refl, (refl, (refl, f))))))))) in
+    let d : NoneFails corporateBooks = (refl, (refl, (refl, (refl, (refl, (refl, e)))))) in
+    let c : NoneFails corporatePairs = (refl, (refl, (refl, (refl, (refl, (refl, (refl, (refl, (refl, (refl, (refl, (refl, (refl, (refl, (refl, d))))))))))))))) in
     let b : NoneFails dates = (refl, (refl, (refl, (refl, (refl, (refl, (refl, (refl, (refl, (refl, (refl, (refl, (refl, c))))))))))))) in
     let a : NoneFails currencies = (refl, (refl, (refl, (refl, (refl, (refl, (refl, (refl, (refl, (refl, (refl, (refl, b)))))))))))) in
     (refl, (refl, (refl, (refl, (refl, (refl, (refl, (refl, (refl, (refl, (refl, (refl, (refl, (refl, (refl, (refl, (refl, (refl, (refl, (refl, (refl, (refl, (refl, a)))))))))))))))))))))))
