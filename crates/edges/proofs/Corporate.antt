@@ -373,7 +373,11 @@ alikeInHalf =
     ++ H-rated "N" "L,C,5493001KMKIIGC8Y1R12,2025-01-02,1,0")
     (100 ∷ 0 ∷ 101 ∷ 0 ∷ 102 ∷ 1 ∷ [])
     ("5493001KJTIIGC8Y1R12" ∷ "5493001KJTIIGC8Y1S09" ∷ "5493001KMKIIGC8Y1R12" ∷ [])
-    ∷ issued "no corporation" (D ++ H "L,B,CA,2025-01-02,1,0") (0 ∷ 2 ∷ []) []
+    ∷ []
+
+unfoldable pub noCorporation : List Case
+noCorporation =
+    issued "no corporation" (D ++ H "L,B,CA,2025-01-02,1,0") (0 ∷ 2 ∷ []) []
     ∷ []
 
 -- what the exported reader leaves of a corporation in the columns

@@ -54,18 +54,22 @@ actualDays =
     ∷ []
 
 -- a year to its anniversary, and the day after
-unfoldable pub anniversaries : List Case
-anniversaries =
+unfoldable pub wholeYears : List Case
+wholeYears =
     rates-on 20240115 "a year of 366 days: 1,464" (each 20250115 ++ each 20250116) (leap ++ second)
     ∷ rates-on 20250115 "a year of 365 days: 1,460" (each 20260115 ++ each 20260116) (common ++ second)
-    -- 29 February falls on 28 February where there is none
-    ∷ rates-on 20240229 "from 29 February, 365 days and 366" (each 20250228 ++ each 20250301) (common ++ second)
+    ∷ rates-on 20240129 "from 29 January, 366 days and 367" (bonds (20250129 ∷ 20250130 ∷ [])) (1464 ∷ 1460 ∷ [])
+    ∷ rates-on 20240210 "from 10 February, 366 days and 367" (bonds (20250210 ∷ 20250211 ∷ [])) (1464 ∷ 1460 ∷ [])
+    ∷ []
+
+-- 29 February falls on 28 February where there is none
+unfoldable pub anniversaries : List Case
+anniversaries =
+    rates-on 20240229 "from 29 February, 365 days and 366" (each 20250228 ++ each 20250301) (common ++ second)
     ∷ rates-on 20240228 "from 28 February, 366 days and 367" (each 20250228 ++ each 20250301) (leap ++ second)
     ∷ rates-on 20240301 "from 1 March, 365 days and 366" (each 20250301 ++ each 20250302) (common ++ second)
     ∷ rates-on 20230228 "to 28 and 29 February, 365 days and 366" (each 20240228 ++ each 20240229) (common ++ second)
     ∷ rates-on 20230301 "to 1 March, 366 days and 367" (each 20240301 ++ each 20240302) (leap ++ second)
-    ∷ rates-on 20240129 "from 29 January, 366 days and 367" (bonds (20250129 ∷ 20250130 ∷ [])) (1464 ∷ 1460 ∷ [])
-    ∷ rates-on 20240210 "from 10 February, 366 days and 367" (bonds (20250210 ∷ 20250211 ∷ [])) (1464 ∷ 1460 ∷ [])
     ∷ []
 
 -- twenty years, and a maturity of 29 February
@@ -198,7 +202,11 @@ datedFiles =
     ∷ prints "D alone, on 9999-99-99" (D-of "9999-99-99") "X,24,0,0\r\n"
     ∷ prints "an unreal maturity, at holding 1" (D ++ H "L,B,CA,2025-01-02,1,0" ++ H "L,B,CA,2025-02-30,1,0") "X,24,1,0\r\n"
     ∷ prints "a maturity of another form" (D ++ H "L,B,CA,2025-01-2,1,0") "X,21,1,0\r\n"
-    ∷ prints "a file with 366 days" (D-of "2024-01-15" ++ H "L,B,CA,\"2025-01-15\",100,0") "M,146400,2\r\nR,0,100,146400\r\n"
+    ∷ []
+
+unfoldable pub datedFigures : List Case
+datedFigures =
+    prints "a file with 366 days" (D-of "2024-01-15" ++ H "L,B,CA,\"2025-01-15\",100,0") "M,146400,2\r\nR,0,100,146400\r\n"
     ∷ prints "a file valued on 29 February" (D-of "2024-02-29" ++ H "L,B,ON,2025-02-28,1,0" ++ H "L,B,ON,2025-03-01,1,0") "M,7300,1\r\nR,1,1,4380\r\nR,0,1,2920\r\n"
     ∷ []
 

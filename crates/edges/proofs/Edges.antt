@@ -46,17 +46,18 @@ use Rattle.received.specs.Naming.{leiTexts as namedTexts, leisTooShort, namingA
 use Rattle.printing.specs.Printed.{fileAnswer, printed}
 use Rattle.edges.proofs.Cases.{Case, Agrees, failing, alone, together, judged, worked}
 use Rattle.edges.proofs.Starred.{starred, starredFile}
-use Rattle.edges.proofs.Others.{single, thirdPrice, firstPrice, firstAmount, tooLong, acceptedFiles, files, recordPlaces, holdingNumerals, lineNumerals, recordFaults}
+use Rattle.edges.proofs.Others.{single, thirdPrice, firstPrice, firstAmount, tooLong, acceptedFiles, rankedFile, files, recordPlaces, holdingNumerals, lineNumerals, recordFaults}
 use Rattle.edges.proofs.Others.{lending, reading, readingShort, tooMany, texts, fileProposals, shortcuts, proposals, lineRefusals, refusals}
 use Rattle.edges.proofs.Foreign.{governments, longBonds, longStrips, notParagraph4, twoCurrencies, foreignProvinces, foreignDebt, bothParagraphs, paragraph2Alone}
-use Rattle.edges.proofs.Foreign.{foreignBooks, foreignFile, eighthField}
-use Rattle.edges.proofs.Dated.{actualDays, anniversaries, twentyYears, periodEnds, otherEnds, maturities, valuations, dateTexts, valuationRecord, datedFiles, headAnswers}
-use Rattle.edges.proofs.Dated.{headList, headKept}
+use Rattle.edges.proofs.Foreign.{foreignBooks, foreignFile, sterlingFile, unpairedFiles, eighthField, sevenFields}
+use Rattle.edges.proofs.Dated.{actualDays, wholeYears, anniversaries, twentyYears, periodEnds, otherEnds, maturities, valuations, dateTexts, valuationRecord, datedFiles}
+use Rattle.edges.proofs.Dated.{datedFigures, headAnswers, headList, headKept}
 use Rattle.edges.proofs.Corporate.{groupFive, hedges, longerHedges, capped, belowCap, hedgeEnds, ratedLower, sameKinds, twoCorporations, corporationAndCanada}
 use Rattle.edges.proofs.Corporate.{corporationAndProvince, corporationAbroad, corporationInUsd, corporationInGbp, corporatePeriods, ratingFaults, ratingPlaces}
 use Rattle.edges.proofs.Corporate.{threeParagraphs, withoutParagraph3, hedgedBooks, corporateUnpaired, leis, leiTexts, recordValues, misratedRecords}
-use Rattle.edges.proofs.Corporate.{firstAppearance, mostCorporations, numberedFile, alikeInHalf, corporateColumns, smallCorporateFile, twoIssuersFile}
-use Rattle.edges.proofs.Corporate.{ratedLowerFile, corporateFile, ninthField, beforeOrder, nineFields, namedLeis, namedLonger, namedShort, namedOthers}
+use Rattle.edges.proofs.Corporate.{firstAppearance, mostCorporations, numberedFile, alikeInHalf, noCorporation, corporateColumns, smallCorporateFile}
+use Rattle.edges.proofs.Corporate.{twoIssuersFile, ratedLowerFile, corporateFile, ninthField, beforeOrder, nineFields, namedLeis, namedLonger, namedShort}
+use Rattle.edges.proofs.Corporate.{namedOthers}
 
 -- the table: document 01's cases, the starred first, then those of document 02 a), of b) and of d). Most groups are as small as the prover computes when it names
 -- a case that fails; of the others it names the group
@@ -67,8 +68,8 @@ corporateTexts =
 
 abbrev pub identifiers : List (List Case)
 identifiers =
-    leis ∷ leiTexts ∷ recordValues ∷ misratedRecords ∷ firstAppearance ∷ mostCorporations ∷ numberedFile ∷ alikeInHalf ∷ corporateColumns
-    ∷ corporateTexts
+    leis ∷ leiTexts ∷ recordValues ∷ misratedRecords ∷ firstAppearance ∷ mostCorporations ∷ numberedFile ∷ alikeInHalf ∷ noCorporation
+    ∷ corporateColumns ∷ corporateTexts
 
 abbrev pub corporateBooks : List (List Case)
 corporateBooks =
@@ -81,17 +82,17 @@ corporatePairs =
 
 abbrev pub dates : List (List Case)
 dates =
-    actualDays ∷ anniversaries ∷ twentyYears ∷ periodEnds ∷ otherEnds ∷ maturities ∷ valuations ∷ dateTexts ∷ valuationRecord ∷ datedFiles
-    ∷ headAnswers ∷ headList ∷ headKept ∷ corporatePairs
+    actualDays ∷ wholeYears ∷ anniversaries ∷ twentyYears ∷ periodEnds ∷ otherEnds ∷ maturities ∷ valuations ∷ dateTexts ∷ valuationRecord ∷ datedFiles
+    ∷ datedFigures ∷ headAnswers ∷ headList ∷ headKept ∷ corporatePairs
 
 abbrev pub currencies : List (List Case)
 currencies =
     governments ∷ longBonds ∷ longStrips ∷ notParagraph4 ∷ twoCurrencies ∷ foreignProvinces ∷ foreignDebt ∷ bothParagraphs ∷ paragraph2Alone
-    ∷ foreignBooks ∷ foreignFile ∷ eighthField ∷ dates
+    ∷ foreignBooks ∷ foreignFile ∷ sterlingFile ∷ unpairedFiles ∷ eighthField ∷ sevenFields ∷ dates
 
 abbrev pub table : List (List Case)
 table =
-    starred ∷ starredFile ∷ single ∷ thirdPrice ∷ firstPrice ∷ firstAmount ∷ tooLong ∷ acceptedFiles ∷ files ∷ recordPlaces ∷ holdingNumerals
+    starred ∷ starredFile ∷ single ∷ thirdPrice ∷ firstPrice ∷ firstAmount ∷ tooLong ∷ acceptedFiles ∷ rankedFile ∷ files ∷ recordPlaces ∷ holdingNumerals
     ∷ lineNumerals ∷ recordFaults ∷ lending ∷ reading ∷ readingShort ∷ tooMany ∷ texts ∷ fileProposals ∷ shortcuts ∷ proposals ∷ lineRefusals
     ∷ refusals ∷ currencies
 
@@ -101,10 +102,10 @@ NoneFails groups = Each (λ cs. failing cs ≡ []) groups
 
 none-fails : NoneFails table
 unfolding
-    starred starredFile single thirdPrice firstPrice firstAmount tooLong acceptedFiles files recordPlaces holdingNumerals lineNumerals recordFaults lending reading
+    starred starredFile single thirdPrice firstPrice firstAmount tooLong acceptedFiles rankedFile files recordPlaces holdingNumerals lineNumerals recordFaults lending reading
     readingShort tooMany texts fileProposals shortcuts proposals lineRefusals refusals governments longBonds longStrips notParagraph4 twoCurrencies foreignProvinces
-    foreignDebt bothParagraphs paragraph2Alone foreignBooks foreignFile eighthField actualDays anniversaries twentyYears periodEnds otherEnds maturities valuations
-    dateTexts valuationRecord datedFiles headAnswers headList headKept failing alone together judged worked within firstOf some count same insert ordered sumTo sumOf
+    foreignDebt bothParagraphs paragraph2Alone foreignBooks foreignFile sterlingFile unpairedFiles eighthField sevenFields actualDays wholeYears anniversaries twentyYears periodEnds otherEnds maturities valuations
+    dateTexts valuationRecord datedFiles datedFigures headAnswers headList headKept failing alone together judged worked within firstOf some count same insert ordered sumTo sumOf
     only listTo turns inTurn front holdingSizes lineSizes listsOf writtenLists two entriesOf unequal differ tooShort outcomeIn outcomeOf countIn numbersAt rowsIn
     linesIn submission column filledFrom filled row.numbersOf lineNumbers answered readAnswer heldLists readingAnswer filling heading isLeap leapDay monthLengths
     monthLength isReal isDate yearStart monthStart dayNumber daysBetween isLeapDay anniversary digitsOf dateText textNumber readDate headNumbers headFaults headFault
@@ -121,16 +122,16 @@ unfolding
     numberedFrom leisFrom holdingsOf leisOf answerTo namedTexts leisTooShort namingAnswer naming
     groupFive hedges longerHedges capped belowCap hedgeEnds ratedLower sameKinds twoCorporations corporationAndCanada corporationAndProvince corporationAbroad
     corporationInUsd corporationInGbp corporatePeriods ratingFaults ratingPlaces threeParagraphs withoutParagraph3 hedgedBooks corporateUnpaired leis leiTexts
-    recordValues misratedRecords firstAppearance mostCorporations numberedFile alikeInHalf corporateColumns smallCorporateFile twoIssuersFile ratedLowerFile
-    corporateFile ninthField beforeOrder nineFields namedLeis namedLonger namedShort namedOthers
+    recordValues misratedRecords firstAppearance mostCorporations numberedFile alikeInHalf noCorporation corporateColumns smallCorporateFile twoIssuersFile
+    ratedLowerFile corporateFile ninthField beforeOrder nineFields namedLeis namedLonger namedShort namedOthers
 none-fails =
     let f : NoneFails corporateTexts = (refl, (refl, (refl, (refl, (refl, (refl, (refl, (refl, (refl, (refl, (refl, tt))))))))))) in
-    let e : NoneFails identifiers = (refl, (refl, (refl, (refl, (refl, (refl, (refl, (refl, (refl, f))))))))) in
+    let e : NoneFails identifiers = (refl, (refl, (refl, (refl, (refl, (refl, (refl, (refl, (refl, (refl, f)))))))))) in
     let d : NoneFails corporateBooks = (refl, (refl, (refl, (refl, (refl, (refl, e)))))) in
     let c : NoneFails corporatePairs = (refl, (refl, (refl, (refl, (refl, (refl, (refl, (refl, (refl, (refl, (refl, (refl, (refl, (refl, (refl, d))))))))))))))) in
-    let b : NoneFails dates = (refl, (refl, (refl, (refl, (refl, (refl, (refl, (refl, (refl, (refl, (refl, (refl, (refl, c))))))))))))) in
-    let a : NoneFails currencies = (refl, (refl, (refl, (refl, (refl, (refl, (refl, (refl, (refl, (refl, (refl, (refl, b)))))))))))) in
-    (refl, (refl, (refl, (refl, (refl, (refl, (refl, (refl, (refl, (refl, (refl, (refl, (refl, (refl, (refl, (refl, (refl, (refl, (refl, (refl, (refl, (refl, (refl, a)))))))))))))))))))))))
+    let b : NoneFails dates = (refl, (refl, (refl, (refl, (refl, (refl, (refl, (refl, (refl, (refl, (refl, (refl, (refl, (refl, (refl, c))))))))))))))) in
+    let a : NoneFails currencies = (refl, (refl, (refl, (refl, (refl, (refl, (refl, (refl, (refl, (refl, (refl, (refl, (refl, (refl, (refl, b))))))))))))))) in
+    (refl, (refl, (refl, (refl, (refl, (refl, (refl, (refl, (refl, (refl, (refl, (refl, (refl, (refl, (refl, (refl, (refl, (refl, (refl, (refl, (refl, (refl, (refl, (refl, a))))))))))))))))))))))))
 
 -- cases of which none fails agree
 none-each : (cs : List Case) → failing cs ≡ [] → Each Agrees cs

@@ -136,8 +136,12 @@ acceptedFiles =
     -- the last CRLF is optional, and a quoted field is its text
     prints "quotes, and no CRLF at the end"
     (D ++ H "\"L\",C,CA,2025-01-02,1,0" ++ H "S,\"B\",CA,2025-01-02,1,8" ++ ascii "P,0,1,1,\"\"" ++ drop 1 emptyFields) "M,2,1\r\nR,0,0,0\r\nR,1,0,0\r\n"
-    -- R goes by the ranking
-    ∷ prints "R in ranking order" (D ++ H "L,B,CA,2025-01-02,1,0" ++ H "L,B,CA,2025-01-02,3,0") "M,16,1\r\nR,1,3,12\r\nR,0,1,4\r\n"
+    ∷ []
+
+-- R goes by the ranking
+unfoldable pub rankedFile : List Case
+rankedFile =
+    prints "R in ranking order" (D ++ H "L,B,CA,2025-01-02,1,0" ++ H "L,B,CA,2025-01-02,3,0") "M,16,1\r\nR,1,3,12\r\nR,0,1,4\r\n"
     ∷ []
 
 -- and files that are refused by the check, the empty book, and a lone CRLF
