@@ -102,28 +102,29 @@ NoneFails groups = Each (λ cs. failing cs ≡ []) groups
 
 none-fails : NoneFails table
 unfolding
-    starred starredFile single thirdPrice firstPrice firstAmount tooLong acceptedFiles rankedFile files recordPlaces holdingNumerals lineNumerals recordFaults lending reading
-    readingShort tooMany texts fileProposals shortcuts proposals lineRefusals refusals governments longBonds longStrips notParagraph4 twoCurrencies foreignProvinces
-    foreignDebt bothParagraphs paragraph2Alone foreignBooks foreignFile sterlingFile unpairedFiles eighthField sevenFields actualDays wholeYears anniversaries twentyYears periodEnds otherEnds maturities valuations
-    dateTexts valuationRecord datedFiles datedFigures headAnswers headList headKept failing alone together judged worked within firstOf some count same insert ordered sumTo sumOf
-    only listTo turns inTurn front holdingSizes lineSizes listsOf writtenLists two entriesOf unequal differ tooShort outcomeIn outcomeOf countIn numbersAt rowsIn
-    linesIn submission column filledFrom filled row.numbersOf lineNumbers answered readAnswer heldLists readingAnswer filling heading isLeap leapDay monthLengths
-    monthLength isReal isDate yearStart monthStart dayNumber daysBetween isLeapDay anniversary digitsOf dateText textNumber readDate headNumbers headFaults headFault
-    accountOf outOfTerm identityFaults termFaults worthFaults moneyFaults rowFaults faultOf holdingOf sideOf kindOf issuerOf currencyOf rowOf longerThan atLeast
-    periodOf percents flatRate bondRate stripRate kindRate rateAt rateOf legOf isLong isShort isBond isStrip isCanada isProvince isUs isGb inCad inUsd inGbp
-    kindsPair sameClass mixedClass classRule domesticRule oneBond sameGovernment foreignRule bothCad sameForeign ruleOf ruleRate allowed pairRateOf savingRateOf
-    pairOf used theory.savingRate saving pairUnits pricedTotal ranksBefore rankingOf bookOf termsOf priced remainder margin unitsOf remaindersOf ranked centsOf
-    atPlace holdingFaults pairFaults lineFaults atHolding bookFaults atLine linesFaults uncovered atPair atLong uncoveredPairs totalsDiffer totalsFaults sizeFaults
-    faults accepted outcome lead digits valueFrom numeralOf placeFrom placeOf isText isQuotable part textFrom textEnd closeFrom closeAt followedBy followed begins
-    opens enclosed fieldAt fieldsFrom recordAt recordsFrom recordsAt recordsOf valueOf valuesOf parsedOf parse parsedIn valuesBy submissionOf atRecord fileFaults
-    fileFault afterComma lineOf answerNumbers refusalLine marginLine remainderLine printedLines bookLine printedOf fileAnswer printed flatMap number littleEndian
-    wordAt entries decode encode isCorporation isIssuer isRated ratingOf isCorporate isSingleA ratedBond corporateRule cadRule isDigit isCapital isCharacter inForm
-    lei.valueOf lei.digitsOf lei.number lei.remainder halfOf leiOf judgedOf characterOf characters leiText sameLei firstPlace enter misrated issuerNumber knownAfter
-    numberedFrom leisFrom holdingsOf leisOf answerTo namedTexts leisTooShort namingAnswer naming
-    groupFive hedges longerHedges capped belowCap hedgeEnds ratedLower sameKinds twoCorporations corporationAndCanada corporationAndProvince corporationAbroad
-    corporationInUsd corporationInGbp corporatePeriods ratingFaults ratingPlaces threeParagraphs withoutParagraph3 hedgedBooks corporateUnpaired leis leiTexts
-    recordValues misratedRecords firstAppearance mostCorporations numberedFile alikeInHalf noCorporation corporateColumns smallCorporateFile twoIssuersFile
-    ratedLowerFile corporateFile ninthField beforeOrder nineFields namedLeis namedLonger namedShort namedOthers
+    starred starredFile single thirdPrice firstPrice firstAmount tooLong acceptedFiles rankedFile files recordPlaces holdingNumerals lineNumerals recordFaults
+    lending reading readingShort tooMany texts fileProposals shortcuts proposals lineRefusals refusals governments longBonds longStrips notParagraph4
+    twoCurrencies foreignProvinces foreignDebt bothParagraphs paragraph2Alone foreignBooks foreignFile sterlingFile unpairedFiles eighthField sevenFields
+    actualDays wholeYears anniversaries twentyYears periodEnds otherEnds maturities valuations dateTexts valuationRecord datedFiles datedFigures headAnswers
+    headList headKept failing alone together judged worked within firstOf some count same insert ordered sumTo sumOf only listTo turns inTurn front holdingSizes
+    lineSizes listsOf writtenLists two entriesOf unequal differ tooShort outcomeIn outcomeOf countIn numbersAt rowsIn linesIn submission column filledFrom
+    filled row.numbersOf lineNumbers answered readAnswer heldLists readingAnswer filling heading isLeap leapDay monthLengths monthLength isReal isDate yearStart
+    monthStart dayNumber daysBetween isLeapDay anniversary digitsOf dateText textNumber readDate headNumbers headFaults headFault accountOf outOfTerm
+    identityFaults termFaults worthFaults moneyFaults rowFaults faultOf holdingOf sideOf kindOf issuerOf currencyOf rowOf longerThan atLeast periodOf percents
+    flatRate bondRate stripRate kindRate rateAt rateOf legOf isLong isShort isBond isStrip isCanada isProvince isUs isGb inCad inUsd inGbp kindsPair sameClass
+    mixedClass classRule domesticRule oneBond sameGovernment foreignRule bothCad sameForeign ruleOf ruleRate allowed pairRateOf savingRateOf pairOf used
+    theory.savingRate saving pairUnits pricedTotal ranksBefore rankingOf bookOf termsOf priced remainder margin unitsOf remaindersOf ranked centsOf atPlace
+    holdingFaults pairFaults lineFaults atHolding bookFaults atLine linesFaults uncovered atPair atLong uncoveredPairs totalsDiffer totalsFaults sizeFaults
+    faults accepted outcome lead digits valueFrom numeralOf placeFrom placeOf isText isQuotable part textFrom textEnd closeFrom closeAt followedBy followed
+    begins opens enclosed fieldAt fieldsFrom recordAt recordsFrom recordsAt recordsOf valueOf valuesOf parsedOf parse parsedIn valuesBy submissionOf atRecord
+    fileFaults fileFault afterComma lineOf answerNumbers refusalLine marginLine remainderLine printedLines bookLine printedOf fileAnswer printed flatMap number
+    littleEndian wordAt entries decode encode isCorporation isIssuer isRated ratingOf isCorporate isSingleA ratedBond corporateRule cadRule isDigit isCapital
+    isCharacter inForm lei.valueOf lei.digitsOf lei.number lei.remainder halfOf leiOf judgedOf characterOf characters leiText sameLei firstPlace enter misrated
+    issuerNumber knownAfter numberedFrom leisFrom holdingsOf leisOf answerTo namedTexts leisTooShort namingAnswer naming groupFive hedges longerHedges capped
+    belowCap hedgeEnds ratedLower sameKinds twoCorporations corporationAndCanada corporationAndProvince corporationAbroad corporationInUsd corporationInGbp
+    corporatePeriods ratingFaults ratingPlaces threeParagraphs withoutParagraph3 hedgedBooks corporateUnpaired leis leiTexts recordValues misratedRecords
+    firstAppearance mostCorporations numberedFile alikeInHalf noCorporation corporateColumns smallCorporateFile twoIssuersFile ratedLowerFile corporateFile
+    ninthField beforeOrder nineFields namedLeis namedLonger namedShort namedOthers
 none-fails =
     let f : NoneFails corporateTexts = (refl, (refl, (refl, (refl, (refl, (refl, (refl, (refl, (refl, (refl, (refl, tt))))))))))) in
     let e : NoneFails identifiers = (refl, (refl, (refl, (refl, (refl, (refl, (refl, (refl, (refl, (refl, f)))))))))) in
