@@ -267,10 +267,14 @@ leis =
     remainders "LEIs in use" ("5493001KJTIIGC8Y1R12" ∷ "7ZW8QJWVPR4P1J1KQY45" ∷ "HWUPKR0MPOU8FGXBT394" ∷ []) (1 ∷ 1 ∷ 1 ∷ [])
     ∷ remainders "damaged: a check digit, two exchanged, a character, two exchanged"
     ("5493001KJTIIGC8Y1R13" ∷ "5493001KJTIIGC8Y1R21" ∷ "5493001KJTIIGC8Y1S12" ∷ "5493001JKTIIGC8Y1R12" ∷ []) (2 ∷ 10 ∷ 4 ∷ 17 ∷ [])
-    ∷ remainders "each capital at the end" ("A" ∷ "B" ∷ "I" ∷ "J" ∷ "K" ∷ "O" ∷ "Z" ∷ []) (10 ∷ 11 ∷ 18 ∷ 19 ∷ 20 ∷ 24 ∷ 35 ∷ [])
+    ∷ remainders "each digit and each capital by itself"
+    ("0" ∷ "1" ∷ "2" ∷ "3" ∷ "4" ∷ "5" ∷ "6" ∷ "7" ∷ "8" ∷ "9" ∷ "A" ∷ "B" ∷ "C" ∷ "D" ∷ "E" ∷ "F" ∷ "G" ∷ "H" ∷ "I" ∷ "J" ∷ "K" ∷ "L" ∷ "M"
+    ∷ "N" ∷ "O" ∷ "P" ∷ "Q" ∷ "R" ∷ "S" ∷ "T" ∷ "U" ∷ "V" ∷ "W" ∷ "X" ∷ "Y" ∷ "Z" ∷ []) (listTo 36 (λ k. k))
     ∷ remainders "a digit or a capital behind another" ("10" ∷ "99" ∷ "1A" ∷ "A1" ∷ "AA" ∷ "ZZ" ∷ "100" ∷ "" ∷ []) (10 ∷ 2 ∷ 13 ∷ 4 ∷ 40 ∷ 43 ∷ 3 ∷ 0 ∷ [])
     ∷ keys "an LEI as two numbers" ("5493001KJTIIGC8Y1R12" ∷ "00000000000000000001" ∷ "0000000001000000000Z" ∷ "A000000000ZZZZZZZZZZ" ∷ [])
     ((519796030869065, 1880139687297302) ∷ (0, 1) ∷ (1, 35) ∷ (1015599566684160, 3656158440062975) ∷ [])
+    ∷ keys "each character" ("0123456789ABCDEFGHIJ" ∷ "KLMNOPQRSTUVWXYZ0000" ∷ []) ((2984619134745, 1047601316295595) ∷ (2092218013456445, 3136834708888320) ∷ [])
+    ∷ writes "each character written" ((2984619134745, 1047601316295595) ∷ (2092218013456445, 3136834708888320) ∷ []) ("0123456789ABCDEFGHIJ" ∷ "KLMNOPQRSTUVWXYZ0000" ∷ [])
     ∷ keys "no LEI has 19 or 21 characters" ("5493001KJTIIGC8Y1R1" ∷ "5493001KJTIIGC8Y1R120" ∷ "" ∷ "CA" ∷ []) (replicate 4 (0, 0))
     ∷ writes "two numbers as a text" ((519796030869065, 1880139687297302) ∷ (0, 1) ∷ (1, 35) ∷ (36, 10) ∷ [])
     ("5493001KJTIIGC8Y1R12" ∷ "00000000000000000001" ∷ "0000000001000000000Z" ∷ "0000000010000000000A" ∷ [])
