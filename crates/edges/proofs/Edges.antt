@@ -17,7 +17,7 @@ use Rattle.holding.specs.Holding.{headNumbers, headFaults, headFault, accountOf
 use Rattle.holding.specs.Holding.{isCorporation, isIssuer, isRated, sideOf, kindOf, issuerOf, currencyOf, ratingOf, rowOf}
 use Rattle.rates.specs.Rate.{longerThan, atLeast, periodOf, percents, flatRate, bondRate, stripRate, kindRate, rateAt, rateOf}
 use Rattle.article.specs.Pair.{legOf, isLong, isShort, isBond, isStrip, isCanada, isProvince, isUs, isGb, inCad, inUsd, inGbp, kindsPair, sameClass, mixedClass, classRule}
-use Rattle.article.specs.Pair.{isCorporate, isSingleA, ratedBond, corporateRule, cadRule}
+use Rattle.article.specs.Pair.{isCorporate, bondRating, sameCorporation, corporateRule, cadRule}
 use Rattle.article.specs.Pair.{domesticRule, oneBond, sameGovernment, foreignRule, bothCad, sameForeign, ruleOf, ruleRate, allowed, pairRateOf, savingRateOf, pairOf}
 use Rattle.pairing.specs.Pairing as theory
 use Rattle.pairing.specs.Pairing.{used, saving, pairUnits, pricedTotal}
@@ -118,7 +118,7 @@ unfolding
     faults accepted outcome lead digits valueFrom numeralOf placeFrom placeOf isText isQuotable part textFrom textEnd closeFrom closeAt followedBy followed
     begins opens enclosed fieldAt fieldsFrom recordAt recordsFrom recordsAt recordsOf valueOf valuesOf parsedOf parse parsedIn valuesBy submissionOf atRecord
     fileFaults fileFault afterComma lineOf answerNumbers refusalLine marginLine remainderLine printedLines bookLine printedOf fileAnswer printed flatMap number
-    littleEndian wordAt entries decode encode isCorporation isIssuer isRated ratingOf isCorporate isSingleA ratedBond corporateRule cadRule isDigit isCapital
+    littleEndian wordAt entries decode encode isCorporation isIssuer isRated ratingOf isCorporate bondRating sameCorporation corporateRule cadRule isDigit isCapital
     isCharacter inForm lei.valueOf lei.digitsOf lei.number lei.remainder halfOf leiOf judgedOf characterOf characters leiText sameLei firstPlace enter misrated
     issuerNumber knownAfter numberedFrom leisFrom holdingsOf leisOf answerTo namedTexts leisTooShort namingAnswer naming groupFive hedges longerHedges capped
     belowCap hedgeEnds ratedLower sameKinds twoCorporations corporationAndCanada corporationAndProvince corporationAbroad corporationInUsd corporationInGbp
