@@ -147,8 +147,8 @@ pub fn margin_check(
 /// and a refusal keeps the head and all eleven. An answer slice of 16 bytes or more gets the number of holdings
 /// and the number of lines, or the place and 0; a shorter one is kept.
 ///
-/// The call needs less than 50 KB of stack, whatever the size of the file: when tried with one holding and
-/// with 256 holdings and 512 lines, threads of 50,000 bytes were enough, and 48,000 were not.
+/// The call needs less than 64 KiB of stack, whatever the size of the file: when tried with 256 holdings and
+/// 512 lines, a thread of 64 KiB was enough, and one of 60 KiB was not.
 ///
 /// ```
 /// use margin_host::{Columns, raw};
@@ -206,6 +206,8 @@ pub fn margin_read(
 /// the column of issuers: 5,120 bytes are enough for every file, and 2 is returned where there are too few. What
 /// comes after is kept, and a refusal keeps the whole list. An answer slice of 16 bytes or more gets the number
 /// of LEIs and 0, or the place and 0; a shorter one is kept, and is 2 for a file that is read.
+///
+/// It needs as much stack as [`margin_read`].
 ///
 /// ```
 /// use margin_host::raw;

@@ -4,7 +4,6 @@ use mathlib.Core.Logic.{_⊎_, inl, inr, ⊎-elim}
 use mathlib.Core.Bool.{Bool, true, false, and-false, false≢true}
 use Prim.Native.Nat.{ℕ, _+_, min, max}
 use native.Mathlib.Omega.{arith}
-use borrow.Author.Tests.{eqb-true}
 use Rattle.lists.specs.Choice.{within}
 use Rattle.lists.proofs.Tests.{either-way}
 use Rattle.holding.proofs.Heads.{head-kept}
@@ -13,7 +12,7 @@ use Rattle.holding.proofs.Numbers.{numbers}
 use Rattle.rates.proofs.RateTable.{rate-table}
 use Rattle.rates.proofs.Periods.{periods}
 use Rattle.article.proofs.PairRates.{difference-excess, half-exact, rate-and-saving}
-use Rattle.article.proofs.Saved.{saving-high}
+use Rattle.article.proofs.Saved.{corporate-legs, saving-high}
 use Rattle.article.proofs.LegRates.{leg-rates}
 use Rattle.article.proofs.Legs.{allowed-meets, meets-allowed, Permitted, one-class, two-classes, one-corporation, one-government, permitted}
 use Rattle.article.proofs.Paragraphs.{by-paragraph, abroad, class-one, class-two, capped}
@@ -165,14 +164,14 @@ never-paired h f g = record {
 module _ (l : Leg) (e : l .issuer ≡ noIssuer) (s : Leg) where
   not-long : {r : Rule} → Permitted l s r → ⊥
   unfolding sameClass mixedClass sameGovernment isCanada isProvince isUs isGb isCorporate isCorporation within
-  not-long (one-corporation _ n _ _) = false≢true (rw e at n)
+  not-long (one-corporation _ _ n _) = false≢true (rw e at (corporate-legs l s n .0))
   not-long (one-class _ _ f) = false≢true (rw e at f)
   not-long (two-classes _ _ f) = false≢true (rw e at f)
   not-long (one-government _ _ f) = false≢true (rw e at f)
 
   not-short : {r : Rule} → Permitted s l r → ⊥
   unfolding sameClass mixedClass sameGovernment isCanada isProvince isUs isGb isCorporate isCorporation within
-  not-short (one-corporation _ n i _) = false≢true (rw (eqb-true (s .issuer) (l .issuer) i, e) at n)
+  not-short (one-corporation _ _ n _) = false≢true (rw e at (corporate-legs s l n .1 .0))
   not-short (one-class _ _ f) = false≢true (rw (e, and-false (isCanada s), and-false (isProvince s)) at f)
   not-short (two-classes _ _ f) = false≢true (rw (e, and-false (isCanada s), and-false (isProvince s)) at f)
   not-short (one-government _ _ f) = false≢true (rw (e, and-false (isCanada s), and-false (isUs s), and-false (isGb s)) at f)

@@ -7,7 +7,7 @@ use borrow.Author.Tests.{eq-eqb, eqb-true}
 use Rattle.lists.specs.Choice.{firstOf}
 use Rattle.lists.proofs.Tests.{zero-out, by-test}
 use Rattle.article.proofs.PairRates.{permitted-high}
-use Rattle.article.specs.Pair.{isLong, isShort, isBond, isStrip, kindsPair, sameClass, mixedClass, classRule, domesticRule, isCorporate, ratedBond, corporateRule, cadRule, oneBond, sameGovernment, foreignRule}
+use Rattle.article.specs.Pair.{isLong, isShort, isBond, isStrip, kindsPair, sameClass, mixedClass, classRule, domesticRule, isCorporate, bondRating, sameCorporation, corporateRule, cadRule, oneBond, sameGovernment, foreignRule}
 use Rattle.article.specs.Pair.{bothCad, sameForeign, ruleOf, permits, allowed, pairRateOf, rateLimit, RateInRange}
 use Rattle.article.specs.declared.pair.Rule.{Rule}
 use Rattle.article.specs.declared.pair.Rule.the-variants.{Difference, HalfSum, Capped, NotAllowed}
@@ -40,12 +40,12 @@ module _ (l s : Leg) where
 
   -- two bonds have no rule
   pub bonds-no-rule : l .kind ≡ 0 → s .kind ≡ 0 → ruleOf l s ≡ NotAllowed
-  unfolding ruleOf cadRule corporateRule ratedBond domesticRule foreignRule kindsPair oneBond isBond isStrip
+  unfolding ruleOf cadRule corporateRule domesticRule foreignRule kindsPair oneBond isBond isStrip
   bonds-no-rule a b =
       let Is : Rule → Type 0 = λ r. r ≡ NotAllowed in
       by-test Is (bothCad l s)
       (λ _. by-test Is (isCorporate l)
-      (λ _. rw (zero-out 2 (l .kind) a, zero-out 2 (s .kind) b, eq-eqb _ _ a, and-false))
+      (λ _. rw (zero-out 2 (l .kind) a, zero-out 2 (s .kind) b, eq-eqb _ _ a))
       (λ _. rw (zero-out 2 (l .kind) a, zero-out 2 (s .kind) b, eq-eqb _ _ a)))
       (λ _. by-test Is (sameForeign l s) (λ _. rw (zero-out 2 (l .kind) a, zero-out 2 (s .kind) b, eq-eqb _ _ a)) (λ _. refl))
 
@@ -57,7 +57,7 @@ module _ (l s : Leg) where
 pub data Permitted (l s : Leg) : Rule → Type 0 where
   one-class : bothCad l s ≡ true → kindsPair l s ≡ true → sameClass l s ≡ true → Permitted l s Difference
   two-classes : bothCad l s ≡ true → kindsPair l s ≡ true → mixedClass l s ≡ true → Permitted l s HalfSum
-  one-corporation : bothCad l s ≡ true → isCorporate l ≡ true → eqb (l .issuer) (s .issuer) ≡ true → ratedBond l s ≡ true → Permitted l s Capped
+  one-corporation : bothCad l s ≡ true → oneBond l s ≡ true → sameCorporation l s ≡ true → eqb (bondRating l s) 0 ≡ true → Permitted l s Capped
   one-government : sameForeign l s ≡ true → oneBond l s ≡ true → sameGovernment l s ≡ true → Permitted l s Difference
 
 module _ (l s : Leg) where
@@ -68,7 +68,12 @@ module _ (l s : Leg) where
       let none : Why NotAllowed = λ e. absurd (false≢true e) in
       by-test Why (bothCad l s)
       (λ c. by-test Why (isCorporate l)
-      (λ n. by-test Why (eqb (l .issuer) (s .issuer) && ratedBond l s) (λ e _. let (i, k) = and-eq-true-iff _ _ .0 e in one-corporation c n i k) (λ _. none))
+      (λ _. by-test Why (oneBond l s && sameCorporation l s && eqb (bondRating l s) 0)
+      (λ e _.
+      let (both, rated) = and-eq-true-iff _ _ .0 e in
+      let (k, n) = and-eq-true-iff _ _ .0 both in
+      one-corporation c k n rated)
+      (λ _. none))
       (λ _. by-test Why (kindsPair l s)
       (λ k. by-test Why (sameClass l s) (λ e _. one-class c k e) (λ _. by-test Why (mixedClass l s) (λ e _. two-classes c k e) (λ _. none)))
       (λ _. none)))

@@ -1,6 +1,7 @@
 pub mod PairRates
 pub mod Legs
 pub mod ByKind
+pub mod Outside
 pub mod Saved
 pub mod LegRates
 pub mod Paragraphs

@@ -16,7 +16,7 @@ use Rattle.article.proofs.Legs.{Permitted, one-class, two-classes, one-
 use Rattle.article.specs.Article.{OneClass, both-canada, both-provincial, TwoClasses, canada-long, canada-short, SameForeign, both-usd, both-gbp}
 use Rattle.article.specs.Article.{SameGovernment, of-canada, of-us, of-gb, OneBond, SameCorporation, of-corporation, Paragraph2, Paragraph3, Paragraph4, ByParagraph, by-2, by-3, by-4}
 use Rattle.article.specs.Pair.{legOf, isBond, isStrip, isCanada, isProvince, isUs, isGb, inCad, inUsd, inGbp, kindsPair, sameClass, mixedClass, classRule, domesticRule}
-use Rattle.article.specs.Pair.{isCorporate, isSingleA, ratedBond, corporateRule, cadRule, oneBond, sameGovernment, foreignRule, bothCad, sameForeign, ruleOf}
+use Rattle.article.specs.Pair.{isCorporate, bondRating, sameCorporation, corporateRule, cadRule, oneBond, sameGovernment, foreignRule, bothCad, sameForeign, ruleOf}
 use Rattle.holding.specs.declared.Kind.{Kind}
 use Rattle.holding.specs.declared.Kind.the-variants.{Bond, Coupon, Residual}
 use Rattle.holding.specs.declared.Issuer.{Issuer}
@@ -132,51 +132,35 @@ module _ (a : Account) (l s : Holding) where
   unfolding kindsPair oneBond isBond isStrip legOf rowOf
   not-bonds e m n = ⊎-elim (λ f. one-bond f .not-both m n) (λ f. strip-of (l .kind) (and-eq-true-iff _ _ .0 f .0) m) (one-of _ _ e)
 
-  same-corporation : isCorporate (legOf a l) ≡ true → eqb (legOf a l .issuer) (legOf a s .issuer) ≡ true → SameCorporation (l .issuer) (s .issuer)
-  unfolding isCorporate legOf rowOf
-  same-corporation n e =
-      let same = eqb-true (issuerNumber (l .issuer)) (issuerNumber (s .issuer)) e in
+  same-corporation : sameCorporation (legOf a l) (legOf a s) ≡ true → SameCorporation (l .issuer) (s .issuer)
+  unfolding sameCorporation isCorporate legOf rowOf
+  same-corporation e =
+      let (n, i) = and-eq-true-iff (isCorporation (issuerNumber (l .issuer))) (eqb (issuerNumber (l .issuer)) (issuerNumber (s .issuer))) .0 e in
+      let same = eqb-true (issuerNumber (l .issuer)) (issuerNumber (s .issuer)) i in
       let first = corporation-of (l .issuer) n in
       let second = corporation-of (s .issuer) (rw same at n) in
       rw (first, second, same) (of-corporation (issuerNumber (s .issuer)))
 
-  -- just one is a bond, and it is rated
-  record RatedBond : Type 0 where
-    one : OneBond (l .kind) (s .kind)
-    long-rated : l .kind ≡ Bond → l .rating ≡ SingleA
-    short-rated : s .kind ≡ Bond → s .rating ≡ SingleA
+  -- the bond's rating is that of the long where it is the bond, and else that of the short
+  long-rated : eqb (bondRating (legOf a l) (legOf a s)) 0 ≡ true → l .kind ≡ Bond → l .rating ≡ SingleA
+  unfolding bondRating isBond legOf rowOf
+  long-rated e k = single-a-of (l .rating) (rw k at e)
 
-  rated-bond : ratedBond (legOf a l) (legOf a s) ≡ true → RatedBond
-  unfolding ratedBond isBond isStrip isSingleA legOf rowOf
-  rated-bond e =
-      either-way (eqb (kindNumber (l .kind)) 0)
-      (λ x.
-      let (y, r) = and-eq-true-iff _ _ .0 (rw x at e) in
-      record {
-        one = record { some = inl (bond-of (l .kind) x); not-both = λ _ n. strip-of (s .kind) y n };
-        long-rated = λ _. single-a-of (l .rating) r;
-        short-rated = λ n. absurd (strip-of (s .kind) y n);
-      })
-      (λ f.
-      let (k, r) = and-eq-true-iff _ _ .0 (rw f at e) in
-      let (x, y) = and-eq-true-iff _ _ .0 k in
-      record {
-        one = record { some = inr (bond-of (s .kind) y); not-both = λ m _. strip-of (l .kind) x m };
-        long-rated = λ m. absurd (strip-of (l .kind) x m);
-        short-rated = λ _. single-a-of (s .rating) r;
-      })
+  short-rated : eqb (bondRating (legOf a l) (legOf a s)) 0 ≡ true → (l .kind ≡ Bond → ⊥) → s .rating ≡ SingleA
+  unfolding bondRating isBond legOf rowOf
+  short-rated e k = either-way (eqb (kindNumber (l .kind)) 0) (λ b. absurd (k (bond-of (l .kind) b))) (λ b. single-a-of (s .rating) (rw b at e))
 
   -- one of the paragraphs has a pair that is permitted
   pub by-paragraph : {r : Rule} → Permitted (legOf a l) (legOf a s) r → ByParagraph l s
-  by-paragraph (one-corporation c n i k) =
-      let rated = rated-bond k in
+  by-paragraph (one-corporation c k e rated) =
+      let bond = one-bond k in
       by-3 (record {
         first-cad = both-cad c .0;
         second-cad = both-cad c .1;
-        corporation = same-corporation n i;
-        one-bond = rated .one;
-        long-rated = rated .long-rated;
-        short-rated = rated .short-rated;
+        corporation = same-corporation e;
+        one-bond = bond;
+        long-rated = long-rated rated;
+        short-rated = λ n. short-rated rated (λ m. bond .not-both m n);
       })
   by-paragraph (one-class c k e) = by-2 (record { first-cad = both-cad c .0; second-cad = both-cad c .1; classes = inl (same-class e); not-bonds = not-bonds k })
   by-paragraph (two-classes c k e) = by-2 (record { first-cad = both-cad c .0; second-cad = both-cad c .1; classes = inr (mixed-class e); not-bonds = not-bonds k })
@@ -196,18 +180,6 @@ module _ (l s : Leg) where
   kinds Residual Bond a b f = (rw (a, b), λ _. rw (a, b))
   kinds Residual Coupon a b f = (rw (a, b), λ o. absurd (⊎-elim (strip-of Residual refl) (strip-of Coupon refl) o))
   kinds Residual Residual a b f = (rw (a, b), λ o. absurd (⊎-elim (strip-of Residual refl) (strip-of Residual refl) o))
-
-  rated : (k m : Kind) → l .kind ≡ kindNumber k → s .kind ≡ kindNumber m → OneBond k m → (k ≡ Bond → l .rating ≡ 0) → (m ≡ Bond → s .rating ≡ 0) → ratedBond l s ≡ true
-  unfolding ratedBond isBond isStrip isSingleA within
-  rated Bond Bond a b o f g = absurd (o .not-both refl refl)
-  rated Bond Coupon a b o f g = rw (a, b, f refl)
-  rated Bond Residual a b o f g = rw (a, b, f refl)
-  rated Coupon Bond a b o f g = rw (a, b, g refl)
-  rated Coupon Coupon a b o f g = absurd (⊎-elim (strip-of Coupon refl) (strip-of Coupon refl) (o .some))
-  rated Coupon Residual a b o f g = absurd (⊎-elim (strip-of Coupon refl) (strip-of Residual refl) (o .some))
-  rated Residual Bond a b o f g = rw (a, b, g refl)
-  rated Residual Coupon a b o f g = absurd (⊎-elim (strip-of Residual refl) (strip-of Coupon refl) (o .some))
-  rated Residual Residual a b o f g = absurd (⊎-elim (strip-of Residual refl) (strip-of Residual refl) (o .some))
 
   foreigners : {c d : Currency} → SameForeign c d → l .currency ≡ currencyNumber c → s .currency ≡ currencyNumber d → (bothCad l s ≡ false) × (sameForeign l s ≡ true)
   unfolding bothCad sameForeign inCad inUsd inGbp
@@ -270,10 +242,17 @@ module _ (a : Account) (l s : Holding) where
   unfolding bothCad inCad legOf rowOf
   cads3 p = rw (p .first-cad, p .second-cad)
 
-  bond : Paragraph3 l s → ratedBond (legOf a l) (legOf a s) ≡ true
-  unfolding legOf rowOf
-  bond p =
-      rated (legOf a l) (legOf a s) (l .kind) (s .kind) refl refl (p .one-bond) (λ k. ap ratingNumber (p .long-rated k)) (λ k. ap ratingNumber (p .short-rated k))
+  bond : Paragraph3 l s → oneBond (legOf a l) (legOf a s) ≡ true
+  bond p = pairs (p .one-bond .not-both) .1 (p .one-bond .some)
+
+  rated : Paragraph3 l s → eqb (bondRating (legOf a l) (legOf a s)) 0 ≡ true
+  unfolding bondRating isBond legOf rowOf
+  rated p =
+      either-way (eqb (kindNumber (l .kind)) 0)
+      (λ b. rw (b, p .long-rated (bond-of (l .kind) b)))
+      (λ b.
+      let short : s .kind ≡ Bond = ⊎-elim (λ k. absurd (false≢true (sym b ∙ ap (λ (x : Kind). eqb (kindNumber x) 0) k))) (λ k. k) (p .one-bond .some) in
+      rw (b, p .short-rated short))
 
   in-cad : Paragraph2 l s → isCorporate (legOf a l) ≡ false → {r : Rule} → classRule (legOf a l) (legOf a s) ≡ r → ruleOf (legOf a l) (legOf a s) ≡ r
   unfolding ruleOf cadRule domesticRule
@@ -305,17 +284,20 @@ module _ (a : Account) (l s : Holding) where
     unfolding legOf rowOf
     class-two p e = in-cad p (no-corporate f (inr e)) (two-class-rule (legOf a l) (legOf a s) e refl refl (f .ranges .identity .issuer) (g .ranges .identity .issuer))
 
-    corporates : SameCorporation (l .issuer) (s .issuer) → (isCorporate (legOf a l) ≡ true) × (eqb (legOf a l .issuer) (legOf a s .issuer) ≡ true)
-    unfolding legOf rowOf isCorporate
+    corporates : SameCorporation (l .issuer) (s .issuer) → (isCorporate (legOf a l) ≡ true) × (sameCorporation (legOf a l) (legOf a s) ≡ true)
+    unfolding legOf rowOf isCorporate sameCorporation
     corporates c = by c (f .ranges .identity .issuer)
       where
         by : {i j : Issuer} → SameCorporation i j → Government (issuerNumber i) ⊎ Corporate (issuerNumber i)
-            → (isCorporation (issuerNumber i) ≡ true) × (eqb (issuerNumber i) (issuerNumber j) ≡ true)
-        by (of-corporation c) h = let w = corporation-range c h in (rw w w, eq-eqb (issuerNumber (Corporation c)) (issuerNumber (Corporation c)) refl)
+            → (isCorporation (issuerNumber i) ≡ true) × ((isCorporation (issuerNumber i) && eqb (issuerNumber i) (issuerNumber j)) ≡ true)
+        by (of-corporation c) h =
+            let w = corporation-range c h in
+            let n : isCorporation (issuerNumber (Corporation c)) ≡ true = rw w w in
+            (n, rw (n, eq-eqb (issuerNumber (Corporation c)) (issuerNumber (Corporation c)) refl))
 
     -- of one corporation
     pub capped : Paragraph3 l s → ruleOf (legOf a l) (legOf a s) ≡ Capped
     unfolding ruleOf cadRule corporateRule
     capped p =
         let (n, e) = corporates (p .corporation) in
-        rw (cads3 p, n, e, bond p)
+        rw (cads3 p, n, bond p, e, rated p)

@@ -9,7 +9,7 @@ use Rattle.lists.proofs.Tests.{within-true, one-of, either-way}
 use Rattle.holding.proofs.Issuers.{no-corporation}
 use Rattle.rates.proofs.FlatRates.{flat-high}
 use Rattle.article.proofs.Legs.{Permitted, one-class, two-classes, one-corporation, one-government, permitted}
-use Rattle.article.specs.Pair.{isBond, isStrip, isSingleA, isCanada, isProvince, isUs, isGb, isCorporate, sameClass, mixedClass, sameGovernment, ratedBond}
+use Rattle.article.specs.Pair.{isBond, isStrip, isCanada, isProvince, isUs, isGb, isCorporate, sameClass, mixedClass, sameCorporation, sameGovernment, oneBond}
 use Rattle.article.specs.Pair.{ruleOf, permits, ruleRate, pairRateOf, savingRateOf, savingLimit, RateInRange}
 use Rattle.article.specs.declared.pair.Rule.{Rule}
 use Rattle.article.specs.declared.pair.Rule.the-variants.{Difference, HalfSum, Capped, NotAllowed}
@@ -58,16 +58,21 @@ module _ (l s : Leg) where
   of-one-government e = ⊎-elim (λ o. ⊎-elim (both _ _ (canada l) (canada s)) (both _ _ (us l) (us s)) (one-of _ _ o)) (both _ _ (gb l) (gb s)) (one-of _ _ e)
 
 -- the bond of two legs: the long, with a strip as the short, or the other way round
-pub one-bond-of : (l s : Leg) → ratedBond l s ≡ true → ((isBond l ≡ true) × (isStrip s ≡ true)) ⊎ ((isStrip l ≡ true) × (isBond s ≡ true))
-unfolding ratedBond
-one-bond-of l s e =
-    either-way (isBond l)
-    (λ b. inl (b, and-eq-true-iff _ _ .0 (rw b at e) .0))
-    (λ b. inr (and-eq-true-iff _ _ .0 (and-eq-true-iff _ _ .0 (rw b at e) .0)))
+pub one-bond-of : (l s : Leg) → oneBond l s ≡ true → ((isBond l ≡ true) × (isStrip s ≡ true)) ⊎ ((isStrip l ≡ true) × (isBond s ≡ true))
+unfolding oneBond
+one-bond-of l s e = ⊎-elim (λ x. inl (and-eq-true-iff _ _ .0 x)) (λ x. inr (and-eq-true-iff _ _ .0 x)) (one-of _ _ e)
+
+-- two legs of one corporation
+pub corporate-legs : (l s : Leg) → sameCorporation l s ≡ true → (isCorporate l ≡ true) × ((isCorporate s ≡ true) × (l .issuer ≡ s .issuer))
+unfolding sameCorporation isCorporate
+corporate-legs l s e =
+    let (n, i) = and-eq-true-iff _ _ .0 e in
+    let same = eqb-true (l .issuer) (s .issuer) i in
+    (n, (rw same at n, same))
 
 module _ (l s : Leg) (f : RateInRange l) (g : RateInRange s) where
   -- of a corporation the bond has at most 14,600
-  bond-high : isCorporate l ≡ true → isCorporate s ≡ true → ratedBond l s ≡ true → (l .rate ≤ 14600) ⊎ (s .rate ≤ 14600)
+  bond-high : isCorporate l ≡ true → isCorporate s ≡ true → oneBond l s ≡ true → (l .rate ≤ 14600) ⊎ (s .rate ≤ 14600)
   bond-high c d e =
       ⊎-elim
       (λ x. inl (omega (arith, f .bond c (x .0), flat-high 2 (l .period))))
@@ -79,9 +84,9 @@ module _ (l s : Leg) (f : RateInRange l) (g : RateInRange s) where
   saved (one-class c k e) = let (x, y) = of-one-class l s e in omega (arith, f .government x, g .government y)
   saved (two-classes c k e) = let (x, y) = of-two-classes l s e in omega (arith, f .government x, g .government y)
   saved (one-government c k e) = let (x, y) = of-one-government l s e in omega (arith, f .government x, g .government y)
-  saved (one-corporation c n i k) =
-      let same : isCorporate s ≡ true = (unfold isCorporate in rw (eqb-true (l .issuer) (s .issuer) i) at n) in
-      ⊎-elim (λ x. omega (arith, x, g .high)) (λ x. omega (arith, x, f .high)) (bond-high n same k)
+  saved (one-corporation c k n rated) =
+      let (first, (second, _)) = corporate-legs l s n in
+      ⊎-elim (λ x. omega (arith, x, g .high)) (λ x. omega (arith, x, f .high)) (bond-high first second k)
 
   -- the saving rate lies between 0 and 43,800
   pub saving-high : savingRateOf l s ≤ savingLimit

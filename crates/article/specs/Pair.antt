@@ -1,6 +1,6 @@
 -- Document 01, "A pair", from the article's Group XI(2), document 02 a), from Group XI(4), and d), from Group XI(3). Assumes nothing.
 use mathlib.Core.{Bool.Bool, Bool.true, Bool.false, Bool.cond, Bool._&&_, Bool._||_, Path._≡_, List.[], List._∷_, Logic._⊎_}
-use Prim.Native.Nat.{ℕ, _+_, _-_, _*_, _/_, _≤_, min, max}
+use Prim.Native.Nat.{ℕ, _+_, _-_, _*_, _/_, _≤_, _<_, min, max}
 use lib.Dec.{eqb}
 use Rattle.lists.specs.Choice.{firstOf, within}
 use Rattle.article.specs.Answer.{Answer, makeAnswer}
@@ -50,9 +50,6 @@ isGb l = eqb (l .issuer) 12
 unfoldable pub isCorporate : Leg → Bool
 isCorporate l = isCorporation (l .issuer)
 
-unfoldable pub isSingleA : Leg → Bool
-isSingleA l = eqb (l .rating) 0
-
 unfoldable pub inCad : Leg → Bool
 inCad l = eqb (l .currency) 0
 
@@ -82,20 +79,21 @@ classRule l s = firstOf ((sameClass l s, Difference) ∷ (mixedClass l s, HalfSu
 unfoldable pub domesticRule : Leg → Leg → Rule
 domesticRule l s = cond (kindsPair l s) (classRule l s) NotAllowed
 
--- exactly one is a bond, and that one is rated single A or higher
-unfoldable pub ratedBond : Leg → Leg → Bool
-ratedBond l s = cond (isBond l) (isStrip s && isSingleA l) (isStrip l && isBond s && isSingleA s)
-
--- paragraph 3, of two legs in CAD, the long a corporation's: of the same issuer, the lesser of 20 percent and the greater rate
-unfoldable pub corporateRule : Leg → Leg → Rule
-corporateRule l s = cond (eqb (l .issuer) (s .issuer) && ratedBond l s) Capped NotAllowed
-
-unfoldable pub cadRule : Leg → Leg → Rule
-cadRule l s = cond (isCorporate l) (corporateRule l s) (domesticRule l s)
-
 -- exactly one is a bond
 unfoldable pub oneBond : Leg → Leg → Bool
 oneBond l s = (isBond l && isStrip s) || (isStrip l && isBond s)
+
+-- the rating of the bond, where just one of the two is one
+unfoldable pub bondRating : Leg → Leg → ℕ
+bondRating l s = cond (isBond l) (l .rating) (s .rating)
+
+-- of the same corporation
+unfoldable pub sameCorporation : Leg → Leg → Bool
+sameCorporation l s = isCorporate l && eqb (l .issuer) (s .issuer)
+
+-- paragraph 3, of two legs in CAD, the bond rated single A or higher, which is 0: the lesser of 20 percent and the greater rate
+unfoldable pub corporateRule : Leg → Leg → Rule
+corporateRule l s = cond (oneBond l s && sameCorporation l s && eqb (bondRating l s) 0) Capped NotAllowed
 
 -- of the same government, Canada, US or GB
 unfoldable pub sameGovernment : Leg → Leg → Bool
@@ -112,9 +110,22 @@ bothCad l s = inCad l && inCad s
 unfoldable pub sameForeign : Leg → Leg → Bool
 sameForeign l s = (inUsd l && inUsd s) || (inGbp l && inGbp s)
 
+-- in CAD: paragraph 3 for a corporation's long, paragraph 2 for any other
+unfoldable pub cadRule : Leg → Leg → Rule
+cadRule l s = cond (isCorporate l) (corporateRule l s) (domesticRule l s)
+
 -- which rule applies, one decision over the currencies, issuers, kinds and ratings of the two legs
 unfoldable pub ruleOf : Leg → Leg → Rule
 ruleOf l s = cond (bothCad l s) (cadRule l s) (cond (sameForeign l s) (foreignRule l s) NotAllowed)
+
+-- two legs in one currency that paragraph 2 does not have, and two of one issuer of which just one is a bond
+pub record Outside (l s : Leg) : Type 0 where
+  pub currency : l .currency ≡ s .currency
+  pub issuer : l .currency ≡ 0 → 10 < l .issuer
+
+pub record OneIssuer (l s : Leg) : Type 0 where
+  pub issuer : l .issuer ≡ s .issuer
+  pub one-bond : oneBond l s ≡ true
 
 -- a rule that allows the pair
 abbrev pub permits : Rule → Bool

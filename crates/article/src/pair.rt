@@ -3,8 +3,8 @@ use holding::Account;
 use holding::Holding;
 ghost use mathlib.Core.Path.{_≡_};
 ghost use Prim.Native.Nat.{_+_, _≤_, max};
-ghost use Rattle.article.specs.Pair.{legOf, kindsPair, classRule, domesticRule, isCorporate, ratedBond, corporateRule, cadRule};
-ghost use Rattle.article.specs.Pair.{oneBond, sameGovernment, foreignRule, ruleOf, permits, ruleRate, rateLimit, RateInRange, Pairs};
+ghost use Rattle.article.specs.Pair.{legOf, kindsPair, classRule, domesticRule, isCorporate, bondRating, corporateRule};
+ghost use Rattle.article.specs.Pair.{oneBond, OneIssuer, foreignRule, Outside, ruleOf, permits, ruleRate, rateLimit, RateInRange, Pairs};
 ghost use Rattle.holding.specs.Holding.{InRange};
 
 // Which rule a pair has.
@@ -111,49 +111,6 @@ pub fn is_corporate(leg: Leg) -> bool
     }
 }
 
-// Whether exactly one of the two is a bond, and that one is rated single A or higher.
-fn rated_bond(long: Leg, short: Leg) -> bool
-    ensures { λ r. ⌜ r ≡ ratedBond long short ⌝ }
-{
-    let first = long.kind;
-    let second = short.kind;
-    match first {
-        0 => match second {
-            1..=2 => long.rating == 0,
-            _ => false,
-        },
-        1..=2 => match second {
-            0 => short.rating == 0,
-            _ => false,
-        },
-        _ => false,
-    }
-}
-
-// Paragraph 3: the greater rate, capped, where just one is a bond, that one is rated and the corporation is the same.
-fn corporate_rule(long: Leg, short: Leg) -> Rule
-    ensures { λ r. ⌜ r ≡ corporateRule long short ⌝ }
-{
-    let issuer = long.issuer;
-    if issuer != short.issuer {
-        return Rule::NotAllowed;
-    }
-    if rated_bond(long, short) {
-        return Rule::Capped;
-    }
-    Rule::NotAllowed
-}
-
-// In CAD: paragraph 3 for a corporation's long, paragraph 2 for any other.
-fn cad_rule(long: Leg, short: Leg) -> Rule
-    ensures { λ r. ⌜ r ≡ cadRule long short ⌝ }
-{
-    if is_corporate(long) {
-        return corporate_rule(long, short);
-    }
-    domestic_rule(long, short)
-}
-
 // Whether exactly one of the two is a bond.
 fn one_bond(long: Leg, short: Leg) -> bool
     ensures { λ r. ⌜ r ≡ oneBond long short ⌝ }
@@ -173,44 +130,75 @@ fn one_bond(long: Leg, short: Leg) -> bool
     }
 }
 
-// Whether the two are of the same government, Canada, US or GB.
-fn same_government(long: Leg, short: Leg) -> bool
-    ensures { λ r. ⌜ r ≡ sameGovernment long short ⌝ }
+// The rating of the bond, where just one of the two is one.
+fn bond_rating(long: Leg, short: Leg) -> u64
+    ensures { λ r. ⌜ r ≡ bondRating long short ⌝ }
 {
-    if long.issuer != short.issuer {
-        return false;
-    }
-    let issuer = long.issuer;
-    match issuer {
-        0 => true,
-        11..=12 => true,
-        _ => false,
+    if long.kind == 0 {
+        long.rating
+    } else {
+        short.rating
     }
 }
 
-// Paragraph 4: the difference where just one is a bond and the government is the same.
-fn foreign_rule(long: Leg, short: Leg) -> Rule
-    ensures { λ r. ⌜ r ≡ foreignRule long short ⌝ }
+// Paragraph 3, of a bond and a strip of one issuer: the greater rate, capped, where that is a corporation and the bond is rated.
+fn corporate_rule(long: Leg, short: Leg) -> Rule
+    requires { ⌜ OneIssuer long short ⌝ }
+    ensures { λ r. ⌜ r ≡ corporateRule long short ⌝ }
 {
-    if one_bond(long, short) && same_government(long, short) {
-        return Rule::Difference;
+    if bond_rating(long, short) != 0 {
+        return Rule::NotAllowed;
+    }
+    if is_corporate(long) {
+        return Rule::Capped;
     }
     Rule::NotAllowed
 }
 
-// The rule by the number of the currency that both legs are in: paragraphs 2 and 3 in CAD, paragraph 4 in a foreign one.
+// Paragraph 4, of a bond and a strip of one issuer: the difference, where that is Canada, US or GB.
+fn foreign_rule(long: Leg, short: Leg) -> Rule
+    requires { ⌜ OneIssuer long short ⌝ }
+    ensures { λ r. ⌜ r ≡ foreignRule long short ⌝ }
+{
+    let issuer = long.issuer;
+    match issuer {
+        0 => Rule::Difference,
+        11 => Rule::Difference,
+        12 => Rule::Difference,
+        _ => Rule::NotAllowed,
+    }
+}
+
+// Paragraphs 3 and 4, by the number of the currency that both legs are in: exactly one is a bond, and the issuer is the same.
+fn outside_rule(long: Leg, short: Leg) -> Rule
+    requires { ⌜ Outside long short ⌝ }
+    ensures { λ r. ⌜ r ≡ ruleOf long short ⌝ }
+{
+    if long.issuer != short.issuer {
+        return Rule::NotAllowed;
+    }
+    if !one_bond(long, short) {
+        return Rule::NotAllowed;
+    }
+    let currency = long.currency;
+    match currency {
+        0 => corporate_rule(long, short),
+        1..=2 => foreign_rule(long, short),
+        _ => Rule::NotAllowed,
+    }
+}
+
+// The rule: paragraph 2 for Canada and the provinces in CAD, paragraphs 3 and 4 for any other. Two currencies have none.
 pub fn rule_of(long: Leg, short: Leg) -> Rule
     ensures { λ r. ⌜ r ≡ ruleOf long short ⌝ }
 {
     if long.currency != short.currency {
         return Rule::NotAllowed;
     }
-    let currency = long.currency;
-    match currency {
-        0 => cad_rule(long, short),
-        1..=2 => foreign_rule(long, short),
-        _ => Rule::NotAllowed,
+    if long.currency == 0 && long.issuer <= 10 {
+        return domestic_rule(long, short);
     }
+    outside_rule(long, short)
 }
 
 fn is_permitted(rule: Rule) -> bool

@@ -7,10 +7,10 @@ use Prim.Native.Nat.{ℕ, _-_, _*_}
 use Prim.Native.String.{String}
 use lib.Dec.{eqb}
 use lib.ListN.{length, getD, take, drop, replicate}
-use Rattle.lists.specs.Tables.{ascii}
+use Rattle.lists.specs.Tables.{ascii, front}
 use Rattle.lists.specs.Choice.{same, firstOf}
 use Rattle.words.specs.Words.{decode, encode}
-use Rattle.holding.specs.Holding.{headFault, accountOf, faultOf, holdingOf}
+use Rattle.holding.specs.Holding.{headFault, accountOf, numbersOf, faultOf, holdingOf, rowOf}
 use Rattle.holding.specs.declared.Head.{Head}
 use Rattle.holding.specs.declared.Row.{Row}
 use Rattle.rates.specs.Rate.{rateOf}
@@ -25,11 +25,14 @@ use Rattle.csv.specs.Reading.{formed}
 use Rattle.layout.specs.Layout.{byPlace, valueOf, letters, Meaning, good, refused, parse}
 use Rattle.layout.specs.declared.Sort.{Sort}
 use Rattle.layout.specs.declared.Value.{Value}
-use Rattle.layout.specs.declared.Value.the-variants.{Of, Wrong}
+use Rattle.layout.specs.declared.Value.the-variants.{Of, Refused}
 use Rattle.columns.specs.Columns.{Columns, makeColumns, submission, column, filled}
 use Rattle.lent.specs.Boundary.{makeLent, answered, outcomeOf}
-use Rattle.reader.specs.File.{submissionOf, atRecord}
+use Rattle.lei.specs.Lei as lei
+use Rattle.lei.specs.Lei.{leiOf, leiText}
+use Rattle.reader.specs.File.{submissionOf, submissionIn, leisIn, fileFault, atRecord}
 use Rattle.received.specs.Reading.{readingAnswer, filling, heading}
+use Rattle.received.specs.Naming.{namingAnswer, naming}
 use Rattle.report.specs.Report.{answerNumbers}
 use Rattle.printing.specs.Printed.{printed}
 
@@ -90,10 +93,14 @@ worked rows lines =
 abbrev pub line : ℕ → ℕ → ℕ → Line
 line long short amount = record { long = long; short = short; amount = amount }
 
--- a value, or none
+-- a value, or none; and its refusal, or none
 abbrev valued : Value → List ℕ
 valued (Of n) = n ∷ []
-valued Wrong = []
+valued (Refused n) = []
+
+abbrev unfit : Value → List ℕ
+unfit (Of n) = []
+unfit (Refused n) = n ∷ []
 
 -- 1 for yes, 0 for no
 abbrev flag : Bool → ℕ
@@ -118,6 +125,10 @@ faults-on date name rows expected = record { name = name; computed = flatMap (al
 
 abbrev pub faults : String → List Row → List ℕ → Case
 faults = faults-on new-year
+
+-- the records of several rows have their numbers
+abbrev pub kept : String → List Row → Case
+kept name rows = record { name = name; computed = flatMap (λ r. numbersOf (rowOf (holdingOf r))) rows; stated = flatMap numbersOf rows }
 
 -- the faults of several valuation dates, 0 for none
 abbrev pub dates : String → List ℕ → List ℕ → Case
@@ -182,6 +193,38 @@ submitted name parsed date = record { name = name; computed = submissionOf parse
 abbrev pub code : String → Sort → List String → List ℕ → Case
 code name sort texts expected = record { name = name; computed = flatMap (λ text. valued (valueOf sort (ascii text))) texts; stated = expected }
 
+-- the refusals of texts that are no values of a sort
+abbrev pub refuses : String → Sort → List String → List ℕ → Case
+refuses name sort texts expected = record { name = name; computed = flatMap (λ text. unfit (valueOf sort (ascii text))) texts; stated = expected }
+
+-- the remainders of texts by 97; the two numbers of each, and the texts that they write; and the text of two numbers
+abbrev pub remainders : String → List String → List ℕ → Case
+remainders name texts expected = record { name = name; computed = map (λ text. lei.remainder (ascii text)) texts; stated = expected }
+
+abbrev pub keys : String → List String → List (ℕ × ℕ) → Case
+keys name texts expected = record {
+  name = name;
+  computed = flatMap (λ text. leiOf (ascii text) .0 ∷ leiOf (ascii text) .1 ∷ []) texts;
+  stated = flatMap (λ k. k .0 ∷ k .1 ∷ []) expected;
+}
+
+abbrev pub writes : String → List (ℕ × ℕ) → List String → Case
+writes name numbers texts = record { name = name; computed = flatMap leiText numbers; stated = flatMap ascii texts }
+
+-- the issuer and the rating of each holding that parsed records submit, and that a text does; and the LEIs of its corporations
+abbrev issuersIn : Submission → List ℕ
+issuersIn s = flatMap (λ r. r .issuer ∷ r .rating ∷ []) (s .rows)
+
+abbrev pub parsedIssuers : String → List Meaning → List ℕ → Case
+parsedIssuers name parsed expected = record { name = name; computed = issuersIn (submissionOf parsed); stated = expected }
+
+abbrev pub issued : String → List ℕ → List ℕ → List String → Case
+issued name text expected texts = record {
+  name = name;
+  computed = answerNumbers (fileFault text) ++ issuersIn (submissionIn text) ++ flatMap leiText (leisIn text);
+  stated = (0 ∷ 0 ∷ 0 ∷ []) ++ expected ++ flatMap ascii texts;
+}
+
 -- how many texts there are of each of several lists
 abbrev pub lists : String → List (List (List ℕ)) → List ℕ → Case
 lists name texts expected = record { name = name; computed = map length texts; stated = expected }
@@ -191,8 +234,20 @@ abbrev refusedAs : Meaning → List ℕ
 refusedAs (refused n) = n ∷ []
 refusedAs (good letter vs) = []
 
+-- the number and the values of a good record, and the number of a refused one
+abbrev meaningNumbers : Meaning → List ℕ
+meaningNumbers (refused n) = n ∷ []
+meaningNumbers (good letter vs) = letter ∷ vs
+
+abbrev pub meanings : String → List (List String) → List ℕ → Case
+meanings name rs expected = record { name = name; computed = flatMap (λ r. meaningNumbers (parse (formed (map ascii r)))) rs; stated = expected }
+
 abbrev pub records : String → List (List (List ℕ)) → ℕ → Case
 records name rs n = record { name = name; computed = flatMap (λ r. refusedAs (parse (formed r))) rs; stated = map (λ _. n) rs }
+
+-- the one refusal of an H with each of several issuers, ratings or other fields
+abbrev pub holdingRecords : String → List (List String) → ℕ → Case
+holdingRecords name texts n = records name (map (λ fields. map ascii ("H" ∷ fields)) texts) n
 
 abbrev pub fields : String → List String → List ℕ → ℕ → Case
 fields name letters counts n = records name (flatMap (λ text. map (λ more. ascii text ∷ replicate more []) counts) letters) n
@@ -217,14 +272,14 @@ encodes name numbers bytes = record { name = name; computed = encode numbers; st
 abbrev zeros : ℕ → List ℕ
 zeros n = replicate n 0
 
--- columns of so many zero bytes each: six of holdings, the prices, three of lines
+-- columns of so many zero bytes each: seven of holdings, the prices, three of lines
 abbrev blank : List ℕ → Columns
-blank z = makeColumns (map zeros (take 6 z)) (zeros (getD z 6 0)) (map zeros (take 3 (drop 7 z)))
+blank z = makeColumns (map zeros (take 7 z)) (zeros (getD z 7 0)) (map zeros (take 3 (drop 8 z)))
 
--- the one number that the check gives to each of several lengths of what a host lends: of ten columns, the two lists and the answer
+-- the one number that the check gives to each of several lengths of what a host lends: of eleven columns, the two lists and the answer
 abbrev pub lengths-on : ℕ → String → List (List ℕ) → ℕ → Case
 lengths-on date name zs n =
-    let found : List ℕ → ℕ = λ z. outcomeOf (head date) (blank z) (makeLent (zeros (getD z 10 0)) (zeros (getD z 11 0)) (zeros (getD z 12 0))) .number in
+    let found : List ℕ → ℕ = λ z. outcomeOf (head date) (blank z) (makeLent (zeros (getD z 11 0)) (zeros (getD z 12 0)) (zeros (getD z 13 0))) .number in
     record { name = name; computed = map found zs; stated = map (λ _. n) zs }
 
 abbrev pub lengths : String → List (List ℕ) → ℕ → Case
@@ -234,7 +289,7 @@ lengths = lengths-on new-year
 abbrev old : Columns
 old =
     let two = encode (0 ∷ 11 ∷ []) in
-    makeColumns (replicate 6 two) two (replicate 3 two)
+    makeColumns (replicate 7 two) two (replicate 3 two)
 
 abbrev held : Columns → List ℕ
 held c = flatMap decode (c .holdings ++ (c .price ∷ c .lines))
@@ -243,7 +298,7 @@ held c = flatMap decode (c .holdings ++ (c .price ∷ c .lines))
 abbrev pub columns : String → List Row → List ℕ → List Line → List ℕ → Case
 columns name rows prices lines expected =
     let c = filled (record { head = head new-year; rows = rows; prices = prices; lines = lines }) old in
-    let numbers : Submission → List ℕ = λ s. flatMap (λ r. r .side ∷ r .kind ∷ r .issuer ∷ r .maturity ∷ r .value ∷ r .currency ∷ []) (s .rows) in
+    let numbers : Submission → List ℕ = λ s. flatMap (λ r. r .side ∷ r .kind ∷ r .issuer ∷ r .maturity ∷ r .value ∷ r .currency ∷ r .rating ∷ []) (s .rows) in
     let named : Submission → List ℕ = λ s. numbers s ++ s .prices ++ flatMap (λ l. l .long ∷ l .short ∷ l .amount ∷ []) (s .lines) ++ (s .head .date ∷ []) in
     record { name = name; computed = held c ++ named (submission (head 12) c); stated = expected }
 
@@ -253,6 +308,14 @@ received name text list slice expected = record {
   name = name;
   computed = column (heading text list old (zeros slice)) list ++ held (filled (filling text list old (zeros slice)) old);
   stated = expected;
+}
+
+-- what is answered of a text whose LEIs are asked for, with a list and an answer slice of so many bytes, and what it leaves in the list, which held nines
+abbrev pub names : String → List ℕ → ℕ → ℕ → List ℕ → List ℕ → Case
+names name text list slice expected bytes = record {
+  name = name;
+  computed = answerNumbers (namingAnswer text (replicate list 9) (zeros slice)) ++ front (naming text (replicate list 9) (zeros slice)) (replicate list 9);
+  stated = expected ++ bytes;
 }
 
 -- an answer slice after 16 at long 1 and short 2 was put into it
@@ -267,22 +330,28 @@ answers name sizes text list slice expected = record {
   stated = flatMap (λ _. expected) sizes;
 }
 
--- a D with its date, and the D of document 01's cases; an H in a currency, an H in CAD, and a P by the other fields that are filled: the empty ones
--- follow, and CRLF
+-- a D with its date, and the D of document 01's cases; an H of a currency and a rating, one of a currency, one in CAD, and a corporation's in CAD by its rating; and a P, by
+-- the other fields that are filled: the empty ones follow, and CRLF
 abbrev pub D-of : String → List ℕ
-D-of date = ascii "D," ++ ascii date ++ ascii ",,,,,,\r\n"
+D-of date = ascii "D," ++ ascii date ++ ascii ",,,,,,,\r\n"
 
 abbrev pub D : List ℕ
 D = D-of "2025-01-01"
 
 abbrev pub emptyFields : List ℕ
-emptyFields = ascii ",,,,"
+emptyFields = ascii ",,,,,"
+
+abbrev pub H-by : String → String → String → List ℕ
+H-by currency rating filled = ascii "H," ++ ascii filled ++ ascii "," ++ ascii currency ++ ascii "," ++ ascii rating ++ ascii "\r\n"
 
 abbrev pub H-in : String → String → List ℕ
-H-in currency filled = ascii "H," ++ ascii filled ++ ascii "," ++ ascii currency ++ ascii "\r\n"
+H-in currency filled = H-by currency "" filled
 
 abbrev pub H : String → List ℕ
 H filled = H-in "CAD" filled
+
+abbrev pub H-rated : String → String → List ℕ
+H-rated rating filled = H-by "CAD" rating filled
 
 abbrev pub P : String → List ℕ
 P filled = ascii "P," ++ ascii filled ++ emptyFields ++ ascii "\r\n"
@@ -291,12 +360,26 @@ P filled = ascii "P," ++ ascii filled ++ emptyFields ++ ascii "\r\n"
 abbrev pub unended : List ℕ → List ℕ
 unended text = take (length text - 2) text
 
--- side, kind, issuer, maturity, value, in CAD; and the same in another currency
+-- side, kind, issuer, maturity, value, currency, rating; a row in CAD without a rating; and the same in another currency, and of a rating
+abbrev whole : ℕ → ℕ → ℕ → ℕ → ℕ → ℕ → ℕ → Row
+whole side kind issuer maturity value currency rating = record {
+  side = side;
+  kind = kind;
+  issuer = issuer;
+  maturity = maturity;
+  value = value;
+  currency = currency;
+  rating = rating;
+}
+
 abbrev pub row : ℕ → ℕ → ℕ → ℕ → ℕ → Row
-row side kind issuer maturity value = record { side = side; kind = kind; issuer = issuer; maturity = maturity; value = value; currency = 0 }
+row side kind issuer maturity value = whole side kind issuer maturity value 0 2
 
 abbrev pub of : ℕ → Row → Row
-of currency r = record { side = r .side; kind = r .kind; issuer = r .issuer; maturity = r .maturity; value = r .value; currency = currency }
+of currency r = whole (r .side) (r .kind) (r .issuer) (r .maturity) (r .value) currency (r .rating)
+
+abbrev pub rated : ℕ → Row → Row
+rated rating r = whole (r .side) (r .kind) (r .issuer) (r .maturity) (r .value) (r .currency) rating
 
 -- the letters and codes of the file's fields
 abbrev pub L : ℕ
@@ -337,6 +420,15 @@ USD = 1
 
 abbrev pub GBP : ℕ
 GBP = 2
+
+abbrev pub Y : ℕ
+Y = 0
+
+abbrev pub N : ℕ
+N = 1
+
+abbrev pub none : ℕ
+none = 2
 
 -- the file's book, and its lines by the first amount
 abbrev pub file : List Row

@@ -54,18 +54,22 @@ actualDays =
     ∷ []
 
 -- a year to its anniversary, and the day after
-unfoldable pub anniversaries : List Case
-anniversaries =
+unfoldable pub wholeYears : List Case
+wholeYears =
     rates-on 20240115 "a year of 366 days: 1,464" (each 20250115 ++ each 20250116) (leap ++ second)
     ∷ rates-on 20250115 "a year of 365 days: 1,460" (each 20260115 ++ each 20260116) (common ++ second)
-    -- 29 February falls on 28 February where there is none
-    ∷ rates-on 20240229 "from 29 February, 365 days and 366" (each 20250228 ++ each 20250301) (common ++ second)
+    ∷ rates-on 20240129 "from 29 January, 366 days and 367" (bonds (20250129 ∷ 20250130 ∷ [])) (1464 ∷ 1460 ∷ [])
+    ∷ rates-on 20240210 "from 10 February, 366 days and 367" (bonds (20250210 ∷ 20250211 ∷ [])) (1464 ∷ 1460 ∷ [])
+    ∷ []
+
+-- 29 February falls on 28 February where there is none
+unfoldable pub anniversaries : List Case
+anniversaries =
+    rates-on 20240229 "from 29 February, 365 days and 366" (each 20250228 ++ each 20250301) (common ++ second)
     ∷ rates-on 20240228 "from 28 February, 366 days and 367" (each 20250228 ++ each 20250301) (leap ++ second)
     ∷ rates-on 20240301 "from 1 March, 365 days and 366" (each 20250301 ++ each 20250302) (common ++ second)
     ∷ rates-on 20230228 "to 28 and 29 February, 365 days and 366" (each 20240228 ++ each 20240229) (common ++ second)
     ∷ rates-on 20230301 "to 1 March, 366 days and 367" (each 20240301 ++ each 20240302) (leap ++ second)
-    ∷ rates-on 20240129 "from 29 January, 366 days and 367" (bonds (20250129 ∷ 20250130 ∷ [])) (1464 ∷ 1460 ∷ [])
-    ∷ rates-on 20240210 "from 10 February, 366 days and 367" (bonds (20250210 ∷ 20250211 ∷ [])) (1464 ∷ 1460 ∷ [])
     ∷ []
 
 -- twenty years, and a maturity of 29 February
@@ -141,8 +145,8 @@ valuations =
     ∷ lent-on 0 "9 before 24 on the valuation date" false true [] (replicate 513 (line 0 0 1)) (9 ∷ 0 ∷ 0 ∷ [])
     ∷ lent-on 0 "2 before 24 on the valuation date" false true [] [] (2 ∷ 0 ∷ 0 ∷ [])
     ∷ lent "2 before 24 of a holding" false true (row L B CA 0 1 ∷ []) [] (2 ∷ 0 ∷ 0 ∷ [])
-    ∷ lengths-on 20250230 "the exported check on no date" ((replicate 12 0 ++ (16 ∷ [])) ∷ []) 24
-    ∷ lengths-on 20250230 "2 before 24 in the exported check" ((replicate 12 0 ++ (15 ∷ [])) ∷ []) 2
+    ∷ lengths-on 20250230 "the exported check on no date" ((replicate 13 0 ++ (16 ∷ [])) ∷ []) 24
+    ∷ lengths-on 20250230 "2 before 24 in the exported check" ((replicate 13 0 ++ (15 ∷ [])) ∷ []) 2
     -- a holding is finished before the next, its maturity before its price
     ∷ proposal "24 at holding 1, before 10 and before lines" (row L C CA 20250102 2 ∷ row S B CA 20250230 2 ∷ []) (8 ∷ 43801 ∷ []) (line 0 2 1 ∷ []) (24 ∷ 1 ∷ 0 ∷ [])
     ∷ proposal "7 at holding 1, before 10 and before lines" (row L C CA 20250102 2 ∷ row S B CA 20250101 2 ∷ []) (8 ∷ 43801 ∷ []) (line 0 2 1 ∷ []) (7 ∷ 1 ∷ 0 ∷ [])
@@ -164,11 +168,11 @@ dateTexts =
     ∷ "12025-02-03" ∷ "2025-02-03-" ∷ "+025-02-03" ∷ "-025-02-03" ∷ "2025--2-03" ∷ "2025-02:03" ∷ "2025-0:-03" ∷ "2025-02-0/" ∷ "03-02-2025" ∷ "2025-02" ∷ "2000" ∷ [])
     []
     -- after D comes a date, and nothing else
-    ∷ records "a D with another field filled" (map (λ j. set (ascii "D" ∷ ascii "2025-01-01" ∷ replicate 6 []) j (ascii "0")) (2 ∷ 3 ∷ 4 ∷ 5 ∷ 6 ∷ 7 ∷ [])) 21
+    ∷ records "a D with another field filled" (map (λ j. set (ascii "D" ∷ ascii "2025-01-01" ∷ replicate 7 []) j (ascii "0")) (2 ∷ 3 ∷ 4 ∷ 5 ∷ 6 ∷ 7 ∷ 8 ∷ [])) 21
     ∷ records "a D with its date in the third field, or with an H's fields"
-    ((ascii "D" ∷ [] ∷ ascii "2025-01-01" ∷ replicate 5 []) ∷ map ascii ("D" ∷ "L" ∷ "B" ∷ "CA" ∷ "2025-01-02" ∷ "1" ∷ "0" ∷ "CAD" ∷ []) ∷ []) 21
+    ((ascii "D" ∷ [] ∷ ascii "2025-01-01" ∷ replicate 6 []) ∷ map ascii ("D" ∷ "L" ∷ "B" ∷ "CA" ∷ "2025-01-02" ∷ "1" ∷ "0" ∷ "CAD" ∷ "" ∷ []) ∷ []) 21
     ∷ records "an H whose maturity is a number of days, or empty"
-    (map (λ maturity. map ascii ("H" ∷ "L" ∷ "B" ∷ "CA" ∷ maturity ∷ "1" ∷ "0" ∷ "CAD" ∷ [])) ("2000" ∷ "" ∷ [])) 21
+    (map (λ maturity. map ascii ("H" ∷ "L" ∷ "B" ∷ "CA" ∷ maturity ∷ "1" ∷ "0" ∷ "CAD" ∷ "" ∷ [])) ("2000" ∷ "" ∷ [])) 21
     ∷ []
 
 -- a file starts with one D: 22 a missing, second or later D, an empty file included; a bad first record has its own number
@@ -182,11 +186,11 @@ valuationRecord =
     ∷ prints "D after H" (D ++ H "L,B,CA,2025-01-02,1,0" ++ D) "X,22,2,0\r\n"
     ∷ prints "D after P" (D ++ P "0,0,1" ++ D) "X,22,2,0\r\n"
     ∷ prints "a first record outside the grammar" (unended D ++ ascii "\n") "X,19,0,0\r\n"
-    ∷ prints "a first record of seven fields" (ascii "D,2025-01-01,,,,,\r\n") "X,20,0,0\r\n"
+    ∷ prints "a first record of eight fields" (ascii "D,2025-01-01,,,,,,\r\n") "X,20,0,0\r\n"
     ∷ prints "an H first with a bad field" (H "L,B,CA,2025-01-02,01,0") "X,21,0,0\r\n"
     ∷ prints "a date of another form" (D-of "2025-1-01") "X,21,0,0\r\n"
     ∷ prints "a date of another form in a second D" (D ++ D-of "2025-1-01") "X,21,1,0\r\n"
-    ∷ prints "a seventh field of D that is filled" (ascii "D,2025-01-01,,,,,0,\r\n") "X,21,0,0\r\n"
+    ∷ prints "a seventh field of D that is filled" (ascii "D,2025-01-01,,,,,0,,\r\n") "X,21,0,0\r\n"
     ∷ prints "D in quotes, without CRLF" (unended (D-of "\"2025-01-01\"")) "M,0,0\r\n"
     ∷ submitted "of two D the first" (good 0 (20240229 ∷ []) ∷ good 0 (20260101 ∷ []) ∷ []) 20240229
     ∷ []
@@ -198,7 +202,11 @@ datedFiles =
     ∷ prints "D alone, on 9999-99-99" (D-of "9999-99-99") "X,24,0,0\r\n"
     ∷ prints "an unreal maturity, at holding 1" (D ++ H "L,B,CA,2025-01-02,1,0" ++ H "L,B,CA,2025-02-30,1,0") "X,24,1,0\r\n"
     ∷ prints "a maturity of another form" (D ++ H "L,B,CA,2025-01-2,1,0") "X,21,1,0\r\n"
-    ∷ prints "a file with 366 days" (D-of "2024-01-15" ++ H "L,B,CA,\"2025-01-15\",100,0") "M,146400,2\r\nR,0,100,146400\r\n"
+    ∷ []
+
+unfoldable pub datedFigures : List Case
+datedFigures =
+    prints "a file with 366 days" (D-of "2024-01-15" ++ H "L,B,CA,\"2025-01-15\",100,0") "M,146400,2\r\nR,0,100,146400\r\n"
     ∷ prints "a file valued on 29 February" (D-of "2024-02-29" ++ H "L,B,ON,2025-02-28,1,0" ++ H "L,B,ON,2025-03-01,1,0") "M,7300,1\r\nR,1,1,4380\r\nR,0,1,2920\r\n"
     ∷ []
 
@@ -207,10 +215,10 @@ abbrev text : List ℕ
 text = D ++ H-in "USD" "S,R,MB,2025-01-02,5,6" ++ P "8,9,10"
 
 abbrev entered : List ℕ
-entered = flatMap (λ n. n ∷ 11 ∷ []) (1 ∷ 2 ∷ 3 ∷ 20250102 ∷ 5 ∷ 1 ∷ 6 ∷ 8 ∷ 9 ∷ 10 ∷ [])
+entered = flatMap (λ n. n ∷ 11 ∷ []) (1 ∷ 2 ∷ 3 ∷ 20250102 ∷ 5 ∷ 1 ∷ 2 ∷ 6 ∷ 8 ∷ 9 ∷ 10 ∷ [])
 
 abbrev untouched : List ℕ
-untouched = flatMap (λ n. n ∷ 11 ∷ []) (replicate 10 0)
+untouched = flatMap (λ n. n ∷ 11 ∷ []) (replicate 11 0)
 
 -- the reader's head list: one entry, 2 where there is none, after all records
 unfoldable pub headAnswers : List Case

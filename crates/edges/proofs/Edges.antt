@@ -14,9 +14,10 @@ use Rattle.dates.specs.Calendar.{isLeap, leapDay, monthLengths, monthLength, is
 use Rattle.dates.specs.Text.{digitsOf, dateText, textNumber, readDate}
 use Rattle.holding.specs.Holding as row
 use Rattle.holding.specs.Holding.{headNumbers, headFaults, headFault, accountOf, outOfTerm, identityFaults, termFaults, worthFaults, moneyFaults, rowFaults, faultOf, holdingOf}
-use Rattle.holding.specs.Holding.{sideOf, kindOf, issuerOf, currencyOf, rowOf}
+use Rattle.holding.specs.Holding.{isCorporation, isIssuer, isRated, sideOf, kindOf, issuerOf, currencyOf, ratingOf, rowOf}
 use Rattle.rates.specs.Rate.{longerThan, atLeast, periodOf, percents, flatRate, bondRate, stripRate, kindRate, rateAt, rateOf}
 use Rattle.article.specs.Pair.{legOf, isLong, isShort, isBond, isStrip, isCanada, isProvince, isUs, isGb, inCad, inUsd, inGbp, kindsPair, sameClass, mixedClass, classRule}
+use Rattle.article.specs.Pair.{isCorporate, isSingleA, ratedBond, corporateRule, cadRule}
 use Rattle.article.specs.Pair.{domesticRule, oneBond, sameGovernment, foreignRule, bothCad, sameForeign, ruleOf, ruleRate, allowed, pairRateOf, savingRateOf, pairOf}
 use Rattle.pairing.specs.Pairing as theory
 use Rattle.pairing.specs.Pairing.{used, saving, pairUnits, pricedTotal}
@@ -29,39 +30,69 @@ use Rattle.codes.specs.Codes.{placeFrom, placeOf}
 use Rattle.csv.specs.Grammar.{isText, isQuotable}
 use Rattle.csv.specs.Reading.{part, textFrom, textEnd, closeFrom, closeAt, followedBy, followed, begins, opens, enclosed}
 use Rattle.csv.specs.Reading.{fieldAt, fieldsFrom, recordAt, recordsFrom, recordsAt, recordsOf}
-use Rattle.layout.specs.Layout.{valueOf, valuesOf, parsedOf, parse}
-use Rattle.reader.specs.File.{parsedIn, valuesBy, submissionOf, atRecord, fileFaults, fileFault, readAnswer}
+use Rattle.lei.specs.Lei as lei
+use Rattle.lei.specs.Lei.{isDigit, isCapital, isCharacter, inForm, halfOf, leiOf, judgedOf, characterOf, characters, leiText}
+use Rattle.lei.specs.Numbering.{sameLei, firstPlace, enter}
+use Rattle.layout.specs.Layout.{valueOf, valuesOf, misrated, parsedOf, parse}
+use Rattle.reader.specs.File.{parsedIn, valuesBy, issuerNumber, knownAfter, numberedFrom, leisFrom, holdingsOf, leisOf, submissionOf}
+use Rattle.reader.specs.File.{atRecord, fileFaults, fileFault, answerTo, readAnswer}
 use Rattle.columns.specs.Columns.{countIn, numbersAt, rowsIn, linesIn, submission, holdingSizes, lineSizes, listsOf, column, filledFrom, filled}
 use Rattle.sizes.specs.Sizes.{entriesOf, unequal, differ, tooShort}
 use Rattle.verdict.specs.Judges.{outcomeIn}
 use Rattle.lent.specs.Boundary.{answered, writtenLists, two, outcomeOf}
 use Rattle.report.specs.Report.{afterComma, lineOf, answerNumbers, refusalLine, marginLine, remainderLine, printedLines, bookLine, printedOf}
 use Rattle.received.specs.Reading.{heldLists, readingAnswer, filling, heading}
+use Rattle.received.specs.Naming.{leiTexts as namedTexts, leisTooShort, namingAnswer, naming}
 use Rattle.printing.specs.Printed.{fileAnswer, printed}
 use Rattle.edges.proofs.Cases.{Case, Agrees, failing, alone, together, judged, worked}
 use Rattle.edges.proofs.Starred.{starred, starredFile}
-use Rattle.edges.proofs.Others.{single, thirdPrice, firstPrice, firstAmount, tooLong, acceptedFiles, files, recordPlaces, holdingNumerals, lineNumerals, recordFaults}
+use Rattle.edges.proofs.Others.{single, thirdPrice, firstPrice, firstAmount, tooLong, acceptedFiles, rankedFile, files, recordPlaces, holdingNumerals, lineNumerals, recordFaults}
 use Rattle.edges.proofs.Others.{lending, reading, readingShort, tooMany, texts, fileProposals, shortcuts, proposals, lineRefusals, refusals}
 use Rattle.edges.proofs.Foreign.{governments, longBonds, longStrips, notParagraph4, twoCurrencies, foreignProvinces, foreignDebt, bothParagraphs, paragraph2Alone}
-use Rattle.edges.proofs.Foreign.{foreignBooks, foreignFile, eighthField}
-use Rattle.edges.proofs.Dated.{actualDays, anniversaries, twentyYears, periodEnds, otherEnds, maturities, valuations, dateTexts, valuationRecord, datedFiles, headAnswers}
-use Rattle.edges.proofs.Dated.{headList, headKept}
+use Rattle.edges.proofs.Foreign.{foreignBooks, foreignFile, sterlingFile, unpairedFiles, eighthField, sevenFields}
+use Rattle.edges.proofs.Dated.{actualDays, wholeYears, anniversaries, twentyYears, periodEnds, otherEnds, maturities, valuations, dateTexts, valuationRecord, datedFiles}
+use Rattle.edges.proofs.Dated.{datedFigures, headAnswers, headList, headKept}
+use Rattle.edges.proofs.Corporate.{groupFive, hedges, longerHedges, capped, belowCap, hedgeEnds, ratedLower, sameKinds, twoCorporations, corporationAndCanada}
+use Rattle.edges.proofs.Corporate.{corporationAndProvince, corporationAbroad, corporationInUsd, corporationInGbp, corporatePeriods, ratingFaults, ratingPlaces}
+use Rattle.edges.proofs.Corporate.{threeParagraphs, withoutParagraph3, hedgedBooks, corporateUnpaired, leis, leiTexts, recordValues, misratedRecords}
+use Rattle.edges.proofs.Corporate.{firstAppearance, mostCorporations, numberedFile, alikeInHalf, noCorporation, corporateColumns, smallCorporateFile}
+use Rattle.edges.proofs.Corporate.{twoIssuersFile, ratedLowerFile, corporateFile, ninthField, beforeOrder, nineFields, namedLeis, namedLonger, namedShort}
+use Rattle.edges.proofs.Corporate.{namedOthers}
 
--- the table: document 01's cases, the starred first, then those of document 02 a) and of b). Most groups are as small as the prover computes when it names
+-- the table: document 01's cases, the starred first, then those of document 02 a), of b) and of d). Most groups are as small as the prover computes when it names
 -- a case that fails; of the others it names the group
+abbrev pub corporateTexts : List (List Case)
+corporateTexts =
+    smallCorporateFile ∷ twoIssuersFile ∷ ratedLowerFile ∷ corporateFile ∷ ninthField ∷ beforeOrder ∷ nineFields ∷ namedLeis ∷ namedLonger
+    ∷ namedShort ∷ namedOthers ∷ []
+
+abbrev pub identifiers : List (List Case)
+identifiers =
+    leis ∷ leiTexts ∷ recordValues ∷ misratedRecords ∷ firstAppearance ∷ mostCorporations ∷ numberedFile ∷ alikeInHalf ∷ noCorporation
+    ∷ corporateColumns ∷ corporateTexts
+
+abbrev pub corporateBooks : List (List Case)
+corporateBooks =
+    ratingFaults ∷ ratingPlaces ∷ threeParagraphs ∷ withoutParagraph3 ∷ hedgedBooks ∷ corporateUnpaired ∷ identifiers
+
+abbrev pub corporatePairs : List (List Case)
+corporatePairs =
+    groupFive ∷ hedges ∷ longerHedges ∷ capped ∷ belowCap ∷ hedgeEnds ∷ ratedLower ∷ sameKinds ∷ twoCorporations ∷ corporationAndCanada
+    ∷ corporationAndProvince ∷ corporationAbroad ∷ corporationInUsd ∷ corporationInGbp ∷ corporatePeriods ∷ corporateBooks
+
 abbrev pub dates : List (List Case)
 dates =
-    actualDays ∷ anniversaries ∷ twentyYears ∷ periodEnds ∷ otherEnds ∷ maturities ∷ valuations ∷ dateTexts ∷ valuationRecord ∷ datedFiles
-    ∷ headAnswers ∷ headList ∷ headKept ∷ []
+    actualDays ∷ wholeYears ∷ anniversaries ∷ twentyYears ∷ periodEnds ∷ otherEnds ∷ maturities ∷ valuations ∷ dateTexts ∷ valuationRecord ∷ datedFiles
+    ∷ datedFigures ∷ headAnswers ∷ headList ∷ headKept ∷ corporatePairs
 
 abbrev pub currencies : List (List Case)
 currencies =
     governments ∷ longBonds ∷ longStrips ∷ notParagraph4 ∷ twoCurrencies ∷ foreignProvinces ∷ foreignDebt ∷ bothParagraphs ∷ paragraph2Alone
-    ∷ foreignBooks ∷ foreignFile ∷ eighthField ∷ dates
+    ∷ foreignBooks ∷ foreignFile ∷ sterlingFile ∷ unpairedFiles ∷ eighthField ∷ sevenFields ∷ dates
 
 abbrev pub table : List (List Case)
 table =
-    starred ∷ starredFile ∷ single ∷ thirdPrice ∷ firstPrice ∷ firstAmount ∷ tooLong ∷ acceptedFiles ∷ files ∷ recordPlaces ∷ holdingNumerals
+    starred ∷ starredFile ∷ single ∷ thirdPrice ∷ firstPrice ∷ firstAmount ∷ tooLong ∷ acceptedFiles ∷ rankedFile ∷ files ∷ recordPlaces ∷ holdingNumerals
     ∷ lineNumerals ∷ recordFaults ∷ lending ∷ reading ∷ readingShort ∷ tooMany ∷ texts ∷ fileProposals ∷ shortcuts ∷ proposals ∷ lineRefusals
     ∷ refusals ∷ currencies
 
@@ -71,26 +102,37 @@ NoneFails groups = Each (λ cs. failing cs ≡ []) groups
 
 none-fails : NoneFails table
 unfolding
-    starred starredFile single thirdPrice firstPrice firstAmount tooLong acceptedFiles files recordPlaces holdingNumerals lineNumerals recordFaults lending reading
-    readingShort tooMany texts fileProposals shortcuts proposals lineRefusals refusals governments longBonds longStrips notParagraph4 twoCurrencies foreignProvinces
-    foreignDebt bothParagraphs paragraph2Alone foreignBooks foreignFile eighthField actualDays anniversaries twentyYears periodEnds otherEnds maturities valuations
-    dateTexts valuationRecord datedFiles headAnswers headList headKept failing alone together judged worked within firstOf some count same insert ordered sumTo sumOf
-    only listTo turns inTurn front holdingSizes lineSizes listsOf writtenLists two entriesOf unequal differ tooShort outcomeIn outcomeOf countIn numbersAt rowsIn
-    linesIn submission column filledFrom filled row.numbersOf lineNumbers answered readAnswer heldLists readingAnswer filling heading isLeap leapDay monthLengths
-    monthLength isReal isDate yearStart monthStart dayNumber daysBetween isLeapDay anniversary digitsOf dateText textNumber readDate headNumbers headFaults headFault
-    accountOf outOfTerm identityFaults termFaults worthFaults moneyFaults rowFaults faultOf holdingOf sideOf kindOf issuerOf currencyOf rowOf longerThan atLeast
-    periodOf percents flatRate bondRate stripRate kindRate rateAt rateOf legOf isLong isShort isBond isStrip isCanada isProvince isUs isGb inCad inUsd inGbp
-    kindsPair sameClass mixedClass classRule domesticRule oneBond sameGovernment foreignRule bothCad sameForeign ruleOf ruleRate allowed pairRateOf savingRateOf
-    pairOf used theory.savingRate saving pairUnits pricedTotal ranksBefore rankingOf bookOf termsOf priced remainder margin unitsOf remaindersOf ranked centsOf
-    atPlace holdingFaults pairFaults lineFaults atHolding bookFaults atLine linesFaults uncovered atPair atLong uncoveredPairs totalsDiffer totalsFaults sizeFaults
-    faults accepted outcome lead digits valueFrom numeralOf placeFrom placeOf isText isQuotable part textFrom textEnd closeFrom closeAt followedBy followed begins
-    opens enclosed fieldAt fieldsFrom recordAt recordsFrom recordsAt recordsOf valueOf valuesOf parsedOf parse parsedIn valuesBy submissionOf atRecord fileFaults
-    fileFault afterComma lineOf answerNumbers refusalLine marginLine remainderLine printedLines bookLine printedOf fileAnswer printed flatMap number littleEndian
-    wordAt entries decode encode
+    starred starredFile single thirdPrice firstPrice firstAmount tooLong acceptedFiles rankedFile files recordPlaces holdingNumerals lineNumerals recordFaults
+    lending reading readingShort tooMany texts fileProposals shortcuts proposals lineRefusals refusals governments longBonds longStrips notParagraph4
+    twoCurrencies foreignProvinces foreignDebt bothParagraphs paragraph2Alone foreignBooks foreignFile sterlingFile unpairedFiles eighthField sevenFields
+    actualDays wholeYears anniversaries twentyYears periodEnds otherEnds maturities valuations dateTexts valuationRecord datedFiles datedFigures headAnswers
+    headList headKept failing alone together judged worked within firstOf some count same insert ordered sumTo sumOf only listTo turns inTurn front holdingSizes
+    lineSizes listsOf writtenLists two entriesOf unequal differ tooShort outcomeIn outcomeOf countIn numbersAt rowsIn linesIn submission column filledFrom
+    filled row.numbersOf lineNumbers answered readAnswer heldLists readingAnswer filling heading isLeap leapDay monthLengths monthLength isReal isDate yearStart
+    monthStart dayNumber daysBetween isLeapDay anniversary digitsOf dateText textNumber readDate headNumbers headFaults headFault accountOf outOfTerm
+    identityFaults termFaults worthFaults moneyFaults rowFaults faultOf holdingOf sideOf kindOf issuerOf currencyOf rowOf longerThan atLeast periodOf percents
+    flatRate bondRate stripRate kindRate rateAt rateOf legOf isLong isShort isBond isStrip isCanada isProvince isUs isGb inCad inUsd inGbp kindsPair sameClass
+    mixedClass classRule domesticRule oneBond sameGovernment foreignRule bothCad sameForeign ruleOf ruleRate allowed pairRateOf savingRateOf pairOf used
+    theory.savingRate saving pairUnits pricedTotal ranksBefore rankingOf bookOf termsOf priced remainder margin unitsOf remaindersOf ranked centsOf atPlace
+    holdingFaults pairFaults lineFaults atHolding bookFaults atLine linesFaults uncovered atPair atLong uncoveredPairs totalsDiffer totalsFaults sizeFaults
+    faults accepted outcome lead digits valueFrom numeralOf placeFrom placeOf isText isQuotable part textFrom textEnd closeFrom closeAt followedBy followed
+    begins opens enclosed fieldAt fieldsFrom recordAt recordsFrom recordsAt recordsOf valueOf valuesOf parsedOf parse parsedIn valuesBy submissionOf atRecord
+    fileFaults fileFault afterComma lineOf answerNumbers refusalLine marginLine remainderLine printedLines bookLine printedOf fileAnswer printed flatMap number
+    littleEndian wordAt entries decode encode isCorporation isIssuer isRated ratingOf isCorporate isSingleA ratedBond corporateRule cadRule isDigit isCapital
+    isCharacter inForm lei.valueOf lei.digitsOf lei.number lei.remainder halfOf leiOf judgedOf characterOf characters leiText sameLei firstPlace enter misrated
+    issuerNumber knownAfter numberedFrom leisFrom holdingsOf leisOf answerTo namedTexts leisTooShort namingAnswer naming groupFive hedges longerHedges capped
+    belowCap hedgeEnds ratedLower sameKinds twoCorporations corporationAndCanada corporationAndProvince corporationAbroad corporationInUsd corporationInGbp
+    corporatePeriods ratingFaults ratingPlaces threeParagraphs withoutParagraph3 hedgedBooks corporateUnpaired leis leiTexts recordValues misratedRecords
+    firstAppearance mostCorporations numberedFile alikeInHalf noCorporation corporateColumns smallCorporateFile twoIssuersFile ratedLowerFile corporateFile
+    ninthField beforeOrder nineFields namedLeis namedLonger namedShort namedOthers
 none-fails =
-    let b : NoneFails dates = (refl, (refl, (refl, (refl, (refl, (refl, (refl, (refl, (refl, (refl, (refl, (refl, (refl, tt))))))))))))) in
-    let a : NoneFails currencies = (refl, (refl, (refl, (refl, (refl, (refl, (refl, (refl, (refl, (refl, (refl, (refl, b)))))))))))) in
-    (refl, (refl, (refl, (refl, (refl, (refl, (refl, (refl, (refl, (refl, (refl, (refl, (refl, (refl, (refl, (refl, (refl, (refl, (refl, (refl, (refl, (refl, (refl, a)))))))))))))))))))))))
+    let f : NoneFails corporateTexts = (refl, (refl, (refl, (refl, (refl, (refl, (refl, (refl, (refl, (refl, (refl, tt))))))))))) in
+    let e : NoneFails identifiers = (refl, (refl, (refl, (refl, (refl, (refl, (refl, (refl, (refl, (refl, f)))))))))) in
+    let d : NoneFails corporateBooks = (refl, (refl, (refl, (refl, (refl, (refl, e)))))) in
+    let c : NoneFails corporatePairs = (refl, (refl, (refl, (refl, (refl, (refl, (refl, (refl, (refl, (refl, (refl, (refl, (refl, (refl, (refl, d))))))))))))))) in
+    let b : NoneFails dates = (refl, (refl, (refl, (refl, (refl, (refl, (refl, (refl, (refl, (refl, (refl, (refl, (refl, (refl, (refl, c))))))))))))))) in
+    let a : NoneFails currencies = (refl, (refl, (refl, (refl, (refl, (refl, (refl, (refl, (refl, (refl, (refl, (refl, (refl, (refl, (refl, b))))))))))))))) in
+    (refl, (refl, (refl, (refl, (refl, (refl, (refl, (refl, (refl, (refl, (refl, (refl, (refl, (refl, (refl, (refl, (refl, (refl, (refl, (refl, (refl, (refl, (refl, (refl, a))))))))))))))))))))))))
 
 -- cases of which none fails agree
 none-each : (cs : List Case) → failing cs ≡ [] → Each Agrees cs

@@ -160,15 +160,23 @@ foreignBooks =
     (0 ∷ 3066000 ∷ 21 ∷ (replicate 6 100 ++ (5 ∷ 4 ∷ 0 ∷ 1 ∷ 3 ∷ 2 ∷ [])))
     ∷ []
 
--- files, from their bytes to the bytes that are printed: pairs of each paragraph, and debt that stays unpaired
+-- files, from their bytes to the bytes that are printed: pairs of each paragraph; and debt that stays unpaired
 unfoldable pub foreignFile : List Case
 foreignFile =
     prints
     "a file with a pair of each paragraph"
     (D ++ H "L,C,CA,2025-01-02,1,0" ++ H "S,B,CA,2025-01-02,1,8" ++ H-in "USD" "L,B,US,2025-01-02,1,8" ++ H-in "\"USD\"" "S,C,US,2025-01-02,2,0" ++ P "0,1,1" ++ P "2,3,1")
     "M,10,1\r\nR,3,1,6\r\nR,0,0,0\r\nR,1,0,0\r\nR,2,0,0\r\n"
-    ∷ prints "a file with a pair in GBP" (D ++ H-in "GBP" "L,R,GB,2025-01-02,1,0" ++ H-in "GBP" "S,B,GB,2025-01-02,1,8" ++ P "0,1,1") "M,2,1\r\nR,0,0,0\r\nR,1,0,0\r\n"
-    ∷ prints "a file with a line on US debt in CAD" (D ++ H "L,B,US,2025-01-02,1,0" ++ H "S,C,US,2025-01-02,1,0" ++ P "0,1,1") "X,13,0,0\r\n"
+    ∷ []
+
+unfoldable pub sterlingFile : List Case
+sterlingFile =
+    prints "a file with a pair in GBP" (D ++ H-in "GBP" "L,R,GB,2025-01-02,1,0" ++ H-in "GBP" "S,B,GB,2025-01-02,1,8" ++ P "0,1,1") "M,2,1\r\nR,0,0,0\r\nR,1,0,0\r\n"
+    ∷ []
+
+unfoldable pub unpairedFiles : List Case
+unpairedFiles =
+    prints "a file with a line on US debt in CAD" (D ++ H "L,B,US,2025-01-02,1,0" ++ H "S,C,US,2025-01-02,1,0" ++ P "0,1,1") "X,13,0,0\r\n"
     ∷ prints "a file with a line on provincial debt in USD" (D ++ H-in "USD" "L,B,ON,2025-01-02,1,0" ++ H-in "USD" "S,C,ON,2025-01-02,1,0" ++ P "0,1,1") "X,13,0,0\r\n"
     ∷ []
 
@@ -179,8 +187,13 @@ eighthField =
     ∷ prints "a currency in small letters" (D ++ H-in "usd" "L,B,US,2025-01-02,1,0") "X,21,1,0\r\n"
     ∷ prints "no currency" (D ++ H-in "" "L,B,CA,2025-01-02,1,0") "X,21,1,0\r\n"
     ∷ prints "a currency by its number" (D ++ H-in "0" "L,B,CA,2025-01-02,1,0") "X,21,1,0\r\n"
-    ∷ prints "an H of seven fields" (D ++ ascii "H,L,B,CA,2025-01-02,1,0\r\n") "X,20,1,0\r\n"
+    ∷ []
+
+-- without it, or filled in a P; and in a record out of order
+unfoldable pub sevenFields : List Case
+sevenFields =
+    prints "an H of seven fields" (D ++ ascii "H,L,B,CA,2025-01-02,1,0\r\n") "X,20,1,0\r\n"
     ∷ prints "a P of seven fields" (D ++ ascii "P,0,0,1,,,\r\n") "X,20,1,0\r\n"
-    ∷ prints "a P with its eighth field filled" (D ++ unended (P "0,0,1") ++ ascii "CAD\r\n") "X,21,1,0\r\n"
+    ∷ prints "a P with its eighth field filled" (D ++ ascii "P,0,0,1,,,,CAD,\r\n") "X,21,1,0\r\n"
     ∷ prints "an unknown currency before H after P" (D ++ P "0,0,1" ++ H-in "EUR" "L,B,CA,2025-01-02,1,0") "X,21,2,0\r\n"
     ∷ []

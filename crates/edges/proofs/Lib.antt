@@ -3,4 +3,5 @@ pub mod Starred
 pub mod Others
 pub mod Foreign
 pub mod Dated
+pub mod Corporate
 pub mod Edges

@@ -7,10 +7,10 @@ use lib.ListN.{take, drop, set, replicate}
 use Rattle.lists.specs.Tables.{ascii}
 use Rattle.holding.specs.declared.Row.{Row}
 use Rattle.layout.specs.declared.Sort.the-variants.{Side, Kind, Issuer, Currency}
-use Rattle.layout.specs.Layout.{Meaning, good, letters, sides, kinds, issuers, currencies}
+use Rattle.layout.specs.Layout.{Meaning, good, letters, sides, kinds, issuers, currencies, ratings}
 use Rattle.edges.proofs.Cases.{Case, rate, fault, faults, pair, no-pair, proposal, lent, figures, prints, record-at, code, lists, fields}
 use Rattle.edges.proofs.Cases.{letter, byte, decodes, encodes, lengths, columns, slice, answers, emptyFields, D, H, P, unended}
-use Rattle.edges.proofs.Cases.{new-year, line, row, of, L, S, B, C, R, CA, ON, QC, CAD, file, file-lines}
+use Rattle.edges.proofs.Cases.{new-year, line, row, of, rated, L, S, B, C, R, CA, ON, QC, CAD, file, file-lines}
 
 -- the book of "Largest saving first", and prices that cover it
 abbrev four : List Row
@@ -32,19 +32,19 @@ abbrev valuation : Meaning
 valuation = good 0 (new-year ∷ [])
 
 abbrev holding : Meaning
-holding = good 1 (L ∷ B ∷ CA ∷ 20250102 ∷ 1 ∷ 0 ∷ CAD ∷ [])
+holding = good 1 (L ∷ B ∷ CA ∷ 20250102 ∷ 1 ∷ 0 ∷ CAD ∷ 2 ∷ 0 ∷ 0 ∷ [])
 
 abbrev pairing : Meaning
 pairing = good 2 (0 ∷ 0 ∷ 1 ∷ [])
 
--- the byte lengths for two holdings and one line: each column of the holdings, the currency's sixth and the price's seventh, each of the lines, the two lists
--- and the answer
+-- the byte lengths for two holdings and one line: each column of the holdings, the currency's sixth, the rating's seventh and the price's eighth, each of the
+-- lines, the two lists and the answer
 abbrev right : List ℕ
-right = replicate 7 16 ++ replicate 3 8 ++ replicate 3 16
+right = replicate 8 16 ++ replicate 3 8 ++ replicate 3 16
 
 -- for one holding and two lines
 abbrev moreLines : List ℕ
-moreLines = replicate 7 8 ++ replicate 3 16 ++ (8 ∷ 8 ∷ 16 ∷ [])
+moreLines = replicate 8 8 ++ replicate 3 16 ++ (8 ∷ 8 ∷ 16 ∷ [])
 
 -- the largest number, and rows that have it from one number on
 abbrev most : ℕ
@@ -136,8 +136,12 @@ acceptedFiles =
     -- the last CRLF is optional, and a quoted field is its text
     prints "quotes, and no CRLF at the end"
     (D ++ H "\"L\",C,CA,2025-01-02,1,0" ++ H "S,\"B\",CA,2025-01-02,1,8" ++ ascii "P,0,1,1,\"\"" ++ drop 1 emptyFields) "M,2,1\r\nR,0,0,0\r\nR,1,0,0\r\n"
-    -- R goes by the ranking
-    ∷ prints "R in ranking order" (D ++ H "L,B,CA,2025-01-02,1,0" ++ H "L,B,CA,2025-01-02,3,0") "M,16,1\r\nR,1,3,12\r\nR,0,1,4\r\n"
+    ∷ []
+
+-- R goes by the ranking
+unfoldable pub rankedFile : List Case
+rankedFile =
+    prints "R in ranking order" (D ++ H "L,B,CA,2025-01-02,1,0" ++ H "L,B,CA,2025-01-02,3,0") "M,16,1\r\nR,1,3,12\r\nR,0,1,4\r\n"
     ∷ []
 
 -- and files that are refused by the check, the empty book, and a lone CRLF
@@ -184,7 +188,7 @@ lineNumerals =
 unfoldable pub recordFaults : List Case
 recordFaults =
     prints "an unknown letter" (D ++ ascii "Q" ++ drop 1 (H "L,B,CA,2025-01-02,1,0")) "X,21,1,0\r\n"
-    ∷ prints "nine fields, at record 2" (D ++ H "L,B,CA,2025-01-02,1,0" ++ H "L,B,CA,2025-01-02,1,0,") "X,20,2,0\r\n"
+    ∷ prints "ten fields, at record 2" (D ++ H "L,B,CA,2025-01-02,1,0" ++ H "L,B,CA,2025-01-02,1,0,") "X,20,2,0\r\n"
     ∷ prints "a fifth field that is filled" (D ++ ascii "P,0,0,1,0" ++ drop 1 emptyFields ++ ascii "\r\n") "X,21,1,0\r\n"
     ∷ prints "a sixth field that is filled" (D ++ ascii "P,0,0,1,,0" ++ drop 2 emptyFields ++ ascii "\r\n") "X,21,1,0\r\n"
     ∷ prints "a seventh field that is filled" (D ++ ascii "P,0,0,1,,,0" ++ drop 3 emptyFields ++ ascii "\r\n") "X,21,1,0\r\n"
@@ -197,18 +201,19 @@ recordFaults =
 -- what columns hold; the answer slice
 unfoldable pub lending : List Case
 lending =
-    lengths "all lengths right, lists of 21 bytes, or more lines than holdings" (right ∷ (take 10 right ++ replicate 3 21) ∷ moreLines ∷ []) 24
-    ∷ lengths "nothing but the answer" ((replicate 12 0 ++ (16 ∷ [])) ∷ []) 0
-    ∷ lengths "1 before 2" (set (set right 6 8) 12 15 ∷ []) 1
-    ∷ lengths "one side, kind, issuer, maturity, value, currency or price" (map (λ j. set right j 8) (0 ∷ 1 ∷ 2 ∷ 3 ∷ 4 ∷ 5 ∷ 6 ∷ [])) 1
-    ∷ lengths "three currencies, three prices, two longs, no short, or two amounts" (set right 5 24 ∷ set right 6 24 ∷ set right 7 16 ∷ set right 8 0 ∷ set right 9 16 ∷ []) 1
+    lengths "all lengths right, lists of 21 bytes, or more lines than holdings" (right ∷ (take 11 right ++ replicate 3 21) ∷ moreLines ∷ []) 24
+    ∷ lengths "nothing but the answer" ((replicate 13 0 ++ (16 ∷ [])) ∷ []) 0
+    ∷ lengths "1 before 2" (set (set right 7 8) 13 15 ∷ []) 1
+    ∷ lengths "one side, kind, issuer, maturity, value, currency, rating or price" (map (λ j. set right j 8) (0 ∷ 1 ∷ 2 ∷ 3 ∷ 4 ∷ 5 ∷ 6 ∷ 7 ∷ [])) 1
+    ∷ lengths "three currencies, three ratings, three prices, two longs, no short, or two amounts"
+    (set right 5 24 ∷ set right 6 24 ∷ set right 7 24 ∷ set right 8 16 ∷ set right 9 0 ∷ set right 10 16 ∷ []) 1
     ∷ lengths "one column of the holdings of 17 bytes, or of the lines of 9"
-    (map (λ j. set right j 17) (0 ∷ 1 ∷ 2 ∷ 3 ∷ 4 ∷ 5 ∷ 6 ∷ []) ++ map (λ j. set right j 9) (7 ∷ 8 ∷ 9 ∷ [])) 1
-    ∷ lengths "holdings of 21 bytes, or lines of 13" ((replicate 7 21 ++ drop 7 right) ∷ (take 7 right ++ replicate 3 13 ++ drop 10 right) ∷ []) 1
-    ∷ lengths "one remainder, one rank, or an answer of 15 bytes" (set right 10 15 ∷ set right 11 15 ∷ set right 12 15 ∷ []) 2
-    ∷ columns "the columns, each number by its name" (of 6 (row 1 2 3 4 5) ∷ []) (7 ∷ []) (line 8 9 10 ∷ [])
-    (flatMap (λ n. n ∷ 11 ∷ []) (1 ∷ 2 ∷ 3 ∷ 4 ∷ 5 ∷ 6 ∷ 7 ∷ 8 ∷ 9 ∷ 10 ∷ [])
-    ++ (1 ∷ 2 ∷ 3 ∷ 4 ∷ 5 ∷ 6 ∷ 11 ∷ 11 ∷ 11 ∷ 11 ∷ 11 ∷ 11 ∷ 7 ∷ 11 ∷ 8 ∷ 9 ∷ 10 ∷ 11 ∷ 11 ∷ 11 ∷ 12 ∷ []))
+    (map (λ j. set right j 17) (0 ∷ 1 ∷ 2 ∷ 3 ∷ 4 ∷ 5 ∷ 6 ∷ 7 ∷ []) ++ map (λ j. set right j 9) (8 ∷ 9 ∷ 10 ∷ [])) 1
+    ∷ lengths "holdings of 21 bytes, or lines of 13" ((replicate 8 21 ++ drop 8 right) ∷ (take 8 right ++ replicate 3 13 ++ drop 11 right) ∷ []) 1
+    ∷ lengths "one remainder, one rank, or an answer of 15 bytes" (set right 11 15 ∷ set right 12 15 ∷ set right 13 15 ∷ []) 2
+    ∷ columns "the columns, each number by its name" (rated 13 (of 6 (row 1 2 3 4 5)) ∷ []) (7 ∷ []) (line 8 9 10 ∷ [])
+    (flatMap (λ n. n ∷ 11 ∷ []) (1 ∷ 2 ∷ 3 ∷ 4 ∷ 5 ∷ 6 ∷ 13 ∷ 7 ∷ 8 ∷ 9 ∷ 10 ∷ [])
+    ++ (1 ∷ 2 ∷ 3 ∷ 4 ∷ 5 ∷ 6 ∷ 13 ∷ 11 ∷ 11 ∷ 11 ∷ 11 ∷ 11 ∷ 11 ∷ 11 ∷ 7 ∷ 11 ∷ 8 ∷ 9 ∷ 10 ∷ 11 ∷ 11 ∷ 11 ∷ 12 ∷ []))
     ∷ slice "15 bytes stay as they were" (replicate 15 9) (replicate 15 9)
     ∷ slice "20 bytes keep the last four" (replicate 20 9) (1 ∷ 0 ∷ 0 ∷ 0 ∷ 0 ∷ 0 ∷ 0 ∷ 0 ∷ 2 ∷ 0 ∷ 0 ∷ 0 ∷ 0 ∷ 0 ∷ 0 ∷ 0 ∷ 9 ∷ 9 ∷ 9 ∷ 9 ∷ [])
     ∷ []
@@ -224,7 +229,7 @@ reading =
 -- or 2 after all records
 unfoldable pub readingShort : List Case
 readingShort =
-    answers "read, and one column too short" (map (λ j. set right j 15) (0 ∷ 1 ∷ 2 ∷ 3 ∷ 4 ∷ 5 ∷ 6 ∷ []) ++ map (λ j. set right j 7) (7 ∷ 8 ∷ 9 ∷ []))
+    answers "read, and one column too short" (map (λ j. set right j 15) (0 ∷ 1 ∷ 2 ∷ 3 ∷ 4 ∷ 5 ∷ 6 ∷ 7 ∷ []) ++ map (λ j. set right j 7) (8 ∷ 9 ∷ 10 ∷ []))
     (D ++ H "L,B,CA,2025-01-02,1,0" ++ H "L,B,CA,2025-01-02,1,0" ++ P "0,0,1") 8 16 (2 ∷ 0 ∷ 0 ∷ [])
     ∷ answers "read, and an answer of 15 bytes" (right ∷ []) (D ++ H "L,B,CA,2025-01-02,1,0") 8 15 (2 ∷ 0 ∷ 0 ∷ [])
     ∷ answers "a bad record before a list and an answer too short" ([] ∷ []) (D ++ H "L,B,CA,2025-01-02,1,0" ++ H "L,B,CA,2025-01-02,01,0") 0 15 (21 ∷ 2 ∷ 0 ∷ [])
@@ -244,9 +249,9 @@ tooMany =
 -- the letters and codes of the file, each with its number, and texts that are none; TEXTDATA at its ends; numbers as bytes
 unfoldable pub texts : List Case
 texts =
-    lists "how many letters, sides, kinds, issuers and currencies" (letters ∷ sides ∷ kinds ∷ issuers ∷ currencies ∷ []) (3 ∷ 2 ∷ 3 ∷ 13 ∷ 3 ∷ [])
-    ∷ fields "a letter with other than seven fields after it" ("D" ∷ "H" ∷ "P" ∷ []) (0 ∷ 1 ∷ 2 ∷ 3 ∷ 4 ∷ 5 ∷ 6 ∷ 8 ∷ 9 ∷ 10 ∷ 20 ∷ []) 20
-    ∷ fields "a letter with seven empty fields after it" ("D" ∷ "H" ∷ "P" ∷ []) (7 ∷ []) 21
+    lists "how many letters, sides, kinds, issuers, currencies and ratings" (letters ∷ sides ∷ kinds ∷ issuers ∷ currencies ∷ ratings ∷ []) (3 ∷ 2 ∷ 3 ∷ 13 ∷ 3 ∷ 3 ∷ [])
+    ∷ fields "a letter with other than eight fields after it" ("D" ∷ "H" ∷ "P" ∷ []) (0 ∷ 1 ∷ 2 ∷ 3 ∷ 4 ∷ 5 ∷ 6 ∷ 7 ∷ 9 ∷ 10 ∷ 20 ∷ []) 20
+    ∷ fields "a letter with eight empty fields after it" ("D" ∷ "H" ∷ "P" ∷ []) (8 ∷ []) 21
     ∷ letter "the letters" ("D" ∷ "H" ∷ "P" ∷ []) (0 ∷ 1 ∷ 2 ∷ [])
     ∷ letter "no letters" ("d" ∷ "h" ∷ "p" ∷ "M" ∷ "" ∷ []) []
     ∷ code "the sides" Side ("L" ∷ "S" ∷ []) (0 ∷ 1 ∷ [])

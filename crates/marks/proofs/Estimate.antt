@@ -12,8 +12,8 @@ use Rattle.lists.proofs.Tests.{within-true, by-test, one-of, either-way}
 use Rattle.holding.proofs.Issuers.{corporation-is, above-range}
 use Rattle.rates.specs.Rate.{flatRate, percents}
 use Rattle.rates.proofs.FlatRates.{flat-high}
-use Rattle.article.proofs.Saved.{of-one-class, of-two-classes, of-one-government, one-bond-of}
-use Rattle.article.specs.Pair.{isBond, isStrip, isCanada, isProvince, isUs, isGb, inCad, inUsd, inGbp, sameClass, mixedClass, oneBond, sameGovernment, bothCad, sameForeign, isCorporate, isSingleA, ratedBond, RateInRange}
+use Rattle.article.proofs.Saved.{of-one-class, of-two-classes, of-one-government, one-bond-of, corporate-legs}
+use Rattle.article.specs.Pair.{isBond, isStrip, isCanada, isProvince, isUs, isGb, inCad, inUsd, inGbp, sameClass, mixedClass, oneBond, sameGovernment, bothCad, sameForeign, isCorporate, bondRating, sameCorporation, RateInRange}
 use Rattle.article.specs.Pair.{permits, allowed, ruleRate, pairRateOf, savingRateOf}
 use Rattle.article.proofs.Legs.{allowed-meets, bonds-no-rule, no-rule, Permitted, one-class, two-classes, one-corporation, one-government, permitted}
 use Rattle.article.specs.declared.pair.Rule.{Rule}
@@ -68,19 +68,17 @@ partner : (l : Leg) → inCad l ≡ true → isOffered l ≡ true → hasPartner
 unfolding hasPartner
 partner l c o = rw (c, o)
 
--- of two legs of a corporation, one the rated bond, paragraph 3 can have both, and just one is a bond
-offered : (l s : Leg) → isCorporate l ≡ true → isCorporate s ≡ true → ratedBond l s ≡ true → (isOffered l ≡ true) × ((isOffered s ≡ true) × (isBond s ≡ not (isBond l)))
-unfolding isOffered ratedBond isStrip isBond
-offered l s n m k =
-    either-way (isBond l)
-    (λ b.
-    let (strip, a) = and-eq-true-iff (isStrip s) (isSingleA l) .0 (rw b at k) in
-    let other = positive 2 (s .kind) strip in
-    (rw (n, b, a), (rw (m, other), rw (b, other))))
-    (λ b.
-    let (kinds, a) = and-eq-true-iff (isStrip l && isBond s) (isSingleA s) .0 (rw b at k) in
-    let (_, bond) = and-eq-true-iff (isStrip l) (isBond s) .0 kinds in
-    (rw (n, b), (rw (m, bond, a), rw (b, bond))))
+-- of a bond and a strip of a corporation, the bond rated, paragraph 3 can have both
+offered : (l s : Leg) → isCorporate l ≡ true → isCorporate s ≡ true → oneBond l s ≡ true → eqb (bondRating l s) 0 ≡ true → (isOffered l ≡ true) × (isOffered s ≡ true)
+unfolding isOffered bondRating isBond isStrip
+offered l s n m k e =
+    ⊎-elim
+    (λ w. let (bond, strip) = w in (rw (n, bond, rw bond at e), rw (m, positive 2 (s .kind) strip)))
+    (λ w.
+    let (strip, bond) = w in
+    let other = positive 2 (l .kind) strip in
+    (rw (n, other), rw (m, bond, rw other at e)))
+    (one-bond-of l s k)
 
 -- the rate that a leg is scanned by: of a government its own, of a corporation's bond too, of its strip a third
 pub own-rate : (l : Leg) → isCorporate l ≡ false → scanRate l ≡ l .rate
@@ -172,14 +170,15 @@ module _ (l s : Leg) (p : l .period ≡ s .period) where
       rw (p, x, y, sought k, foreign, government)
 
   -- in CAD, of one corporation, the bond rated
-  corporate-mark : bothCad l s ≡ true → isCorporate l ≡ true → isCorporate s ≡ true → l .issuer ≡ s .issuer → ratedBond l s ≡ true → shortMark s ≡ soughtMark l
+  corporate-mark : bothCad l s ≡ true → oneBond l s ≡ true → isCorporate l ≡ true → isCorporate s ≡ true → l .issuer ≡ s .issuer → eqb (bondRating l s) 0 ≡ true
+      → shortMark s ≡ soughtMark l
   unfolding shortMark soughtMark bothCad inCad
-  corporate-mark c n m i k =
+  corporate-mark c k n m i rated =
       let (f, g) = and-eq-true-iff (inCad l) (inCad s) .0 c in
       let same : l .currency ≡ s .currency = eqb-true (l .currency) 0 f ∙ sym (eqb-true (s .currency) 0 g) in
-      let (first, (second, other)) = offered l s n m k in
+      let (first, second) = offered l s n m k rated in
       outside-mark (isBond s) s (no-domestic s m) (partner s g second)
-      ∙ (λ t. 4 * (sym p t % 8 + 8 * (sym same t % 4 + 4 * (sym i t % 512))) + cond (other t) 0 2)
+      ∙ (λ t. 4 * (sym p t % 8 + 8 * (sym same t % 4 + 4 * (sym i t % 512))) + cond (sought k t) 0 2)
       ∙ sym (outside-mark (not (isBond l)) l (no-domestic l n) (partner l f first))
 
   -- what a rule saves of two rates, by the marks and the rates that the legs are scanned by
@@ -196,10 +195,9 @@ module _ (l s : Leg) (p : l .period ≡ s .period) where
     by-marks d h (one-government c k e) =
         let (a, b) = of-one-government l s e in
         omega (arith, d (foreign-mark c k e), own-rate l a, own-rate s b)
-    by-marks {x} d h (one-corporation c n i k) =
-        let issuer = eqb-true (l .issuer) (s .issuer) i in
-        let m : isCorporate s ≡ true = (unfold isCorporate in rw issuer at n) in
-        let enough = d (corporate-mark c n m issuer k) in
+    by-marks d h (one-corporation c k e rated) =
+        let (n, (m, issuer)) = corporate-legs l s e in
+        let enough = d (corporate-mark c k n m issuer rated) in
         ⊎-elim
         (λ w.
         le-trans (capped-saving (l .period) (f .bond n (w .0)) (rw (← p) at (g .strip m (w .1))) .0)

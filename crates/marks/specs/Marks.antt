@@ -1,9 +1,10 @@
 -- What a pair asks of its legs as one number each, and the law of an estimate by them: no less than the two save. Assumes nothing.
 use mathlib.Core.{Path._≡_, Bool.Bool, Bool.cond, Bool.not, Bool._&&_, Bool._||_}
 use Prim.Native.Nat.{ℕ, _+_, _*_, _/_, _%_, _≤_}
+use lib.Dec.{eqb}
 use Rattle.article.specs.declared.pair.Leg.{Leg}
 use Rattle.savings.specs.Savings.{savingOf}
-use Rattle.article.specs.Pair.{isLong, isBond, isCanada, isProvince, isUs, isGb, isCorporate, isSingleA, inCad, RateInRange}
+use Rattle.article.specs.Pair.{isLong, isBond, isCanada, isProvince, isUs, isGb, isCorporate, inCad, RateInRange}
 
 -- a leg that paragraph 2 can have: in CAD, of Canada or a province
 unfoldable pub isDomestic : Leg → Bool
@@ -11,7 +12,7 @@ isDomestic l = inCad l && (isCanada l || isProvince l)
 
 -- a leg that paragraph 3 can have: a corporation's strip, or its bond rated single A or higher
 unfoldable pub isOffered : Leg → Bool
-isOffered l = isCorporate l && (not (isBond l) || isSingleA l)
+isOffered l = isCorporate l && (not (isBond l) || eqb (l .rating) 0)
 
 -- a leg of an issuer that paragraph 4 can have
 unfoldable pub isGovernment : Leg → Bool

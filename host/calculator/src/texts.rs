@@ -115,7 +115,7 @@ pub fn last_lines() -> [(&'static str, String, u64); 6] {
         ("a field too many", of_width(good, FIELDS + 1), 20),
         ("an amount of 01", line("0,1,01"), 21),
         (
-            "a government with a rating",
+            "a rating on Canada",
             rated("Y", "L,B,CA,2030-06-24,1,0"),
             25,
         ),

@@ -2,13 +2,13 @@
 use mathlib.Core.Path.{sym, _∙_}
 use borrow.Author.Needs.{needs}
 use borrow.Author.Tests.{eq-eqb, ne-eqb, not-true, not-false}
-use Rattle.article.specs.Pair.{isBond, isSingleA}
+use Rattle.article.specs.Pair.{isBond}
 use Rattle.marks.specs.Marks.{isOffered}
 use Rattle.marks.proofs.is_offered.Statement.{statement}
 use Rattle.marks.proofs.is_offered.Tie as tie
 
 pub is-offered-spec : {M : Type 1} → statement M
-unfolding isOffered isBond isSingleA
+unfolding isOffered isBond
 is-offered-spec =
     tie.close
     (tie.spec
