@@ -52,7 +52,8 @@ module _ (text : List ℕ) where
         each-holding = each-holding;
         each-line = each-line;
         few-holdings =
-            omega (arith, length-map (holdingsOf (parsedIn text)) pricedRow, length-numbered [] (valuesBy 1 (parsedIn text)), few 1 256 (λ before count vs c. c .1 refl) (parsedIn text) (refused 0) (λ k. 0) order (omega arith));
+            let most = few 1 256 (λ before count vs c. c .1 refl) (parsedIn text) (refused 0) (λ k. 0) order (omega arith) in
+            omega (arith, length-map (holdingsOf (parsedIn text)) pricedRow, length-numbered [] (valuesBy 1 (parsedIn text)));
         few-lines =
             omega (arith, length-map (valuesBy 2 (parsedIn text)) lineBy, few 2 512 (λ before count vs c. c .2 refl) (parsedIn text) (refused 0) (λ k. 0) order (omega arith));
       }

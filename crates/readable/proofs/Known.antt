@@ -1,8 +1,8 @@
 -- The LEIs that are known grow at the end: each is an LEI, and stands once. Their numbers find and enter what the texts do. Assumes nothing.
-use mathlib.Core.Path.{_≡_, refl, sym, ap, _∙_}
+use mathlib.Core.Path.{_≡_, sym, ap, _∙_}
 use mathlib.Core.Logic.{_≢_, ⊎-elim}
 use mathlib.Core.List.{List, [], _∷_, _++_, map, map-append}
-use Prim.Native.Nat.{ℕ, zero, suc, _+_, _≤_, _<_}
+use Prim.Native.Nat.{ℕ, suc, _+_, _≤_, _<_}
 use native.Mathlib.Nat.{eq-or-lt-of-le}
 use native.Mathlib.Omega.{arith}
 use lib.Dec.{ltb}
@@ -19,7 +19,7 @@ use Rattle.lei.proofs.Places.{first-here, first-least}
 use Rattle.lei.proofs.Numbers.{enter-known, enter-new}
 use Rattle.lei.proofs.Identifiers.{identifiers}
 use Rattle.codes.specs.Codes.{Named}
-use Rattle.layout.specs.Layout.{issuers, corporation, issuerIn, IsValue}
+use Rattle.layout.specs.Layout.{corporation, issuerIn, IsValue}
 use Rattle.layout.specs.declared.Sort.the-variants.{Issuer}
 use Rattle.reader.specs.File.{leiIn, issuerNumber, knownAfter}
 use Rattle.readable.specs.Readable.{Issued, government, known-corporation, new-corporation}

@@ -108,7 +108,8 @@ module _ {k : ℕ} {vs letter : List ℕ} {texts : List (List ℕ)} (p : Parsed 
   first-values : padded 0 firsts ≡ p .fields
   first-values =
       let same = to-eq n _ _ (λ j h. ap (λ (ws : List ℕ). getD ws j 0) (p .behind) ∙ List·getD-append (p .fields) _ 0 j (omega (arith, few))) in
-      let taken : take n (p .fields) ≡ listTo n (λ j. getD (p .fields) j 0) = rw (to-back (length (p .fields)) (p .fields) 0 refl) at (take-to (length (p .fields)) n (λ j. getD (p .fields) j 0) few) in
+      let all = length (p .fields) in
+      let taken : take n (p .fields) ≡ listTo n (λ j. getD (p .fields) j 0) = rw (to-back all (p .fields) 0 refl) at (take-to all n (λ j. getD (p .fields) j 0) few) in
       rw (length-to n (λ j. getD vs j 0), same, ← taken) (empty-values (listed k) (fieldCount - suc n) (p .are))
 
   pub parsed-record : IsRecord k (letter ∷ texts) firsts

@@ -1,6 +1,6 @@
 -- Records that are read come in order exactly when they are a good D, then good H, then good P, with the head, rows, prices and lines that are parsed, and the
 -- LEIs that are known after them. Assumes nothing.
-use mathlib.Core.Path.{_≡_, refl, sym, ap, _∙_}
+use mathlib.Core.Path.{_≡_, refl, ap}
 use mathlib.Core.Bool.{true, false≢true}
 use mathlib.Core.List.{List, [], _∷_, _++_, map}
 use Prim.Native.Nat.{ℕ, zero, suc, _+_, _≤_}
@@ -13,11 +13,11 @@ use Rattle.holding.specs.Holding.{headNumbers, headBy}
 use Rattle.holding.specs.declared.{Head.Head, Row.Row}
 use Rattle.pairing.specs.declared.Line.{Line}
 use Rattle.proposal.specs.Submission.{Submission, pricedNumbers, pricedRow, rowPrice, lineNumbers, lineBy}
-use Rattle.lei.specs.Lei.{Key, leiOf}
+use Rattle.lei.specs.Lei.{leiOf}
 use Rattle.codes.specs.declared.Place.{Place}
 use Rattle.codes.specs.declared.Place.the-variants.{At}
 use Rattle.csv.specs.Reading.{fieldCount, Read, formed, broken}
-use Rattle.layout.specs.Layout.{issuerIn, AreValues, value-and, IsValue, IsRecord, Meaning, good, refused, mayFollow, parse}
+use Rattle.layout.specs.Layout.{issuerIn, value-and, IsValue, IsRecord, Meaning, good, refused, mayFollow, parse}
 use Rattle.layout.specs.declared.Sort.the-variants.{Issuer}
 use Rattle.layout.proofs.Letters.{parse-good, good-length}
 use Rattle.reader.specs.File.{valuesBy, leiIn, issuerNumber, knownAfter, numberedFrom, leisFrom, holdingsOf, leisOf, submissionOf, letterOf}

@@ -48,7 +48,8 @@ contents-refused text number place f other =
 
 -- all records are read
 module _ {text : List ℕ} {rows : ℕ} {book lines high₀ low₀ book′ lines′ high low : List ℕ} {before : Place} {head : Head} {holdings pairs corporations n i : ℕ}
-    (r : Reading text rows book lines high₀ low₀ book′ lines′ high low before head holdings pairs corporations n i) (end : length text ≤ i) (short : length text ≤ fileLimit) (some : length text ≡ 0 → ⊥) where
+    (r : Reading text rows book lines high₀ low₀ book′ lines′ high low before head holdings pairs corporations n i)
+    (end : length text ≤ i) (short : length text ≤ fileLimit) (some : length text ≡ 0 → ⊥) where
   none-left : length (parsedIn text) ≤ n
   none-left =
       let none : drop n (parsedIn text) ≡ [] = sym (r .passing .rest) ∙ rw (records-end text i end) in

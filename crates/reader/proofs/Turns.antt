@@ -3,7 +3,7 @@
 use mathlib.Core.Path.{_≡_, refl, sym, ap, _∙_}
 use mathlib.Core.Bool.{true, false, false≢true}
 use mathlib.Core.List.{List, [], _∷_, _++_, map, append-nil}
-use Prim.Native.Nat.{ℕ, suc, _+_, _-_, _*_, _≤_, _<_}
+use Prim.Native.Nat.{ℕ, suc, _+_, _*_, _≤_, _<_}
 use native.Mathlib.Numerals.{add-one}
 use native.Mathlib.Omega.{arith}
 use lib.Dec.{ltb}
@@ -30,7 +30,7 @@ use Rattle.layout.specs.declared.Entry.{Entry}
 use Rattle.layout.specs.declared.Parsed.the-variants.{Good, Refused}
 use Rattle.layout.proofs.Letters.{parse-good, good-length, parse-refused}
 use Rattle.reader.specs.File.{parsedIn, valuesBy, withNumber, holdingsOf, leisOf, faultsOf, atRecord, fileLimit, fileFaults, NumbersIssuer}
-use Rattle.reader.proofs.Reading.{values-append, values-few, Passing, countBy, Tabled, heldIn, linedIn, Listed, headIn, Refuses}
+use Rattle.reader.proofs.Reading.{values-append, Passing, countBy, Tabled, heldIn, linedIn, Listed, headIn, Refuses}
 use Rattle.reader.proofs.Numbering.{numbered-more, leis-more, length-numbered, leis-few}
 use Rattle.reader.proofs.Comes.{Comes, comes-exactly}
 

@@ -2,7 +2,7 @@
 use codes::Place;
 use holding::Head;
 use layout::Parsed;
-ghost use Prim.Native.Nat.{_+_, _≤_, _<_};
+ghost use Prim.Native.Nat.{_<_};
 ghost use lib.ListN.{length};
 ghost use Rattle.lei.specs.Numbering.{table};
 ghost use Rattle.reader.specs.File.{TableRoom, NumbersIssuer, ReadsFile};
@@ -34,7 +34,7 @@ fn number_issuer(
 ) -> usize
     requires { ⌜ (count < length (now high)) × (count < length (now low)) ⌝ }
     ensures { λ r. ⌜ NumbersIssuer (table count (now (high .entry)) (now (low .entry))) (table r (now (high .exit)) (now (low .exit)))
-        (now (values .entry)) (now (values .exit)) × (r ≤ count + 1) ⌝ }
+        (now (values .entry)) (now (values .exit)) ⌝ }
 {
     if values[2] != 100 {
         return count;

@@ -125,7 +125,7 @@ module _ (c : tie.After-number-issuer Inv-loop μ-loop) where
       (omega (arith, held-few (good turned), values-few 1 (at (looked turned) .loop .«record») (parsedIn (start (looked turned) .args .text .now)), r .passing .few))
       (looked turned .before .before .loop-test .taken)
       (start (looked turned) .pre .whole-book) (start (looked turned) .pre .enough)
-      (omega (arith, numbered-values (good turned) (r .each-lei) (c .number-issuer .ensures .0))) (omega arith)
+      (omega (arith, numbered-values (good turned) (r .each-lei) (c .number-issuer .ensures))) (omega arith)
 
 loop-again-2 : tie.Need-loop-again-2 Inv-loop μ-loop
 loop-again-2 c =
@@ -136,7 +136,7 @@ loop-again-2 c =
     let m = held few in
     let r = at (looked m) .loop .inv in
     let here = second .if5 .taken in
-    let done = numbered .number-issuer .ensures .0 in
+    let done = numbered .number-issuer .ensures in
     record {
       passing = turn-passing (good m) (follows (second .before .before), λ z full. few .if6 .left (counted m ∙ full), λ z. absurd (omega (arith, here)));
       headed = headed-same (good m) (second .before .if4 .left) (r .headed);
@@ -218,7 +218,7 @@ read-spec =
     (omega (arith, few-known few, lists .long-high, pre .room-high), omega (arith, few-known few, lists .long-low, pre .room-low)))
     (λ c.
     let numbered = c .before .before .before .before .before in
-    sym (numbered-values (good (turned numbered)) (at (looked (turned numbered)) .loop .inv .each-lei) (numbered .number-issuer .ensures .0)))
+    sym (numbered-values (good (turned numbered)) (at (looked (turned numbered)) .loop .inv .each-lei) (numbered .number-issuer .ensures)))
     (λ c. search needs)
     (λ c κs. holding-room (c .before .before .before .before .before .before))
     (λ c. search needs)

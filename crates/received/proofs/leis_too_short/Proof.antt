@@ -1,5 +1,4 @@
 -- `leis_too_short` asks both lengths. Assumes nothing.
-use borrow.Author.Needs.{needs}
 use Rattle.received.proofs.Written.{short-leis, short-answer}
 use Rattle.received.proofs.leis_too_short.Statement.{statement}
 use Rattle.received.proofs.leis_too_short.Tie as tie
