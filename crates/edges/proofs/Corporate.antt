@@ -435,20 +435,25 @@ ninthField =
     ∷ prints "21 before 25" (D ++ H-rated "Y" "L,B,5493001KJTIIGC8Y1R13,2025-01-02,01,0") "X,21,1,0\r\n"
     ∷ []
 
--- 25 before 22
+-- 25 before 22, and before the next record
 unfoldable pub beforeOrder : List Case
 beforeOrder =
     prints "25 before 22, after a P" (D ++ P "0,0,1" ++ H-rated "Y" "L,B,CA,2025-01-02,1,0") "X,25,2,0\r\n"
     ∷ prints "25 before 22, without a D" (H-rated "Y" "L,B,5493001KJTIIGC8Y1R13,2025-01-02,1,0") "X,25,0,0\r\n"
+    ∷ prints "25 before 19 of the next record" (D ++ H-rated "Y" "L,B,CA,2025-01-02,1,0" ++ unended (H "L,B,CA,2025-01-02,1,0") ++ ascii "\n") "X,25,1,0\r\n"
     ∷ []
 
--- before the next record; and 21 and 20
+-- texts in small letters
+unfoldable pub smallLetters : List Case
+smallLetters =
+    prints "a rating in small letters" (D ++ H-rated "y" "L,B,5493001KJTIIGC8Y1R12,2025-01-02,1,0") "X,21,1,0\r\n"
+    ∷ prints "an LEI in small letters" (D ++ H-rated "Y" "L,B,5493001kjtiigc8y1r12,2025-01-02,1,0") "X,21,1,0\r\n"
+    ∷ []
+
+-- records of other than nine fields, and with the ninth filled
 unfoldable pub nineFields : List Case
 nineFields =
-    prints "25 before 19 of the next record" (D ++ H-rated "Y" "L,B,CA,2025-01-02,1,0" ++ unended (H "L,B,CA,2025-01-02,1,0") ++ ascii "\n") "X,25,1,0\r\n"
-    ∷ prints "a rating in small letters" (D ++ H-rated "y" "L,B,5493001KJTIIGC8Y1R12,2025-01-02,1,0") "X,21,1,0\r\n"
-    ∷ prints "an LEI in small letters" (D ++ H-rated "Y" "L,B,5493001kjtiigc8y1r12,2025-01-02,1,0") "X,21,1,0\r\n"
-    ∷ prints "an H of eight fields" (D ++ ascii "H,L,B,CA,2025-01-02,1,0,CAD\r\n") "X,20,1,0\r\n"
+    prints "an H of eight fields" (D ++ ascii "H,L,B,CA,2025-01-02,1,0,CAD\r\n") "X,20,1,0\r\n"
     ∷ prints "a P of eight fields" (D ++ ascii "P,0,0,1,,,,\r\n") "X,20,1,0\r\n"
     ∷ prints "an H of ten fields" (D ++ H-rated "Y," "L,B,5493001KJTIIGC8Y1R12,2025-01-02,1,0") "X,20,1,0\r\n"
     ∷ prints "a P with its ninth field filled" (D ++ unended (P "0,0,1") ++ ascii "Y\r\n") "X,21,1,0\r\n"

@@ -56,15 +56,15 @@ use Rattle.edges.proofs.Corporate.{groupFive, hedges, longerHedges, cap
 use Rattle.edges.proofs.Corporate.{corporationAndProvince, corporationAbroad, corporationInUsd, corporationInGbp, corporatePeriods, ratingFaults, ratingPlaces}
 use Rattle.edges.proofs.Corporate.{threeParagraphs, withoutParagraph3, hedgedBooks, corporateUnpaired, leis, leiTexts, recordValues, misratedRecords}
 use Rattle.edges.proofs.Corporate.{firstAppearance, mostCorporations, numberedFile, alikeInHalf, noCorporation, corporateColumns, smallCorporateFile}
-use Rattle.edges.proofs.Corporate.{twoIssuersFile, ratedLowerFile, corporateFile, ninthField, beforeOrder, nineFields, namedLeis, namedLonger, namedShort}
-use Rattle.edges.proofs.Corporate.{namedOthers}
+use Rattle.edges.proofs.Corporate.{twoIssuersFile, ratedLowerFile, corporateFile, ninthField, beforeOrder, smallLetters, nineFields, namedLeis, namedLonger}
+use Rattle.edges.proofs.Corporate.{namedShort, namedOthers}
 
 -- the table: document 01's cases, the starred first, then those of document 02 a), of b) and of d). Most groups are as small as the prover computes when it names
 -- a case that fails; of the others it names the group
 abbrev pub corporateTexts : List (List Case)
 corporateTexts =
-    smallCorporateFile ∷ twoIssuersFile ∷ ratedLowerFile ∷ corporateFile ∷ ninthField ∷ beforeOrder ∷ nineFields ∷ namedLeis ∷ namedLonger
-    ∷ namedShort ∷ namedOthers ∷ []
+    smallCorporateFile ∷ twoIssuersFile ∷ ratedLowerFile ∷ corporateFile ∷ ninthField ∷ beforeOrder ∷ smallLetters ∷ nineFields ∷ namedLeis
+    ∷ namedLonger ∷ namedShort ∷ namedOthers ∷ []
 
 abbrev pub identifiers : List (List Case)
 identifiers =
@@ -124,9 +124,9 @@ unfolding
     capped belowCap hedgeEnds ratedLower sameKinds twoCorporations corporationAndCanada corporationAndProvince corporationAbroad corporationInUsd
     corporationInGbp corporatePeriods ratingFaults ratingPlaces threeParagraphs withoutParagraph3 hedgedBooks corporateUnpaired leis leiTexts recordValues
     misratedRecords firstAppearance mostCorporations numberedFile alikeInHalf noCorporation corporateColumns smallCorporateFile twoIssuersFile ratedLowerFile
-    corporateFile ninthField beforeOrder nineFields namedLeis namedLonger namedShort namedOthers
+    corporateFile ninthField beforeOrder smallLetters nineFields namedLeis namedLonger namedShort namedOthers
 none-fails =
-    let f : NoneFails corporateTexts = (refl, (refl, (refl, (refl, (refl, (refl, (refl, (refl, (refl, (refl, (refl, tt))))))))))) in
+    let f : NoneFails corporateTexts = (refl, (refl, (refl, (refl, (refl, (refl, (refl, (refl, (refl, (refl, (refl, (refl, tt)))))))))))) in
     let e : NoneFails identifiers = (refl, (refl, (refl, (refl, (refl, (refl, (refl, (refl, (refl, (refl, f)))))))))) in
     let d : NoneFails corporateBooks = (refl, (refl, (refl, (refl, (refl, (refl, e)))))) in
     let c : NoneFails corporatePairs = (refl, (refl, (refl, (refl, (refl, (refl, (refl, (refl, (refl, (refl, (refl, (refl, (refl, (refl, (refl, d))))))))))))))) in
