@@ -1,9 +1,9 @@
 -- The page specs/Identifiers.antt, proved. Assumes nothing.
 use mathlib.Core.Path.{_≡_, refl}
 use mathlib.Core.List.{List, [], _∷_, _++_, append-assoc}
-use Prim.Native.Nat.{ℕ, _+_, _-_, _/_, _%_, _<_}
+use Prim.Native.Nat.{ℕ, _+_, _-_, _*_, _/_, _%_, _<_}
 use native.Mathlib.Omega.{arith}
-use Rattle.lei.specs.Lei.{Key, digitsOf}
+use Rattle.lei.specs.Lei.{Key, digitsOf, number, remainder}
 use Rattle.lei.specs.Identifiers.{CheckDigits, TwoNumbers, Numbered, Identifiers}
 use Rattle.lei.proofs.Characters.{capital-test, low-no-capital, value-capital, value-other}
 use Rattle.lei.proofs.Remainders.{horner}
@@ -32,8 +32,12 @@ unfolding digitsOf
 join [] u = refl
 join (c ∷ t) u = rw (append-assoc, ← join t u)
 
+by-97 : (t : List ℕ) → (number 10 (digitsOf t) ≡ 97 * (number 10 (digitsOf t) / 97) + remainder t) × (remainder t < 97)
+unfolding remainder
+by-97 t = (omega arith, omega arith)
+
 check-digits : CheckDigits
-check-digits = record { digit = digit; capital = capital; join = join; horner = horner; damage = damage }
+check-digits = record { digit = digit; capital = capital; join = join; by-97 = by-97; horner = horner; damage = damage }
 
 two-numbers : TwoNumbers
 two-numbers =

@@ -1,9 +1,9 @@
 -- THE PAGE OF LEIS: what ISO 17442, ISO 7064 and document 02 d) say of them, over the definitions beside it; proofs/Identifiers.antt proves it.
 -- Assumes nothing.
 use mathlib.Core.{Path._≡_, Logic._↔_, Logic._≢_, Bool.true, List.List, List.[], List._∷_, List._++_}
-use Prim.Native.Nat.{ℕ, _+_, _/_, _%_, _^_, _≤_, _<_}
+use Prim.Native.Nat.{ℕ, _+_, _*_, _/_, _%_, _^_, _≤_, _<_}
 use lib.ListN.{length, getD}
-use Rattle.lei.specs.Lei.{Key, Form, IsLei, isCharacter, isCapital, digitsOf, remainder, remainderFrom, noKey, leiOf, leiText, judgedOf}
+use Rattle.lei.specs.Lei.{Key, Form, IsLei, isCharacter, isCapital, digitsOf, number, remainder, remainderFrom, noKey, leiOf, leiText, judgedOf}
 use Rattle.lei.specs.Numbering.{isNew, newBefore, numbersOf}
 use Rattle.lei.specs.declared.Judged.the-variants.{Lei, WrongForm, WrongRemainder}
 
@@ -14,6 +14,8 @@ pub record CheckDigits : Type 0 where
   pub capital : (k : ℕ) → k < 26 → digitsOf ((65 + k) ∷ []) ≡ ((10 + k) / 10) ∷ ((10 + k) % 10) ∷ []
   -- one text behind another has its digits behind the other's
   pub join : (t u : List ℕ) → digitsOf (t ++ u) ≡ digitsOf t ++ digitsOf u
+  -- the remainder is what 97 leaves of the number that the digits write
+  pub by-97 : (t : List ℕ) → (number 10 (digitsOf t) ≡ 97 * (number 10 (digitsOf t) / 97) + remainder t) × (remainder t < 97)
   -- Horner's rule gives the remainder
   pub horner : (t : List ℕ) → remainderFrom 0 t ≡ remainder t
   -- a digit for another digit, or a capital for another capital, changes the remainder
