@@ -1,4 +1,4 @@
--- LEIs that are computed from the definitions: some that are in use, texts that are refused, and numbers by first appearance. Assumes nothing.
+-- LEIs that are computed from the definitions: some that are in use, and texts that are refused. Assumes nothing.
 use mathlib.Core.Path.{_≡_, refl}
 use mathlib.Core.List.{List, [], _∷_, map}
 use Prim.Native.String.{String}
@@ -6,7 +6,6 @@ use lib.ListN.{replicate}
 use Rattle.lists.specs.Choice.{within}
 use Rattle.lists.specs.Tables.{ascii}
 use Rattle.lei.specs.Lei.{isDigit, isCapital, isCharacter, inForm, valueOf, digitsOf, number, remainder, halfOf, leiOf, judgedOf, characterOf, characters, leiText}
-use Rattle.lei.specs.Numbering.{sameLei, firstPlace, enter, numbersFrom, numbersOf}
 use Rattle.lei.specs.declared.Judged.{Judged}
 use Rattle.lei.specs.declared.Judged.the-variants.{Lei, WrongForm, WrongRemainder}
 
@@ -45,8 +44,3 @@ taken = refl
 pub written : leiText (519796030869065, 1880139687297302) ≡ ascii "5493001KJTIIGC8Y1R12"
 unfolding characterOf characters leiText
 written = refl
-
--- the first, another, the first again, a third, the second again
-pub numbered : numbersOf ((7, 0) ∷ (0, 7) ∷ (7, 0) ∷ (7, 7) ∷ (0, 7) ∷ []) ≡ 100 ∷ 101 ∷ 100 ∷ 102 ∷ 101 ∷ []
-unfolding sameLei firstPlace enter numbersFrom numbersOf
-numbered = refl

@@ -3,15 +3,14 @@ use mathlib.Core.Path.{_≡_, refl}
 use mathlib.Core.List.{List, [], _∷_, _++_, append-assoc}
 use Prim.Native.Nat.{ℕ, _+_, _-_, _*_, _/_, _%_, _<_}
 use native.Mathlib.Omega.{arith}
-use Rattle.lei.specs.Lei.{Key, digitsOf, number, remainder}
-use Rattle.lei.specs.Identifiers.{CheckDigits, TwoNumbers, Numbered, Identifiers}
+use Rattle.lei.specs.Lei.{digitsOf, number, remainder}
+use Rattle.lei.specs.Identifiers.{CheckDigits, TwoNumbers, Identifiers}
 use Rattle.lei.proofs.Characters.{capital-test, low-no-capital, value-capital, value-other}
 use Rattle.lei.proofs.Remainders.{horner}
 use Rattle.lei.proofs.Damage.{damage}
 use Rattle.lei.proofs.Judging.{lei-none}
 use Rattle.lei.proofs.Forms.{form-test, judging}
 use Rattle.lei.proofs.Texts.{text-back, lei-exactly, lei-small, numbers-back}
-use Rattle.lei.proofs.Numbers.{number-each, number-same, number-new, number-range, new-exactly}
 
 digit : (k : ℕ) → k < 10 → digitsOf ((48 + k) ∷ []) ≡ k ∷ []
 unfolding digitsOf
@@ -49,19 +48,5 @@ two-numbers =
       again = numbers-back;
     }
 
-numbered : (xs : List Key) → Numbered xs
-numbered xs =
-    record {
-      each = number-each xs;
-      by-first = λ i h.
-          record {
-            same = λ j g. number-same xs i j h g;
-            new = new-exactly xs i h;
-            next = number-new xs i h;
-            least = number-range xs i h .0;
-            most = number-range xs i h .1;
-          };
-    }
-
 pub identifiers : Identifiers
-identifiers = record { check-digits = check-digits; judging = judging; two-numbers = two-numbers; numbered = numbered }
+identifiers = record { check-digits = check-digits; judging = judging; two-numbers = two-numbers }

@@ -6,7 +6,6 @@ pub mod Judging
 pub mod Places
 pub mod Written
 pub mod Texts
-pub mod Numbers
 pub mod Forms
 pub mod Damage
 pub mod Identifiers

@@ -9,12 +9,12 @@ use native.Mathlib.Omega.{arith}
 use lib.Dec.{eqb}
 use lib.ListN.{length, getD, set, drop, drop-of-length-le}
 use lib.Seq.{drop-cons, getD-set-same, getD-set-other}
-use borrow.Author.Tests.{eq-eqb, eqb-true}
+use borrow.Author.Tests.{eq-eqb, eqb-true, lt-ltb, le-ltb}
 use Rattle.lists.specs.Tables.{listTo}
 use Rattle.lists.proofs.Tables.{length-to, getD-to, to-eq}
 use Rattle.lists.proofs.Tests.{by-test}
 use Rattle.lei.specs.Lei.{Key, noKey}
-use Rattle.lei.specs.Numbering.{sameLei, firstPlace, table}
+use Rattle.lei.specs.Numbering.{sameLei, firstPlace, enter, table}
 
 pub same-true : (x y : Key) → sameLei x y ≡ true → x ≡ y
 unfolding sameLei
@@ -72,31 +72,6 @@ module _ (x : Key) where
   first-least (y ∷ ys) (suc k) h e =
       by-test (λ (n : ℕ). n ≤ suc k) (sameLei x y) (λ _. omega arith) (λ _. omega (arith, first-least ys k (omega arith) e))
 
-  -- with more behind the list
-  pub first-in : (ys zs : List Key) → firstPlace x ys < length ys → firstPlace x (ys ++ zs) ≡ firstPlace x ys
-  unfolding firstPlace
-  first-in [] zs h = absurd (omega arith)
-  first-in (y ∷ ys) zs h =
-      one-or-not x y
-      (λ e. first-same y (ys ++ zs) e ∙ sym (first-same y ys e))
-      (λ n. first-other y (ys ++ zs) n ∙ ap suc (first-in ys zs (omega (arith, first-other y ys n))) ∙ sym (first-other y ys n))
-
-  pub first-out : (ys zs : List Key) → firstPlace x ys ≡ length ys → firstPlace x (ys ++ zs) ≡ length ys + firstPlace x zs
-  unfolding firstPlace
-  first-out [] zs h = omega arith
-  first-out (y ∷ ys) zs h =
-      one-or-not x y
-      (λ e. absurd (omega (arith, first-same y ys e)))
-      (λ n. omega (arith, first-other y (ys ++ zs) n, first-out ys zs (omega (arith, first-other y ys n))))
-
--- an LEI alone
-pub first-only : (x y : Key) → x ≢ y → firstPlace x (y ∷ []) ≡ 1
-unfolding firstPlace
-first-only x y n = rw (ne-same x y n)
-
-pub first-alone : (x : Key) → firstPlace x (x ∷ []) ≡ 0
-first-alone x = first-same x x [] refl
-
 -- the LEIs of a table
 pub length-table : (count : ℕ) (high low : List ℕ) → length (table count high low) ≡ count
 unfolding table
@@ -149,3 +124,12 @@ module _ (x : Key) (count : ℕ) (high low : List ℕ) where
         let past : length (table count high low) ≤ i = omega (arith, length-table count high low) in
         let end : firstPlace x (drop i (table count high low)) ≡ 0 = rw (drop-of-length-le (table count high low) past) in
         omega (arith, s .left, s .few)
+
+-- one that is known changes nothing, another joins at the end
+pub enter-known : (known : List Key) (x : Key) → firstPlace x known < length known → enter known x ≡ known
+unfolding enter
+enter-known known x h = rw (lt-ltb (firstPlace x known) (length known) h)
+
+pub enter-new : (known : List Key) (x : Key) → length known ≤ firstPlace x known → enter known x ≡ known ++ (x ∷ [])
+unfolding enter
+enter-new known x h = rw (le-ltb (firstPlace x known) (length known) h)

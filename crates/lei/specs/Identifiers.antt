@@ -3,8 +3,7 @@
 use mathlib.Core.{Path._≡_, Logic._↔_, Logic._≢_, Bool.true, List.List, List.[], List._∷_, List._++_}
 use Prim.Native.Nat.{ℕ, _+_, _*_, _/_, _%_, _^_, _≤_, _<_}
 use lib.ListN.{length, getD}
-use Rattle.lei.specs.Lei.{Key, Form, IsLei, isCharacter, isCapital, digitsOf, number, remainder, remainderFrom, noKey, leiOf, leiText, judgedOf}
-use Rattle.lei.specs.Numbering.{isNew, newBefore, numbersOf}
+use Rattle.lei.specs.Lei.{Form, IsLei, isCharacter, isCapital, digitsOf, number, remainder, remainderFrom, noKey, leiOf, leiText, judgedOf}
 use Rattle.lei.specs.declared.Judged.the-variants.{Lei, WrongForm, WrongRemainder}
 
 -- ISO 7064 MOD 97-10
@@ -36,26 +35,8 @@ pub record TwoNumbers : Type 0 where
   pub small : (t : List ℕ) → Form t → (leiOf t .0 < 36 ^ 10) × (leiOf t .1 < 36 ^ 10)
   pub again : (high low : ℕ) → high < 36 ^ 10 → low < 36 ^ 10 → leiOf (leiText (high, low)) ≡ (high, low)
 
--- the numbers of a list of LEIs, by first appearance
-module _ (xs : List Key) where
-  pub record ByFirst (i : ℕ) : Type 0 where
-    -- the same number exactly for the same LEI
-    pub same : (j : ℕ) → j < length xs → (getD (numbersOf xs) i 0 ≡ getD (numbersOf xs) j 0) ↔ (getD xs i noKey ≡ getD xs j noKey)
-    -- one that stands at no place before is new
-    pub new : (isNew xs i ≡ true) ↔ ((k : ℕ) → k < i → getD xs k noKey ≢ getD xs i noKey)
-    -- a new one has 100 and as many as are new before it: 100, 101, and so on
-    pub next : isNew xs i ≡ true → getD (numbersOf xs) i 0 ≡ 100 + newBefore xs i
-    -- so that there are at most as many numbers as LEIs
-    pub least : 100 ≤ getD (numbersOf xs) i 0
-    pub most : getD (numbersOf xs) i 0 ≤ 100 + i
-
-  pub record Numbered : Type 0 where
-    pub each : length (numbersOf xs) ≡ length xs
-    pub by-first : (i : ℕ) → i < length xs → ByFirst i
-
 -- the page
 pub record Identifiers : Type 0 where
   pub check-digits : CheckDigits
   pub judging : (t : List ℕ) → Judging t
   pub two-numbers : TwoNumbers
-  pub numbered : (xs : List Key) → Numbered xs

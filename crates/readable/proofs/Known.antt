@@ -15,8 +15,7 @@ use Rattle.lists.proofs.Tables.{getD-map-in}
 use Rattle.lists.proofs.Tests.{by-test, either-way, same-or-not}
 use Rattle.lei.specs.Lei.{Key, noKey, IsLei, leiOf}
 use Rattle.lei.specs.Numbering.{sameLei, firstPlace}
-use Rattle.lei.proofs.Places.{first-here, first-least}
-use Rattle.lei.proofs.Numbers.{enter-known, enter-new}
+use Rattle.lei.proofs.Places.{first-here, first-least, enter-known, enter-new}
 use Rattle.lei.proofs.Identifiers.{identifiers}
 use Rattle.codes.specs.Codes.{Named}
 use Rattle.layout.specs.Layout.{corporation, issuerIn, IsValue}

@@ -11,8 +11,7 @@ use borrow.Author.Tests.{eq-eqb, ne-eqb}
 use Rattle.lists.proofs.Tests.{by-test}
 use Rattle.lei.specs.Lei.{Key}
 use Rattle.lei.specs.Numbering.{firstPlace, table, enter}
-use Rattle.lei.proofs.Places.{length-table, table-more}
-use Rattle.lei.proofs.Numbers.{enter-known, enter-new}
+use Rattle.lei.proofs.Places.{length-table, table-more, enter-known, enter-new}
 use Rattle.layout.specs.Layout.{corporation, issuerIn}
 use Rattle.reader.specs.File.{leiIn, issuerNumber, knownAfter, withNumber, numberedFrom, leisFrom, NumbersIssuer}
 
