@@ -7,19 +7,10 @@ use std::collections::HashMap;
 
 use margin_calculator::samples::Random;
 use margin_calculator::texts::{PRINTED, dated, holding, issuer_text, joined, line, rated};
-use margin_calculator::{margin_leis, with_check_digits};
+use margin_calculator::{PUBLISHED, margin_leis, with_check_digits};
 use margin_host::{InvalidLei, Issuer, Lei, raw};
 use support::file::{File, Files, after_date};
 use support::lent::pattern;
-
-/// LEIs of companies, as they are published.
-const PUBLISHED: [&str; 5] = [
-    "5493001KJTIIGC8Y1R12",
-    "7ZW8QJWVPR4P1J1KQY45",
-    "549300MLUDYVRQOOXS22",
-    "HWUPKR0MPOU8FGXBT394",
-    "529900T8BM49AURSDO55",
-];
 
 const DIGITS: &[u8] = b"0123456789";
 const CAPITALS: &[u8] = b"ABCDEFGHIJKLMNOPQRSTUVWXYZ";

@@ -254,8 +254,9 @@ mod tests {
     use super::{Position, Valuation, pair_rate, saving_rate};
     use crate::{NOT_RATED, Row, VALUED};
 
-    fn position_on(date: u64, currency: u64, kind: u64, issuer: u64, maturity: u64) -> Position {
-        let (side, value, rating) = (0, 1, NOT_RATED);
+    /// A position valued on a date, by the numbers of its kind, issuer, maturity, currency and rating.
+    fn valued(date: u64, [kind, issuer, maturity, currency, rating]: [u64; 5]) -> Position {
+        let (side, value) = (0, 1);
         let holding = Row {
             side,
             kind,
@@ -268,19 +269,13 @@ mod tests {
         Position::of(&Valuation::on(date).expect("a date"), &holding)
     }
 
+    fn position_on(date: u64, currency: u64, kind: u64, issuer: u64, maturity: u64) -> Position {
+        valued(date, [kind, issuer, maturity, currency, NOT_RATED])
+    }
+
     /// A position of a corporation, by the number of its currency and of its rating.
     fn corporate(currency: u64, rating: u64, kind: u64, issuer: u64, maturity: u64) -> Position {
-        let (side, value) = (0, 1);
-        let holding = Row {
-            side,
-            kind,
-            issuer,
-            maturity,
-            value,
-            currency,
-            rating,
-        };
-        Position::of(&Valuation::on(VALUED).expect("a date"), &holding)
+        valued(VALUED, [kind, issuer, maturity, currency, rating])
     }
 
     fn position_in(currency: u64, kind: u64, issuer: u64, maturity: u64) -> Position {

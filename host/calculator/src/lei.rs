@@ -57,18 +57,18 @@ pub fn with_check_digits(first: &str) -> String {
     format!("{first}{digits:02}")
 }
 
+/// LEIs of companies, as they are published.
+pub const PUBLISHED: [&str; 5] = [
+    "5493001KJTIIGC8Y1R12",
+    "7ZW8QJWVPR4P1J1KQY45",
+    "549300MLUDYVRQOOXS22",
+    "HWUPKR0MPOU8FGXBT394",
+    "529900T8BM49AURSDO55",
+];
+
 #[cfg(test)]
 mod tests {
-    use super::{in_form, is_good, remainder, with_check_digits};
-
-    /// LEIs of companies, as they are published.
-    const PUBLISHED: [&str; 5] = [
-        "5493001KJTIIGC8Y1R12",
-        "7ZW8QJWVPR4P1J1KQY45",
-        "549300MLUDYVRQOOXS22",
-        "HWUPKR0MPOU8FGXBT394",
-        "529900T8BM49AURSDO55",
-    ];
+    use super::{PUBLISHED, in_form, is_good, remainder, with_check_digits};
 
     #[test]
     fn published_ones_are_good() {

@@ -29,7 +29,7 @@ pub use file::{
     CURRENCIES, FIELDS, ISSUERS, KINDS, MOST_BYTES, RATINGS, SIDES, margin_leis, margin_read,
     print, read,
 };
-pub use lei::with_check_digits;
+pub use lei::{PUBLISHED, with_check_digits};
 pub use optimise::{Best, optimise};
 pub use plain::margin_check;
 pub use sheet::{FIRST_CORPORATION, NOT_RATED, Row, Sheet, VALUED};
