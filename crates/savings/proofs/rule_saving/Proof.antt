@@ -1,4 +1,6 @@
 -- `rule_saving` is `ruleSaving`, by rule: twice the lesser rate, half the sum rounded up, what is above the capped rate, or nothing. Assumes nothing.
+use mathlib.Core.Path.{ap}
+use Prim.Native.Nat.{ℕ, _+_, _-_}
 use native.Mathlib.Omega.{arith}
 use Rattle.article.specs.Pair.{ruleRate}
 use Rattle.savings.specs.Savings.{ruleSaving}
@@ -20,7 +22,9 @@ returns-3 c = rw (c .enum-told2 .given .1) (omega arith)
 
 returns-4 : tie.Need-returns-4
 unfolding ruleSaving
-returns-4 c = rw (c .before .enum-told3 .given .1, ← c .capped .ensures .0)
+returns-4 c =
+    let start = c .before .before .before in
+    rw (c .before .enum-told3 .given .1) (ap (λ (rate : ℕ). start .args .long + start .args .short - rate) (c .capped .ensures .0))
 
 returns-5 : tie.Need-returns-5
 unfolding ruleSaving ruleRate
