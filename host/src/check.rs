@@ -24,8 +24,8 @@ pub struct Accepted {
 
 /// Checks a proposal on a book.
 ///
-/// The call needs less than 36 KiB of stack, whatever the size of the book: when tried with 256 holdings it
-/// returned on a thread of 36 KiB and not on one of 32. The tests call it on a thread of 40 KiB.
+/// The call needs less than 32 KiB of stack, whatever the size of the book: when tried with 256 holdings it
+/// returned on a thread of 32 KiB and not on one of 30. The tests call it on a thread of 40 KiB.
 ///
 /// # Errors
 ///

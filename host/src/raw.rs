@@ -147,8 +147,8 @@ pub fn margin_check(
 /// and a refusal keeps the head and all eleven. An answer slice of 16 bytes or more gets the number of holdings
 /// and the number of lines, or the place and 0; a shorter one is kept.
 ///
-/// The call needs less than 64 KiB of stack, whatever the size of the file: when tried with 256 holdings and
-/// 512 lines, a thread of 64 KiB was enough, and one of 60 KiB was not.
+/// The call needs less than 56 KiB of stack, whatever the size of the file: when tried with 256 holdings and
+/// 512 lines, a thread of 56 KiB was enough, and one of 54 KiB was not.
 ///
 /// ```
 /// use margin_host::{Columns, raw};
