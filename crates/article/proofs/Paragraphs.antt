@@ -196,7 +196,8 @@ canada-leg : (l : Leg) → l .issuer ≡ 0 → (isCanada l ≡ true) × (isProvi
 unfolding isCanada isProvince within
 canada-leg l e = (rw e, rw e)
 
-province-leg : (l : Leg) (p : ℕ) → l .issuer ≡ issuerNumber (Province p) → Government (issuerNumber (Province p)) ⊎ Corporate (issuerNumber (Province p)) → (isCanada l ≡ false) × (isProvince l ≡ true)
+province-leg : (l : Leg) (p : ℕ) → l .issuer ≡ issuerNumber (Province p) → Government (issuerNumber (Province p)) ⊎ Corporate (issuerNumber (Province p))
+    → (isCanada l ≡ false) × (isProvince l ≡ true)
 unfolding isCanada isProvince
 province-leg l p e h =
     let w = province-range p h in

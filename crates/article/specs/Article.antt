@@ -4,7 +4,8 @@ use mathlib.Core.{Path._≡_, Bool.true, Bool.false, Logic._↔_, Logic._⊎_}
 use Prim.Native.Nat.{ℕ, _*_, _≤_, _+_, min, max}
 use Rattle.article.specs.Pair.{legOf, allowed, pairRateOf, savingRateOf}
 use Rattle.rates.specs.{Rate.rateOf, Rate.periodOf, RateTable.Periods, RateTable.RateTable}
-use Rattle.holding.specs.declared.{Head.Head, Account.Account, Side.the-variants.Long, Side.the-variants.Short, Kind.Kind, Kind.the-variants.Bond, Rating.the-variants.SingleA, Holding.Holding, Row.Row}
+use Rattle.holding.specs.declared.{Head.Head, Account.Account, Kind.Kind, Holding.Holding, Row.Row}
+use Rattle.holding.specs.declared.{Side.the-variants.Long, Side.the-variants.Short, Kind.the-variants.Bond, Rating.the-variants.SingleA}
 use Rattle.holding.specs.declared.Issuer.{Issuer, the-variants.Canada, the-variants.Province, the-variants.UnitedStates, the-variants.UnitedKingdom, the-variants.Corporation}
 use Rattle.holding.specs.declared.Currency.{Currency, the-variants.Cad, the-variants.Usd, the-variants.Gbp}
 use Rattle.lists.specs.Choice.{within}

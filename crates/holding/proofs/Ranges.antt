@@ -12,7 +12,8 @@ use Rattle.lists.specs.Choice.{firstOf, within}
 use Rattle.dates.specs.Calendar.{isDate}
 use Rattle.holding.proofs.Terms.{not-out, in-term, out}
 use Rattle.holding.proofs.Issuers.{below-range, above-range, is-corporation, corporation-is, no-corporation, issuer-is, is-issuer, no-issuer, rated-is, is-rated, not-rated}
-use Rattle.holding.specs.Holding.{Government, Corporate, isCorporation, isIssuer, isRated, Identified, Rated, Ranges, InRange, identityFaults, termFaults, worthFaults, moneyFaults, rowFaults, faultOf, RowRefused}
+use Rattle.holding.specs.Holding.{Government, Corporate, isCorporation, isIssuer, isRated, Identified, Rated, Ranges, InRange}
+use Rattle.holding.specs.Holding.{identityFaults, termFaults, worthFaults, moneyFaults, rowFaults, faultOf, RowRefused}
 use Rattle.holding.specs.Holding.{sideNumber, kindNumber, noIssuer, issuerNumber, currencyNumber, ratingNumber, sideOf, kindOf, issuerOf, currencyOf, ratingOf, rowOf, holdingOf}
 use Rattle.holding.specs.declared.Side.{Side}
 use Rattle.holding.specs.declared.Side.the-variants.{Long, Short}

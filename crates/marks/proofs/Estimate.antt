@@ -13,7 +13,8 @@ use Rattle.holding.proofs.Issuers.{corporation-is, above-range}
 use Rattle.rates.specs.Rate.{flatRate, percents}
 use Rattle.rates.proofs.FlatRates.{flat-high}
 use Rattle.article.proofs.Saved.{of-one-class, of-two-classes, of-one-government, one-bond-of, corporate-legs}
-use Rattle.article.specs.Pair.{isBond, isStrip, isCanada, isProvince, isUs, isGb, inCad, inUsd, inGbp, sameClass, mixedClass, oneBond, sameGovernment, bothCad, sameForeign, isCorporate, bondRating, sameCorporation, RateInRange}
+use Rattle.article.specs.Pair.{isBond, isStrip, isCanada, isProvince, isUs, isGb, inCad, inUsd, inGbp}
+use Rattle.article.specs.Pair.{sameClass, mixedClass, oneBond, sameGovernment, bothCad, sameForeign, isCorporate, bondRating, sameCorporation, RateInRange}
 use Rattle.article.specs.Pair.{permits, allowed, ruleRate, pairRateOf, savingRateOf}
 use Rattle.article.proofs.Legs.{allowed-meets, bonds-no-rule, no-rule, Permitted, one-class, two-classes, one-corporation, one-government, permitted}
 use Rattle.article.specs.declared.pair.Rule.{Rule}

@@ -59,7 +59,8 @@ module _ (a : Account) (h : Holding) where
   }
 
   -- a row over a year and below 20 years
-  short : (p : ℕ) → end a 1 < m → m < end a 20 → periodOf a m ≡ p → Rates a h (flatRate 0 p) (flatRate 0 p * 3 / 2) (flatRate 1 p) (flatRate 1 p * 3 / 2) (flatRate 2 p) (flatRate 2 p * 3 / 2)
+  short : (p : ℕ) → end a 1 < m → m < end a 20 → periodOf a m ≡ p
+      → Rates a h (flatRate 0 p) (flatRate 0 p * 3 / 2) (flatRate 1 p) (flatRate 1 p * 3 / 2) (flatRate 2 p) (flatRate 2 p * 3 / 2)
   short p l b e = rates (flat p l e 0) (below-twenty _ a m b) (flat p l e 1) (below-twenty _ a m b) (flat p l e 2) (below-twenty _ a m b)
 
   pub rate-table : RateTable a h

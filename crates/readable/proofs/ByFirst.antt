@@ -68,7 +68,8 @@ issued-most (government named) = omega (arith, named .inside)
 issued-most (known-corporation is at) = omega (arith, at .inside)
 issued-most (new-corporation is new) = omega arith
 
-issued-new : {known then : List (List ℕ)} {t : List ℕ} {v n : ℕ} → Issued known t v n then → 100 ≤ n → ((k : ℕ) → k < length known → getD known k [] ≢ t) → n ≡ 100 + length known
+issued-new : {known then : List (List ℕ)} {t : List ℕ} {v n : ℕ} → Issued known t v n then → 100 ≤ n
+    → ((k : ℕ) → k < length known → getD known k [] ≢ t) → n ≡ 100 + length known
 issued-new (government named) c new = absurd (omega (arith, named .inside))
 issued-new (known-corporation {k = k} is at) c new = absurd (new k (at .inside) (sym (at .here)))
 issued-new (new-corporation is new) c _ = refl

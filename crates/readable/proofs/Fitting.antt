@@ -29,7 +29,8 @@ record HoldingsFit (rows : List Row) (prices : List ℕ) : Type 0 where
   each-price : Fits prices
 
 -- the number of an issuer is one of as many as are known
-holdings-fit : {known leis : List (List ℕ)} {rs : List (List (List ℕ))} {rows : List Row} {prices : List ℕ} → AreHoldings known rs rows prices leis → length leis ≤ 256 → HoldingsFit rows prices
+holdings-fit : {known leis : List (List ℕ)} {rs : List (List (List ℕ))} {rows : List Row} {prices : List ℕ}
+    → AreHoldings known rs rows prices leis → length leis ≤ 256 → HoldingsFit rows prices
 unfolding pricedNumbers numbersOf
 holdings-fit no-holdings few = record { each-row = tt; each-price = tt }
 holdings-fit (holding-and {r = r} {row = row} {price = price} {v = v} is issued rest) few =

@@ -59,7 +59,8 @@ Headed reads s =
     × AreLines lines (s .lines)
 
 -- after a P there is no H
-late : {known leis : List (List ℕ)} {r : List (List ℕ)} {rs : List (List (List ℕ))} {rows : List Row} {prices : List ℕ} → AreHoldings known (r ∷ rs) rows prices leis → (count : ℕ → ℕ)
+late : {known leis : List (List ℕ)} {r : List (List ℕ)} {rs : List (List (List ℕ))} {rows : List Row} {prices : List ℕ}
+    → AreHoldings known (r ∷ rs) rows prices leis → (count : ℕ → ℕ)
     → Comes (At 2) count (parse (formed r)) → ⊥
 late (holding-and {r = r} is issued rest) count c = false≢true ((rw (record-good r 1 _ is) at c) .0)
 

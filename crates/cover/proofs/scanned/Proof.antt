@@ -69,10 +69,11 @@ loop-again c =
     let taken = turn .loop-test .taken in
     let leg = c .before .before .leg-in .ensures in
     let shorts = start .pre .1 in
+    let low = rate-low _ (start .pre .0) taken leg in
     ⊎-elim
     (λ w. closed-row closed taken (w .4 .ensures) (w .5 .left))
     (⊎-elim
-    (λ w. closed-more closed taken (scan-closed (start .args .legs .now) (start .args .price .now) _ leg (w .1 .ensures) (shorts .all _ _ (rate-low _ (start .pre .0) taken leg) (w .2 .ensures (w .3 .left)))))
+    (λ w. closed-more closed taken (scan-closed (start .args .legs .now) (start .args .price .now) _ leg (w .1 .ensures) (shorts .all _ _ low (w .2 .ensures (w .3 .left)))))
     (λ w. closed-more closed taken (λ j _. other-covered (start .args .legs .now) _ _ leg (w .left) j)))
     (c .if1 .came)
 

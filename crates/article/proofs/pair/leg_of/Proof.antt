@@ -16,7 +16,11 @@ rate-requires c κs = search needs
 
 returns : tie.Need-returns
 unfolding legOf
-returns c = (rw (c .before .before .row-of .ensures, c .before .period .ensures .0, c .rate .ensures), λ g. rw (c .before .before .row-of .ensures, c .before .period .ensures .0, c .rate .ensures) (leg-rates _ _ g))
+returns c =
+    let row = c .before .before .row-of .ensures in
+    let period = c .before .period .ensures .0 in
+    let rate = c .rate .ensures in
+    (rw (row, period, rate), λ g. rw (row, period, rate) (leg-rates _ _ g))
 
 pub leg-of-spec : {M : Type 1} → statement M
 leg-of-spec = tie.close (tie.spec row-of-requires period-requires rate-requires returns)
