@@ -1,29 +1,40 @@
--- A head has no fault exactly when its valuation date is one. Assumes nothing.
+-- A head has no fault exactly when its valuation date is one and its letter is one of the two. Assumes nothing.
 use mathlib.Core.Path.{_≡_, refl, sym, _∙_}
-use mathlib.Core.Bool.{true, false}
-use Prim.Native.Nat.{ℕ, _<_}
+use mathlib.Core.Bool.{true, false, and-false}
+use Prim.Native.Nat.{ℕ, _≤_, _<_}
 use native.Mathlib.Omega.{arith}
-use Rattle.lists.specs.Choice.{firstOf}
-use Rattle.lists.proofs.Tests.{either-way, same-or-not}
-use borrow.Author.Tests.{eq-eqb, ne-eqb}
+use lib.Dec.{leb}
+use Rattle.lists.specs.Choice.{firstOf, within}
+use Rattle.lists.proofs.Tests.{either-way, same-or-not, true-within}
+use borrow.Author.Tests.{eq-eqb, ne-eqb, lt-leb, leb-true, leb-false}
 use Rattle.dates.specs.Calendar.{isDate}
 use Rattle.dates.proofs.Tested.{date-high}
-use Rattle.holding.specs.Holding.{headNumbers, headFaults, headFault, accountOf, headedOf, HeadKept}
+use Rattle.holding.specs.Holding.{headNumbers, headFaults, headFault, letterOf, accountOf, headedOf, HeadKept}
 use Rattle.holding.specs.declared.Head.{Head}
 use Rattle.holding.specs.declared.Account.{Account}
 use Rattle.holding.specs.declared.Headed.the-variants.{For, NoAccount}
 
 module _ (h : Head) where
-  pub valued-head : isDate (h .date) ≡ true → headFault h ≡ 0
+  pub sound-head : isDate (h .date) ≡ true → h .letter ≤ 1 → headFault h ≡ 0
   unfolding headFault headFaults firstOf
-  valued-head e = rw e
+  sound-head e l = rw (e, true-within 0 1 (h .letter) (omega arith) l)
 
   pub unvalued-head : isDate (h .date) ≡ false → headFault h ≡ 24
   unfolding headFault headFaults firstOf
   unvalued-head e = rw e
 
+  pub unlettered-head : isDate (h .date) ≡ true → 1 < h .letter → headFault h ≡ 26
+  unfolding headFault headFaults firstOf within
+  unlettered-head e l = rw (e, lt-leb (h .letter) 1 l, and-false (leb 0 (h .letter)))
+
   pub head-valued : headFault h ≡ 0 → isDate (h .date) ≡ true
   head-valued e = either-way (isDate (h .date)) (λ t. t) (λ f. let never : 24 ≡ 0 = sym (unvalued-head f) ∙ e in absurd (omega arith))
+
+  pub head-lettered : headFault h ≡ 0 → h .letter ≤ 1
+  head-lettered e =
+      either-way (leb (h .letter) 1)
+      (leb-true (h .letter) 1)
+      (λ f. let never : 26 ≡ 0 = sym (unlettered-head (head-valued e) (leb-false (h .letter) 1 f)) ∙ e in absurd (omega arith))
 
   -- its date is small
   pub head-fits : headFault h ≡ 0 → h .date < 4294967296
@@ -34,14 +45,17 @@ module _ (h : Head) where
   head-account e = rw (eq-eqb (headFault h) 0 e)
 
   pub head-kept : HeadKept h
-  unfolding accountOf headNumbers
+  unfolding accountOf headNumbers letterOf
   head-kept = record {
     numbers = refl;
     back = refl;
-    no-fault = valued-head;
+    no-fault = sound-head;
     unreal = unvalued-head;
-    made = λ e. head-account (valued-head e);
-    kept = refl;
+    neither = unlettered-head;
+    made = λ e l. head-account (sound-head e l);
+    date = refl;
+    participant = λ e. rw e;
+    client = λ e. rw e;
   }
 
   pub head-none : (headFault h ≡ 0 → ⊥) → headedOf h ≡ NoAccount

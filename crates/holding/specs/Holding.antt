@@ -1,4 +1,5 @@
--- Document 01, "A holding", document 02 a), its currency, b), dates, and d), corporations: the ranges of raw numbers, and the records that numbers within them make. Assumes nothing.
+-- Document 01, "A holding", document 02 a), its currency, b), dates, d), corporations, and e), the account's letter: the ranges of raw numbers, and the records that
+-- numbers within them make. Assumes nothing.
 use mathlib.Core.{Path._≡_, Bool.Bool, Bool.cond, Bool.not, Bool._||_, Bool.true, Bool.false, List.List, List.[], List._∷_, List._++_, Logic._⊎_}
 use Prim.Native.Nat.{ℕ, _≤_, _<_}
 use lib.{Dec.eqb, Dec.ltb, Dec.leb, ListN.getD}
@@ -8,6 +9,7 @@ use Rattle.holding.specs.declared.{Side.Side, Side.the-variants.Long, Si
 use Rattle.holding.specs.declared.Issuer.{Issuer, the-variants.Canada, the-variants.Province, the-variants.UnitedStates, the-variants.UnitedKingdom, the-variants.Corporation}
 use Rattle.holding.specs.declared.Rating.{Rating, the-variants.SingleA, the-variants.Lower, the-variants.NotGiven}
 use Rattle.holding.specs.declared.{Currency.Currency, Currency.the-variants.Cad, Currency.the-variants.Usd, Currency.the-variants.Gbp, Holding.Holding, Row.Row, Head.Head, Account.Account}
+use Rattle.holding.specs.declared.AccountKind.{AccountKind, the-variants.Participant, the-variants.Client}
 use Rattle.holding.specs.declared.Headed.{Headed, the-variants.For, the-variants.NoAccount}
 use Rattle.holding.specs.declared.Built.{Built, the-variants.Made, the-variants.Refused}
 
@@ -17,21 +19,29 @@ valueLimit = 100000000000
 
 -- the head of a submission, what is said once for all of its holdings: its numbers, and the head of such a list
 unfoldable pub headNumbers : Head → List ℕ
-headNumbers h = h .date ∷ []
+headNumbers h = h .date ∷ h .letter ∷ []
 
 abbrev pub headBy : List ℕ → Head
-headBy xs = record { date = getD xs 0 0 }
+headBy xs = record { date = getD xs 0 0; letter = getD xs 1 0 }
 
--- 24 a valuation date that is unreal or outside the years 1900 to 2299
+-- 24 a valuation date that is unreal or outside the years 1900 to 2299, after it 26 a letter that is neither `P` nor `C`
 unfoldable pub headFaults : Head → List (Bool × ℕ)
-headFaults h = (not (isDate (h .date)), 24) ∷ []
+headFaults h = (not (isDate (h .date)), 24) ∷ (not (within 0 1 (h .letter)), 26) ∷ []
 
 unfoldable pub headFault : Head → ℕ
 headFault h = firstOf (headFaults h) 0
 
--- the account of a head: it is valued on this date
+-- the account's letter: 0 `P`, an approved participant's, 1 `C`, a client's; and from a number to its case
+abbrev pub letterNumber : AccountKind → ℕ
+letterNumber Participant = 0
+letterNumber Client = 1
+
+unfoldable pub letterOf : ℕ → AccountKind
+letterOf n = cond (eqb n 0) Participant Client
+
+-- the account of a head: it is valued on this date and has this letter
 unfoldable pub accountOf : Head → Account
-accountOf h = record { date = h .date }
+accountOf h = record { date = h .date; letter = letterOf (h .letter) }
 
 -- a head without fault has its account, any other none
 unfoldable pub headedOf : Head → Headed
@@ -226,14 +236,18 @@ pub record Builds (a : Account) (row : Row) (r : Built) : Type 0 where
   pub number : numberOf r ≡ faultOf a row
   pub built : r ≡ builtOf a row
 
--- a head is its valuation date alone; it is refused, with 24, exactly when that is unreal or outside the years, and else it is the account's
+-- a head is its valuation date and its letter; it is refused, with 24, when the date is unreal or outside the years, else with 26 when the letter is neither of the two,
+-- and else these are the account's: 0 is `P`, an approved participant's, and 1 is `C`, a client's
 pub record HeadKept (h : Head) : Type 0 where
-  pub numbers : headNumbers h ≡ h .date ∷ []
-  pub back : headBy (h .date ∷ []) ≡ h
-  pub no-fault : isDate (h .date) ≡ true → headFault h ≡ 0
+  pub numbers : headNumbers h ≡ h .date ∷ h .letter ∷ []
+  pub back : headBy (h .date ∷ h .letter ∷ []) ≡ h
+  pub no-fault : isDate (h .date) ≡ true → h .letter ≤ 1 → headFault h ≡ 0
   pub unreal : isDate (h .date) ≡ false → headFault h ≡ 24
-  pub made : isDate (h .date) ≡ true → headedOf h ≡ For (accountOf h)
-  pub kept : accountOf h .date ≡ h .date
+  pub neither : isDate (h .date) ≡ true → 1 < h .letter → headFault h ≡ 26
+  pub made : isDate (h .date) ≡ true → h .letter ≤ 1 → headedOf h ≡ For (accountOf h)
+  pub date : accountOf h .date ≡ h .date
+  pub participant : h .letter ≡ 0 → accountOf h .letter ≡ Participant
+  pub client : h .letter ≡ 1 → accountOf h .letter ≡ Client
 
 -- the refusal that a row has: of the first of side, kind, issuer, maturity, value, currency and rating that is outside its range
 pub record RowRefused (a : Account) (r : Row) : Type 0 where

@@ -1,7 +1,7 @@
 // A holding and the account that it is valued in: raw numbers, their ranges, and the records that numbers within them make.
 ghost use mathlib.Core.Path.{_≡_};
 ghost use Rattle.lists.specs.Choice.{firstOf};
-ghost use Rattle.holding.specs.Holding.{headFault, headedOf, identityFaults, termFaults, worthFaults, moneyFaults, faultOf, Builds};
+ghost use Rattle.holding.specs.Holding.{headFault, letterOf, letterNumber, headedOf, identityFaults, termFaults, worthFaults, moneyFaults, faultOf, Builds};
 ghost use Rattle.holding.specs.Holding.{sideOf, kindOf, isCorporation, isIssuer, issuerOf, currencyOf, isRated, ratingOf};
 ghost use Rattle.holding.specs.Holding.{sideNumber, kindNumber, issuerNumber, currencyNumber, ratingNumber, rowOf};
 
@@ -37,14 +37,22 @@ pub enum Rating {
     NotGiven,
 }
 
-// What is said once for all holdings, as it comes, of any size: the valuation date as a number YYYYMMDD.
+// Whose account it is, by its letter: an approved participant's, `P`, or a client's, `C`.
+pub enum AccountKind {
+    Participant,
+    Client,
+}
+
+// What is said once for all holdings, as it comes, of any size: the valuation date as a number YYYYMMDD, and the number of the account's letter.
 pub struct Head {
     pub date: u64,
+    pub letter: u64,
 }
 
 // The account of a head without fault.
 pub struct Account {
     pub date: u32,
+    pub letter: AccountKind,
 }
 
 pub struct Holding {
@@ -80,14 +88,36 @@ pub enum Built {
     Refused(u64),
 }
 
-// The fault of a head: 24 for a valuation date that is none, or 0.
+// The first fault of a head: 24 for a valuation date that is none, 26 for a letter that is neither, or 0.
 pub fn head_fault(head: Head) -> u64
     ensures { λ r. ⌜ r ≡ headFault head ⌝ }
 {
     if !dates::is_date(head.date) {
         return 24;
     }
+    if head.letter > 1 {
+        return 26;
+    }
     0
+}
+
+fn letter_of(letter: u64) -> AccountKind
+    ensures { λ r. ⌜ r ≡ letterOf letter ⌝ }
+{
+    match letter {
+        0 => AccountKind::Participant,
+        _ => AccountKind::Client,
+    }
+}
+
+// The number of a letter.
+pub fn letter_number(letter: AccountKind) -> u64
+    ensures { λ r. ⌜ r ≡ letterNumber letter ⌝ }
+{
+    match letter {
+        AccountKind::Participant => 0,
+        AccountKind::Client => 1,
+    }
 }
 
 // The account of a head, or that it has a fault.
@@ -97,8 +127,10 @@ pub fn account_of(head: Head) -> Headed
     if head_fault(head) != 0 {
         return Headed::NoAccount;
     }
+    let letter = letter_of(head.letter);
     Headed::For(Account {
         date: head.date as u32,
+        letter,
     })
 }
 
