@@ -1,4 +1,4 @@
--- THE PAGE OF HOLDINGS, RATES AND PAIRS: what document 01 and document 02 a), b) and d) say of them, in their own words; proofs/Article.antt proves it. What a date, an
+-- THE PAGE OF HOLDINGS, RATES AND PAIRS: what document 01 and document 02 a), b), d) and e) say of them, in their own words; proofs/Article.antt proves it. What a date, an
 -- anniversary and the days between are, is on the page Dates. Assumes nothing.
 use mathlib.Core.{Path._≡_, Bool.true, Bool.false, Logic._↔_, Logic._⊎_}
 use Prim.Native.Nat.{ℕ, _*_, _≤_, _+_, min, max}
@@ -7,6 +7,7 @@ use Rattle.rates.specs.{Rate.rateOf, Rate.periodOf, RateTable.Periods, RateTabl
 use Rattle.holding.specs.declared.{Head.Head, Account.Account, Kind.Kind, Holding.Holding, Row.Row}
 use Rattle.holding.specs.declared.{Side.the-variants.Long, Side.the-variants.Short, Kind.the-variants.Bond, Rating.the-variants.SingleA}
 use Rattle.holding.specs.declared.Issuer.{Issuer, the-variants.Canada, the-variants.Province, the-variants.UnitedStates, the-variants.UnitedKingdom, the-variants.Corporation}
+use Rattle.holding.specs.declared.AccountKind.{the-variants.Participant, the-variants.Client}
 use Rattle.holding.specs.declared.Currency.{Currency, the-variants.Cad, the-variants.Usd, the-variants.Gbp}
 use Rattle.lists.specs.Choice.{within}
 use Rattle.holding.specs.Holding.{HeadKept, Ranges, InRange, faultOf, RowRefused, rowOf, holdingOf, Numbers}
@@ -68,18 +69,18 @@ pub record Paragraph3 (l s : Holding) : Type 0 where
   pub long-rated : l .kind ≡ Bond → l .rating ≡ SingleA
   pub short-rated : s .kind ≡ Bond → s .rating ≡ SingleA
 
--- one of the three paragraphs
-pub data ByParagraph (l s : Holding) : Type 0 where
-  by-2 : Paragraph2 l s → ByParagraph l s
-  by-3 : Paragraph3 l s → ByParagraph l s
-  by-4 : Paragraph4 l s → ByParagraph l s
+-- one of the three paragraphs: the article gives 3 and 4 to approved participants, and 2 to clients as well
+pub data ByParagraph (a : Account) (l s : Holding) : Type 0 where
+  by-2 : Paragraph2 l s → ByParagraph a l s
+  by-3 : a .letter ≡ Participant → Paragraph3 l s → ByParagraph a l s
+  by-4 : a .letter ≡ Participant → Paragraph4 l s → ByParagraph a l s
 
 -- one long and one short may be paired if both lie in the same period and one of the paragraphs has them; nothing else pairs
 pub record MayPair (a : Account) (l s : Holding) : Type 0 where
   pub first-long : l .side ≡ Long
   pub second-short : s .side ≡ Short
   pub period : periodOf a (l .maturity) ≡ periodOf a (s .maturity)
-  pub paragraph : ByParagraph l s
+  pub paragraph : ByParagraph a l s
 
 -- what two holdings within the ranges have as a pair
 pub record Pairing (a : Account) (l s : Holding) : Type 0 where
@@ -95,6 +96,21 @@ pub record Pairing (a : Account) (l s : Holding) : Type 0 where
   -- the saving rate is the sum of the two rates less the pair's rate, between 0 and 43,800
   pub saving : pairRateOf (legOf a l) (legOf a s) + savingRateOf (legOf a l) (legOf a s) ≡ rateOf a l + rateOf a s
   pub saving-range : savingRateOf (legOf a l) (legOf a s) ≤ 43800
+
+-- a client's account and a participant's, valued on one date
+abbrev pub clientOn : ℕ → Account
+clientOn date = record { date = date; letter = Client }
+
+abbrev pub participantOn : ℕ → Account
+participantOn date = record { date = date; letter = Participant }
+
+-- a client may pair what a participant may pair by paragraph 2, and nothing else, at the same rate
+pub record ClientPairs (date : ℕ) (l s : Holding) : Type 0 where
+  pub may : MayPair (clientOn date) l s ↔ (MayPair (participantOn date) l s × Paragraph2 l s)
+  pub same-rate : MayPair (clientOn date) l s
+      → pairRateOf (legOf (clientOn date) l) (legOf (clientOn date) s) ≡ pairRateOf (legOf (participantOn date) l) (legOf (participantOn date) s)
+  -- and what a holding has alone is the same for both
+  pub alone : rateOf (clientOn date) l ≡ rateOf (participantOn date) l
 
 -- in no pair, as the long or as the short
 pub record Unpaired (h : Holding) : Type 0 where
@@ -131,3 +147,4 @@ pub record Article : Type 0 where
   pub rates : (a : Account) (h : Holding) → RateTable a h
   pub pairs : (a : Account) (l s : Holding) → InRange a l → InRange a s → Pairing a l s
   pub no-pairs : (h : Holding) → StayUnpaired h
+  pub clients : (date : ℕ) (l s : Holding) → ClientPairs date l s

@@ -1,18 +1,19 @@
--- Document 01, "A pair", from the article's Group XI(2), document 02 a), from Group XI(4), and d), from Group XI(3). Assumes nothing.
+-- Document 01, "A pair", from the article's Group XI(2), document 02 a), from Group XI(4), d), from Group XI(3), and e), who may have them. Assumes nothing.
 use mathlib.Core.{Bool.Bool, Bool.true, Bool.false, Bool.cond, Bool._&&_, Bool._||_, Path._≡_, List.[], List._∷_, Logic._⊎_}
 use Prim.Native.Nat.{ℕ, _+_, _-_, _*_, _/_, _≤_, _<_, min, max}
 use lib.Dec.{eqb}
 use Rattle.lists.specs.Choice.{firstOf, within}
 use Rattle.article.specs.Answer.{Answer, makeAnswer}
 use Rattle.rates.specs.Rate.{periodOf, rateOf, flatRate}
-use Rattle.holding.specs.Holding.{rowOf, isCorporation}
+use Rattle.holding.specs.Holding.{letterNumber, rowOf, isCorporation}
 use Rattle.holding.specs.declared.{Account.Account, Holding.Holding}
 use Rattle.article.specs.declared.pair.{Rule.Rule, Rule.the-variants.Difference, Rule.the-variants.HalfSum, Rule.the-variants.Capped, Rule.the-variants.NotAllowed, Leg.Leg, Pair.Pair}
 use Rattle.article.specs.declared.pair.Pair.the-variants as pairs
 
--- what a pair asks of a holding in an account: the numbers of its side, kind, issuer, currency and rating, its period, and its rate alone
+-- what a pair asks of a holding in an account: the number of the account's letter, those of its side, kind, issuer, currency and rating, its period, and its rate alone
 unfoldable pub legOf : Account → Holding → Leg
 legOf a h = record {
+  letter = letterNumber (a .letter);
   side = rowOf h .side;
   kind = rowOf h .kind;
   issuer = rowOf h .issuer;
@@ -21,6 +22,10 @@ legOf a h = record {
   period = periodOf a (h .maturity);
   rate = rateOf a h;
 }
+
+-- an approved participant's
+unfoldable pub isParticipant : Leg → Bool
+isParticipant l = eqb (l .letter) 0
 
 unfoldable pub isLong : Leg → Bool
 isLong l = eqb (l .side) 0
@@ -79,6 +84,10 @@ classRule l s = firstOf ((sameClass l s, Difference) ∷ (mixedClass l s, HalfSu
 unfoldable pub domesticRule : Leg → Leg → Rule
 domesticRule l s = cond (kindsPair l s) (classRule l s) NotAllowed
 
+-- the article gives paragraphs 3 and 4 to approved participants
+unfoldable pub areParticipants : Leg → Leg → Bool
+areParticipants l s = isParticipant l && isParticipant s
+
 -- exactly one is a bond
 unfoldable pub oneBond : Leg → Leg → Bool
 oneBond l s = (isBond l && isStrip s) || (isStrip l && isBond s)
@@ -91,17 +100,17 @@ bondRating l s = cond (isBond l) (l .rating) (s .rating)
 unfoldable pub sameCorporation : Leg → Leg → Bool
 sameCorporation l s = isCorporate l && eqb (l .issuer) (s .issuer)
 
--- paragraph 3, of two legs in CAD, the bond rated single A or higher, which is 0: the lesser of 20 percent and the greater rate
+-- paragraph 3, of a participant's two legs in CAD, the bond rated single A or higher, which is 0: the lesser of 20 percent and the greater rate
 unfoldable pub corporateRule : Leg → Leg → Rule
-corporateRule l s = cond (oneBond l s && sameCorporation l s && eqb (bondRating l s) 0) Capped NotAllowed
+corporateRule l s = cond (areParticipants l s && oneBond l s && sameCorporation l s && eqb (bondRating l s) 0) Capped NotAllowed
 
 -- of the same government, Canada, US or GB
 unfoldable pub sameGovernment : Leg → Leg → Bool
 sameGovernment l s = (isCanada l && isCanada s) || (isUs l && isUs s) || (isGb l && isGb s)
 
--- paragraph 4, of two legs in the same foreign currency: the difference
+-- paragraph 4, of a participant's two legs in the same foreign currency: the difference
 unfoldable pub foreignRule : Leg → Leg → Rule
-foreignRule l s = cond (oneBond l s && sameGovernment l s) Difference NotAllowed
+foreignRule l s = cond (areParticipants l s && oneBond l s && sameGovernment l s) Difference NotAllowed
 
 -- both in CAD, and both in the same foreign currency, USD or GBP
 unfoldable pub bothCad : Leg → Leg → Bool
@@ -114,11 +123,11 @@ sameForeign l s = (inUsd l && inUsd s) || (inGbp l && inGbp s)
 unfoldable pub cadRule : Leg → Leg → Rule
 cadRule l s = cond (isCorporate l) (corporateRule l s) (domesticRule l s)
 
--- which rule applies, one decision over the currencies, issuers, kinds and ratings of the two legs
+-- which rule applies, one decision over the currencies, issuers, kinds, ratings and letters of the two legs
 unfoldable pub ruleOf : Leg → Leg → Rule
 ruleOf l s = cond (bothCad l s) (cadRule l s) (cond (sameForeign l s) (foreignRule l s) NotAllowed)
 
--- two legs in one currency that paragraph 2 does not have, and two of one issuer of which just one is a bond
+-- two legs in one currency that paragraph 2 does not have, and a participant's two of one issuer of which just one is a bond
 pub record Outside (l s : Leg) : Type 0 where
   pub currency : l .currency ≡ s .currency
   pub issuer : l .currency ≡ 0 → 10 < l .issuer
@@ -126,6 +135,7 @@ pub record Outside (l s : Leg) : Type 0 where
 pub record OneIssuer (l s : Leg) : Type 0 where
   pub issuer : l .issuer ≡ s .issuer
   pub one-bond : oneBond l s ≡ true
+  pub participants : areParticipants l s ≡ true
 
 -- a rule that allows the pair
 abbrev pub permits : Rule → Bool

@@ -1,2 +1,2 @@
-// Article 7204 of the Bourse de Montréal, Group XI paragraphs 2 and 4: what margin a long and a short need as a pair.
+// Article 7204 of the Bourse de Montréal, Group XI paragraphs 2, 3 and 4: what margin a long and a short need as a pair.
 pub mod pair;

@@ -4,7 +4,7 @@ use holding::Holding;
 ghost use mathlib.Core.Path.{_≡_};
 ghost use Prim.Native.Nat.{_+_, _≤_, max};
 ghost use Rattle.article.specs.Pair.{legOf, kindsPair, classRule, domesticRule, isCorporate, bondRating, corporateRule};
-ghost use Rattle.article.specs.Pair.{oneBond, OneIssuer, foreignRule, Outside, ruleOf, permits, ruleRate, rateLimit, RateInRange, Pairs};
+ghost use Rattle.article.specs.Pair.{areParticipants, oneBond, OneIssuer, foreignRule, Outside, ruleOf, permits, ruleRate, rateLimit, RateInRange, Pairs};
 ghost use Rattle.holding.specs.Holding.{InRange};
 
 // Which rule a pair has.
@@ -15,8 +15,9 @@ pub enum Rule {
     NotAllowed,
 }
 
-// What a pair asks of one leg: the numbers of its side, kind, issuer, currency and rating, its period, and its rate alone.
+// What a pair asks of one leg: the number of its account's letter, those of its side, kind, issuer, currency and rating, its period, and its rate alone.
 pub struct Leg {
+    pub letter: u64,
     pub side: u64,
     pub kind: u64,
     pub issuer: u64,
@@ -37,7 +38,9 @@ pub fn leg_of(account: Account, h: Holding) -> Leg
     ensures { λ r. ⌜ (r ≡ legOf account h) × (InRange account h → RateInRange r) ⌝ }
 {
     let row = holding::row_of(h);
+    let letter = account.letter;
     Leg {
+        letter: holding::letter_number(letter),
         side: row.side,
         kind: row.kind,
         issuer: row.issuer,
@@ -141,7 +144,7 @@ fn bond_rating(long: Leg, short: Leg) -> u64
     }
 }
 
-// Paragraph 3, of a bond and a strip of one issuer: the greater rate, capped, where that is a corporation and the bond is rated.
+// Paragraph 3, of a participant's bond and strip of one issuer: the greater rate, capped, where that is a corporation and the bond is rated.
 fn corporate_rule(long: Leg, short: Leg) -> Rule
     requires { ⌜ OneIssuer long short ⌝ }
     ensures { λ r. ⌜ r ≡ corporateRule long short ⌝ }
@@ -155,7 +158,7 @@ fn corporate_rule(long: Leg, short: Leg) -> Rule
     Rule::NotAllowed
 }
 
-// Paragraph 4, of a bond and a strip of one issuer: the difference, where that is Canada, US or GB.
+// Paragraph 4, of a participant's bond and strip of one issuer: the difference, where that is Canada, US or GB.
 fn foreign_rule(long: Leg, short: Leg) -> Rule
     requires { ⌜ OneIssuer long short ⌝ }
     ensures { λ r. ⌜ r ≡ foreignRule long short ⌝ }
@@ -169,7 +172,17 @@ fn foreign_rule(long: Leg, short: Leg) -> Rule
     }
 }
 
-// Paragraphs 3 and 4, by the number of the currency that both legs are in: exactly one is a bond, and the issuer is the same.
+// Whether both legs are approved participants'.
+fn are_participants(long: Leg, short: Leg) -> bool
+    ensures { λ r. ⌜ r ≡ areParticipants long short ⌝ }
+{
+    if long.letter != 0 {
+        return false;
+    }
+    short.letter == 0
+}
+
+// Paragraphs 3 and 4, by the number of the currency that both legs are in: approved participants', exactly one a bond, and the issuer is the same.
 fn outside_rule(long: Leg, short: Leg) -> Rule
     requires { ⌜ Outside long short ⌝ }
     ensures { λ r. ⌜ r ≡ ruleOf long short ⌝ }
@@ -180,6 +193,9 @@ fn outside_rule(long: Leg, short: Leg) -> Rule
     if !one_bond(long, short) {
         return Rule::NotAllowed;
     }
+    if !are_participants(long, short) {
+        return Rule::NotAllowed;
+    }
     let currency = long.currency;
     match currency {
         0 => corporate_rule(long, short),
@@ -188,7 +204,7 @@ fn outside_rule(long: Leg, short: Leg) -> Rule
     }
 }
 
-// The rule: paragraph 2 for Canada and the provinces in CAD, paragraphs 3 and 4 for any other. Two currencies have none.
+// The rule: paragraph 2 for Canada and the provinces in CAD, of clients too, paragraphs 3 and 4 for any other. Two currencies have none.
 pub fn rule_of(long: Leg, short: Leg) -> Rule
     ensures { λ r. ⌜ r ≡ ruleOf long short ⌝ }
 {

@@ -13,6 +13,7 @@ ghost use Rattle.received.specs.Naming.{Names};
 #[no_mangle]
 pub extern "C" fn margin_check(
     date: u64,
+    letter: u64,
     side: &[u8],
     kind: &[u8],
     issuer: &[u8],
@@ -28,7 +29,7 @@ pub extern "C" fn margin_check(
     ranking: &mut [u8],
     answer: &mut [u8],
 ) -> u64
-    ensures { λ r. ⌜ Checks (headBy (date ∷ []))
+    ensures { λ r. ⌜ Checks (headBy (date ∷ letter ∷ []))
         (makeColumns
         (now (side .entry) ∷ now (kind .entry) ∷ now (issuer .entry) ∷ now (maturity .entry) ∷ now (value .entry) ∷ now (currency .entry) ∷ now (rating .entry) ∷ [])
         (now (price .entry))
@@ -36,7 +37,7 @@ pub extern "C" fn margin_check(
         (makeLent (now (remainder .entry)) (now (ranking .entry)) (now (answer .entry)))
         (makeLent (now (remainder .exit)) (now (ranking .exit)) (now (answer .exit))) r ⌝ }
 {
-    let head = Head { date };
+    let head = Head { date, letter };
     if side.len() <= 32 {
         let mut legs = [0u64; 4];
         let mut left = [0u64; 4];

@@ -1,4 +1,4 @@
--- Document 01, "The file", and document 02 a), b) and d): the layout of a record, parsed, and the refusals 19 to 21 and 25. Assumes nothing.
+-- Document 01, "The file", and document 02 a), b), d) and e): the layout of a record, parsed, and the refusals 19 to 21 and 25. Assumes nothing.
 use mathlib.Core.{Path._≡_, Logic._≢_, Logic._⊎_, Bool.cond, Bool.Bool, Bool.not, Bool._&&_, List.List, List.[], List._∷_, List._++_, List.map}
 use Prim.Native.Nat.{ℕ, _≤_, _<_, suc, _-_, min}
 use lib.{Dec.eqb, Dec.leb, Dec.ltb, ListN.length, ListN.getD, ListN.take, ListN.replicate}
@@ -11,14 +11,17 @@ use Rattle.codes.specs.Codes.{placeOf, Named}
 use Rattle.codes.specs.declared.Place.{Place, the-variants.At, the-variants.Nowhere}
 use Rattle.lei.specs.Lei.{IsLei, leiOf, judgedOf}
 use Rattle.lei.specs.declared.Judged.{Judged, the-variants.Lei, the-variants.WrongForm, the-variants.WrongRemainder}
-use Rattle.layout.specs.declared.Sort.{Sort, the-variants.Side, the-variants.Kind, the-variants.Issuer, the-variants.Currency, the-variants.Rating, the-variants.Date}
+use Rattle.layout.specs.declared.Sort.{Sort, the-variants.Account, the-variants.Side, the-variants.Kind, the-variants.Issuer, the-variants.Currency, the-variants.Rating, the-variants.Date}
 use Rattle.layout.specs.declared.Sort.the-variants.{Six, Twelve, Empty}
 use Rattle.layout.specs.declared.{Value.Value, Value.the-variants.Of, Value.the-variants.Refused as Unfit}
 use Rattle.layout.specs.declared.{Parsed.Parsed, Parsed.the-variants.Good, Parsed.the-variants.Refused, Entry.Entry}
 use Rattle.csv.specs.Reading.{part, Split, fields, malformed, recordAt, fieldCount, Read, formed, broken}
 
--- side `L` or `S`; kind `B` `C` `R`; issuer `CA`, a province code, `US` or `GB`, in the order of the issuers' numbers; currency `CAD`, `USD` or `GBP`;
+-- the account's letter `P` or `C`; side `L` or `S`; kind `B` `C` `R`; issuer `CA`, a province code, `US` or `GB`, in the order of the issuers' numbers; currency `CAD`, `USD` or `GBP`;
 -- rating `Y`, `N` or none
+abbrev pub accounts : List (List ℕ)
+accounts = map ascii ("P" ∷ "C" ∷ [])
+
 abbrev pub sides : List (List ℕ)
 sides = map ascii ("L" ∷ "S" ∷ [])
 
@@ -44,6 +47,7 @@ Numbered most t v = (t ≡ digits v) × (length t ≤ most)
 
 -- a text is a value of its sort: "value and amount have 1 to 12 digits, others 1 to 6"; a date is "as YYYY-MM-DD", real or not
 abbrev pub IsValue : Sort → List ℕ → ℕ → Type 0
+IsValue Account t v = Named t accounts v
 IsValue Side t v = Named t sides v
 IsValue Kind t v = Named t kinds v
 IsValue Issuer t v = Named t issuers v ⊎ (IsLei t × (v ≡ corporation))
@@ -82,6 +86,7 @@ byIssuer Nowhere WrongRemainder = Unfit 25
 
 -- the value that a text is of its sort, or its refusal
 unfoldable pub valueOf : Sort → List ℕ → Value
+valueOf Account t = byPlace (placeOf t accounts)
 valueOf Side t = byPlace (placeOf t sides)
 valueOf Kind t = byPlace (placeOf t kinds)
 valueOf Issuer t = byIssuer (placeOf t issuers) (judgedOf t)
@@ -96,11 +101,11 @@ valueOf Empty t = cond (eqb (length t) 0) (Of 0) (Unfit 21)
 abbrev pub padded : {A : Type 0} → A → List A → List A
 padded x xs = xs ++ replicate (fieldCount - suc (length xs)) x
 
--- the letters, each with what follows it: `D`, valuation date; `H`, side, kind, issuer, maturity, value, price, currency, rating; `P`, long, short, amount;
+-- the letters, each with what follows it: `D`, valuation date, the account's letter; `H`, side, kind, issuer, maturity, value, price, currency, rating; `P`, long, short, amount;
 -- further fields are empty
 abbrev pub layouts : List (List ℕ × List Sort)
 layouts =
-    (ascii "D", Date ∷ [])
+    (ascii "D", Date ∷ Account ∷ [])
     ∷ (ascii "H", Side ∷ Kind ∷ Issuer ∷ Date ∷ Twelve ∷ Six ∷ Currency ∷ Rating ∷ [])
     ∷ (ascii "P", Six ∷ Six ∷ Twelve ∷ [])
     ∷ []

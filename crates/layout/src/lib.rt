@@ -17,6 +17,7 @@ pub const VALUES: usize = csv::FIELDS + 1;
 
 // What a field can be: a letter or a code that is named, an LEI, a date, a numeral of at most so many digits, or nothing.
 pub enum Sort {
+    Account,
     Side,
     Kind,
     Issuer,
@@ -53,6 +54,7 @@ fn sort_at(letter: usize, j: usize) -> Sort
     if letter == 0 {
         return match j {
             0 => Sort::Date,
+            1 => Sort::Account,
             _ => Sort::Empty,
         };
     }
@@ -139,6 +141,7 @@ fn value_in(sort: Sort, text: &[u8]) -> Value
     ensures { λ r. ⌜ r ≡ valueOf sort (now (text .entry)) ⌝ }
 {
     match sort {
+        Sort::Account => by_place(codes::place_in(text, b"PC", 1, 2)),
         Sort::Side => by_place(codes::place_in(text, b"LS", 1, 2)),
         Sort::Kind => by_place(codes::place_in(text, b"BCR", 1, 3)),
         Sort::Issuer => by_issuer(

@@ -4,7 +4,7 @@ use Prim.Native.Nat.{ℕ, _+_, _*_, _/_, _%_, _≤_}
 use lib.Dec.{eqb}
 use Rattle.article.specs.declared.pair.Leg.{Leg}
 use Rattle.savings.specs.Savings.{savingOf}
-use Rattle.article.specs.Pair.{isLong, isBond, isCanada, isProvince, isUs, isGb, isCorporate, inCad, RateInRange}
+use Rattle.article.specs.Pair.{isParticipant, isLong, isBond, isCanada, isProvince, isUs, isGb, isCorporate, inCad, RateInRange}
 
 -- a leg that paragraph 2 can have: in CAD, of Canada or a province
 unfoldable pub isDomestic : Leg → Bool
@@ -18,9 +18,9 @@ isOffered l = isCorporate l && (not (isBond l) || eqb (l .rating) 0)
 unfoldable pub isGovernment : Leg → Bool
 isGovernment l = isCanada l || isUs l || isGb l
 
--- a leg that is not domestic and may have a pair
+-- a leg that is not domestic and may have a pair: a participant's alone
 unfoldable pub hasPartner : Leg → Bool
-hasPartner l = cond (inCad l) (isOffered l) (isGovernment l)
+hasPartner l = isParticipant l && cond (inCad l) (isOffered l) (isGovernment l)
 
 -- what the two legs of a pair have in common, as one number: the period; of a leg that is not domestic the currency and the issuer too
 unfoldable pub keyOf : Leg → ℕ

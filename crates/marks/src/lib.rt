@@ -42,10 +42,13 @@ fn is_government(leg: Leg) -> bool
     }
 }
 
-// Whether a leg that is not domestic may have a pair.
+// Whether a leg that is not domestic may have a pair: a participant's alone.
 fn has_partner(leg: Leg) -> bool
     ensures { λ r. ⌜ r ≡ hasPartner leg ⌝ }
 {
+    if leg.letter != 0 {
+        return false;
+    }
     if leg.currency == 0 {
         return is_offered(leg);
     }

@@ -6,9 +6,10 @@ use Rattle.article.specs.declared.pair.Leg.{Leg}
 use Rattle.article.specs.Pair.{RateInRange}
 use Rattle.proposal.specs.Submission.{PricedBook}
 
--- the leg that a number is the code of: 16 bits for its rate, 8 for its period, 4 each for side and kind, 16 for its issuer, 4 each for currency and rating; 8 are left
+-- the leg that a number is the code of: 16 bits for its rate, 8 for its period, 4 each for side and kind, 16 for its issuer, 4 each for currency, rating and letter; 4 are left
 unfoldable pub legIn : ℕ → Leg
 legIn c = record {
+  letter = (c / 72057594037927936) % 16;
   side = (c / 16777216) % 16;
   kind = (c / 268435456) % 16;
   issuer = (c / 4294967296) % 65536;
@@ -20,6 +21,7 @@ legIn c = record {
 
 -- a leg that has a code
 pub record Small (l : Leg) : Type 0 where
+  pub letter : l .letter < 16
   pub side : l .side < 16
   pub kind : l .kind < 16
   pub issuer : l .issuer < 65536

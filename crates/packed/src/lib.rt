@@ -15,6 +15,7 @@ pub fn code_of(leg: Leg) -> u64
         + 4294967296 * leg.issuer
         + 281474976710656 * leg.currency
         + 4503599627370496 * leg.rating
+        + 72057594037927936 * leg.letter
 }
 
 // The leg of a number.
@@ -22,6 +23,7 @@ pub fn leg_in(code: u64) -> Leg
     ensures { λ r. ⌜ r ≡ legIn code ⌝ }
 {
     Leg {
+        letter: code / 72057594037927936 % 16,
         side: code / 16777216 % 16,
         kind: code / 268435456 % 16,
         issuer: code / 4294967296 % 65536,

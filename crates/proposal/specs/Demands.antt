@@ -1,9 +1,10 @@
--- THE PAGE TO READ FIRST: what document 01, with document 02 a), b) and d), demands of the check's answer, in its own words; proofs/Demands.antt proves it. Assumes nothing.
+-- THE PAGE TO READ FIRST: what document 01, with document 02 a), b), d) and e), demands of the check's answer, in its own words; proofs/Demands.antt proves it. Assumes nothing.
 use mathlib.Core.{Path._≡_, Bool.Bool, Bool.true, Bool.false, Logic._↔_}
 use Prim.Native.Nat.{ℕ, _-_, _*_, _≤_, _<_}
 use lib.ListN.{length, getD}
 use Rattle.lists.specs.Tables.{Each}
 use Rattle.holding.specs.Holding.{Ranges, rowOf}
+use Rattle.holding.specs.declared.AccountKind.{the-variants.Participant, the-variants.Client}
 use Rattle.dates.specs.Calendar.{isDate}
 use Rattle.rates.specs.Rate.{rateOf}
 use Rattle.article.specs.{Answer.Answer, Answer.makeAnswer, Pair.legOf, Pair.pairRateOf, Article.MayPair, Article.Pairing}
@@ -13,9 +14,10 @@ use Rattle.proposal.specs.Submission.{Submission, accountIn, termsOf, pr
 use Rattle.proposal.specs.{Submission.RoundedUp, Outcome.outcome}
 
 module _ (s : Submission) where
-  -- the limits: none of 3 to 10 and 23 to 25 holds
+  -- the limits: none of 3 to 10 and 23 to 26 holds
   pub record Limits : Type 0 where
     pub valued : isDate (s .head .date) ≡ true
+    pub lettered : s .head .letter ≤ 1
     pub holdings : length (s .rows) ≤ 256
     pub lines : length (s .lines) ≤ 512
     pub each-row : (k : ℕ) → k < length (s .rows) → Ranges (accountIn s) (getD (s .rows) k noRow)
@@ -42,8 +44,10 @@ module _ (s : Submission) where
 
   -- the terms of two holdings of the book, and what the article says of them as a pair
   pub record PairTerms (i j : ℕ) : Type 0 where
-    -- the account is valued on the date of the head
+    -- the account is valued on the date of the head, and by its letter, 0 or 1, it is a participant's or a client's
     pub date : accountIn s .date ≡ s .head .date
+    pub participant : s .head .letter ≡ 0 → accountIn s .letter ≡ Participant
+    pub client : s .head .letter ≡ 1 → accountIn s .letter ≡ Client
     -- the holding of a number has the numbers of its row, and its price stands at that number
     pub numbers : rowOf (holdingAt s i) ≡ getD (s .rows) i noRow
     pub value : termsOf (priced s) .value i ≡ getD (s .rows) i noRow .value
@@ -69,6 +73,9 @@ module _ (s : Submission) where
     pub rounding : a .number ≡ 0 → RoundedUp (a .first) (a .second)
     -- where lengths and counts fit, an unreal valuation date is refused with 24 at place 0, whatever the holdings are
     pub undated : one ≡ false → two ≡ false → length (s .rows) ≤ 256 → length (s .lines) ≤ 512 → isDate (s .head .date) ≡ false → outcome one two s ≡ makeAnswer 24 0 0
+    -- and on a date, a letter that is neither with 26
+    pub unlettered : one ≡ false → two ≡ false → length (s .rows) ≤ 256 → length (s .lines) ≤ 512 → isDate (s .head .date) ≡ true → 1 < s .head .letter
+        → outcome one two s ≡ makeAnswer 26 0 0
     -- the terms that all this speaks of are the book's own, by the article
     pub count : termsOf (priced s) .count ≡ length (s .rows)
     pub terms : Limits → (i j : ℕ) → i < length (s .rows) → j < length (s .rows) → PairTerms i j

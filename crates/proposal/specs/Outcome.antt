@@ -1,4 +1,4 @@
--- Document 01, "Who can be refused, and for what", with document 02 a), b) and d): the first that holds of one list of refusals, or the figures. Assumes nothing.
+-- Document 01, "Who can be refused, and for what", with document 02 a), b), d) and e): the first that holds of one list of refusals, or the figures. Assumes nothing.
 use mathlib.Core.{Bool.Bool, Bool.not, Bool._&&_, Bool._||_, List.List, List.[], List._∷_, List._++_, List.map}
 use Prim.Native.Nat.{ℕ, _+_}
 use lib.{Dec.ltb, Dec.eqb, ListN.length, ListN.getD, ListN.take}
@@ -82,7 +82,7 @@ totalsFaults b lines = (totalsDiffer b lines, makeAnswer 17 0 0) ∷ []
 unfoldable pub sizeFaults : Bool → Bool → ℕ → ℕ → List (Bool × ℕ)
 sizeFaults one two holdings lines = (one, 1) ∷ (ltb 256 holdings, 3) ∷ (ltb 512 lines, 9) ∷ (two, 2) ∷ []
 
--- check order: 1, 3, 9, 2; 24 on the valuation date; each holding in turn; each line in turn; 16; 17
+-- check order: 1, 3, 9, 2; 24 on the valuation date, 26 on the letter; each holding in turn; each line in turn; 16; 17
 abbrev pub fromPairs : Submission → List (Bool × Answer)
 fromPairs s = uncoveredPairs (priced s) ++ totalsFaults (priced s) (s .lines)
 

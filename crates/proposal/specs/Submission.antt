@@ -11,7 +11,7 @@ use Rattle.pairing.specs.declared.Line.{Line}
 use Rattle.lists.specs.Tables.{sumTo, listTo}
 use Rattle.ranking.specs.Ranking.{rankingOf, Ranks}
 
--- the head, which has the valuation date, a book's rows, the prices on its holdings, and the pair lines
+-- the head, which has the valuation date and the account's letter, a book's rows, the prices on its holdings, and the pair lines
 pub record Submission : Type 0 where
   pub head : Head
   pub rows : List Row
@@ -52,7 +52,7 @@ abbrev pub noLine : Line
 noLine = record { long = 0; short = 0; amount = 0 }
 
 abbrev pub noLeg : Leg
-noLeg = record { side = 0; kind = 0; issuer = 0; currency = 0; rating = 0; period = 0; rate = 0 }
+noLeg = record { letter = 0; side = 0; kind = 0; issuer = 0; currency = 0; rating = 0; period = 0; rate = 0 }
 
 -- a priced book by the numbers of its holdings: what a pair asks of each, its market value, and its price
 pub record PricedBook : Type 0 where

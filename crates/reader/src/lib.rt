@@ -81,6 +81,7 @@ pub fn read(
     let mut values = [0u64; layout::VALUES];
     let mut before = Place::Nowhere;
     let mut date: u64 = 0;
+    let mut account: u64 = 0;
     let mut holdings: usize = 0;
     let mut pairs: usize = 0;
     let mut corporations: usize = 0;
@@ -106,6 +107,7 @@ pub fn read(
                 before = Place::At(letter);
                 if letter == 0 {
                     date = values[0];
+                    account = values[1];
                     record = record + 1;
                     at = entry.next;
                 } else if letter == 1 {
@@ -136,7 +138,10 @@ pub fn read(
         }
     }
     Contents::Read {
-        head: Head { date },
+        head: Head {
+            date,
+            letter: account,
+        },
         holdings,
         lines: pairs,
         corporations,

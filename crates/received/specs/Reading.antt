@@ -1,4 +1,4 @@
--- THE PAGE OF THE EXPORTED READER. Document 01, "The reader fills lent columns, or leaves them untouched", and document 02 b), the valuation date. Assumes nothing.
+-- THE PAGE OF THE EXPORTED READER. Document 01, "The reader fills lent columns, or leaves them untouched", and document 02 b), the valuation date, and e), the letter. Assumes nothing.
 use mathlib.Core.{Path._≡_, Logic._↔_, Bool.cond, List.List, List.[], List._∷_}
 use Prim.Native.Nat.{ℕ, _<_}
 use lib.{Dec.eqb, ListN.length, ListN.getD}
@@ -37,12 +37,13 @@ module _ (text head head′ : List ℕ) (before after : Columns) (slice slice′
     pub returned : Answers (readingAnswer text head before slice) slice slice′ r
     -- the columns of the holdings, and of the lines; a refusal leaves them untouched, and entries past what they are to hold keep what they held
     pub columns : after ≡ filled (filling text head before slice) before
-    -- the valuation date goes into the first entry of the head's list, in the same way
+    -- the valuation date and the account's letter go into the first two entries of the head's list, in the same way
     pub valued : head′ ≡ column (heading text head before slice) head
     -- a refusal writes to none
     pub untouched : (r ≡ 0 → ⊥) → (after ≡ before) × (head′ ≡ head)
-    -- of a file that is read, the valuation date, each holding's numbers with its price, and each line's, stand at their entries
+    -- of a file that is read, the valuation date, the letter, each holding's numbers with its price, and each line's, stand at their entries
     pub date : r ≡ 0 → wordAt head′ 0 ≡ submissionIn text .head .date
+    pub letter : r ≡ 0 → wordAt head′ 1 ≡ submissionIn text .head .letter
     pub holding : r ≡ 0 → (k : ℕ) → k < length (submissionIn text .rows) → RowAt (after .holdings) k (getD (submissionIn text .rows) k noRow)
     pub price : r ≡ 0 → (k : ℕ) → k < length (submissionIn text .rows) → wordAt (after .price) k ≡ getD (submissionIn text .prices) k 0
     pub line : r ≡ 0 → (k : ℕ) → k < length (submissionIn text .lines) → LineAt (after .lines) k (getD (submissionIn text .lines) k noLine)

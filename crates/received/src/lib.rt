@@ -75,6 +75,7 @@ pub fn read_into(
                 return lent::put_answer(2, 0, 0, answer);
             }
             words::put_word(head, 0, valued.date);
+            words::put_word(head, 1, valued.letter);
             columns::copy_book(
                 book,
                 rows,

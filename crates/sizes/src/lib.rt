@@ -75,12 +75,12 @@ pub fn columns_too_short(
     amount: usize,
     answer: usize,
 ) -> bool
-    ensures { λ r. ⌜ r ≡ tooShort ((1, head)
+    ensures { λ r. ⌜ r ≡ tooShort ((2, head)
         ∷ (holdings, side) ∷ (holdings, kind) ∷ (holdings, issuer) ∷ (holdings, maturity)
         ∷ (holdings, value) ∷ (holdings, currency) ∷ (holdings, rating) ∷ (holdings, price)
         ∷ (lines, long) ∷ (lines, short) ∷ (lines, amount) ∷ []) answer ⌝ }
 {
-    (head / 8 < 1)
+    (head / 8 < 2)
         | (side / 8 < holdings)
         | (kind / 8 < holdings)
         | (issuer / 8 < holdings)

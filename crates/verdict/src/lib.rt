@@ -31,7 +31,7 @@ fn refused(fault: Fault) -> Verdict
     }
 }
 
-// The check, in the documents' order: 1, 3, 9, 2; 24 on the valuation date; each holding in turn; each line in turn; 16; 17; else the figures. `two`
+// The check, in the documents' order: 1, 3, 9, 2; 24 on the valuation date, 26 on the letter; each holding in turn; each line in turn; 16; 17; else the figures. `two`
 // says whether 2 holds of what is lent. Where it accepts, `left` has each holding's remainder, `margins` the margin of that, and `ranks` the ranking.
 pub fn check(
     two: bool,
