@@ -24,7 +24,7 @@ rating-few SingleA = omega arith
 rating-few Lower = omega arith
 rating-few NotGiven = omega arith
 
-letter-few : (k : AccountKind) → letterNumber k ≤ 1
+pub letter-few : (k : AccountKind) → letterNumber k ≤ 1
 letter-few Participant = omega arith
 letter-few Client = omega arith
 
