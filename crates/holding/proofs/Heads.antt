@@ -9,10 +9,18 @@ use Rattle.lists.proofs.Tests.{either-way, same-or-not, true-within}
 use borrow.Author.Tests.{eq-eqb, ne-eqb, lt-leb, leb-true, leb-false}
 use Rattle.dates.specs.Calendar.{isDate}
 use Rattle.dates.proofs.Tested.{date-high}
-use Rattle.holding.specs.Holding.{headNumbers, headFaults, headFault, letterOf, accountOf, headedOf, HeadKept}
+use Rattle.holding.specs.Holding.{headNumbers, headFaults, headFault, letterNumber, letterOf, accountOf, headedOf, HeadKept}
+use Rattle.holding.specs.declared.AccountKind.{AccountKind}
+use Rattle.holding.specs.declared.AccountKind.the-variants.{Participant, Client}
 use Rattle.holding.specs.declared.Head.{Head}
 use Rattle.holding.specs.declared.Account.{Account}
 use Rattle.holding.specs.declared.Headed.the-variants.{For, NoAccount}
+
+-- a letter is the case of its number
+pub letter-back : (k : AccountKind) → letterOf (letterNumber k) ≡ k
+unfolding letterOf
+letter-back Participant = refl
+letter-back Client = refl
 
 module _ (h : Head) where
   pub sound-head : isDate (h .date) ≡ true → h .letter ≤ 1 → headFault h ≡ 0
