@@ -35,7 +35,7 @@ module _ (c : tie.After-entry-at Inv-loop μ-loop) where
   at = c .before .before .before
 
   abbrev start : tie.Start Inv-loop μ-loop
-  start = at .before .before .before .before .before .before .before .before .before
+  start = at .before .before .before .before .before .before .before .before
 
   turn : Turn (start .args .text .now) (at .loop .before) (at .loop .«record») (at .loop .at) (c .entry-at .last .1 .1 .0) (c .entry-at .result)
   turn = record { short = at .before .before .if1 .left; passing = at .loop .inv .passing; more = c .before .before .loop-test .taken; looked = c .entry-at .ensures }
@@ -204,6 +204,7 @@ read-spec =
     (λ c. search needs)
     (λ c. search needs)
     returns-4
+    (λ c. search needs)
     (λ c. search needs)
     (λ c. search needs)
     (λ c. let a = turn-ahead (good (c .before .before)) in omega arith)
