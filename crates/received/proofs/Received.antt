@@ -2,8 +2,8 @@
 use mathlib.Core.Path.{_≡_, refl, sym, ap, subst, _∙_}
 use mathlib.Core.Logic.{_↔_, _≢_}
 use mathlib.Core.Bool.{Bool, true, false, cond}
-use mathlib.Core.List.{List, [], _∷_, _++_, map, append-nil, append-assoc}
-use Prim.Native.Nat.{ℕ, suc, _*_, _/_, _≤_}
+use mathlib.Core.List.{List, [], _∷_, _++_, map}
+use Prim.Native.Nat.{ℕ, suc, _*_, _/_, _≤_, _<_}
 use native.Mathlib.Omega.{arith}
 use lib.Dec.{eqb}
 use lib.ListN.{length, getD, take, drop, length-map, length-append, length-take, length-drop}
@@ -17,7 +17,7 @@ use Rattle.article.specs.Answer.{Answer, makeAnswer}
 use Rattle.proposal.specs.Submission.{Submission, noRow, noLine}
 use Rattle.proposal.proofs.Clear.{number}
 use Rattle.words.specs.Words.{wordAt, withWord, encode}
-use Rattle.words.proofs.Encoded.{word-more}
+use Rattle.words.proofs.Encoded.{encoded-two}
 use Rattle.columns.specs.Columns.{Columns, makeColumns, holdingSizes, lineSizes, listsOf, column, filledFrom, filled, copied, CopyRoom, RowAt, LineAt}
 use Rattle.columns.proofs.Tables.{entered-copied, byTables, filled-values}
 use Rattle.columns.proofs.ReadBack.{column-read, rows-read, lines-read}
@@ -47,22 +47,6 @@ none-from j (old ∷ olds) = λ i. none-column old i ∷ none-from (suc j) olds 
 none-filled : (c : Columns) → c ≡ filled nothing c
 unfolding filled
 none-filled c = λ i. makeColumns (none-from 0 (c .holdings) i) (none-column (c .price) i) (none-from 0 (c .lines) i)
-
--- numbers go into a list one after another, from entry k on
-abbrev pub putFrom : ℕ → List ℕ → List ℕ → List ℕ
-putFrom k [] list = list
-putFrom k (x ∷ xs) list = putFrom (suc k) xs (withWord list k x)
-
--- from its first entry on, they are at its front
-put-column : (xs old : List ℕ) → putFrom 0 xs old ≡ column xs old
-unfolding column front encode
-put-column xs old = from [] xs
-  where
-    from : (ys xs : List ℕ) → putFrom (length ys) xs (column ys old) ≡ column (ys ++ xs) old
-    from ys [] = rw (append-nil ys)
-    from ys (x ∷ xs) =
-        let long : length (ys ++ (x ∷ [])) ≡ suc (length ys) = length-append ys (x ∷ []) ∙ omega arith in
-        rw (word-more ys old x) (rw (long, append-assoc ys (x ∷ []) xs) at (from (ys ++ (x ∷ [])) xs))
 
 -- a list that is to hold n numbers, with its length, and one that does
 abbrev Holds : ℕ × ℕ → Type 0
@@ -160,8 +144,8 @@ module _ (text head : List ℕ) (table lined : List (List ℕ)) (out : List ℕ)
           each-held = room-exactly (heldLists s head before) (length out) .0 (sym same ∙ fits) .each
 
           pub head-room : 8 * length (headNumbers h) ≤ length head
-          unfolding heldLists
-          head-room = rw (← head-read from-file e) (let all = each-held .0 in omega arith)
+          unfolding heldLists headNumbers
+          head-room = let all = each-held .0 in omega arith
 
           each-list : Each (λ (c : List ℕ). 8 * n ≤ length c) (before .holdings ++ (before .price ∷ [])) × Each (λ (c : List ℕ). 8 * m ≤ length c) (before .lines)
           unfolding heldLists listsOf holdingSizes lineSizes
@@ -187,9 +171,10 @@ module _ (text head : List ℕ) (table lined : List (List ℕ)) (out : List ℕ)
               each = each-list .1;
             }
 
-      -- put, the head is what is submitted; copied, so are the tables
-      head-put : {head′ : List ℕ} → head′ ≡ putFrom 0 (headNumbers h) head → head′ ≡ column (headNumbers (s .head)) head
-      head-put p = p ∙ rw (head-read from-file e) (put-column (headNumbers h) head)
+      -- put one after the other, the numbers of the head are those that are submitted; copied, so are the tables
+      head-put : {dated head′ : List ℕ} → dated ≡ withWord head 0 (h .date) → head′ ≡ withWord dated 1 (h .letter) → head′ ≡ column (headNumbers (s .head)) head
+      unfolding column headNumbers
+      head-put p q = rw (head-read from-file e) (encoded-two (h .date) (h .letter) head _ _ p q)
 
       all-filled : {table′ lined′ : List (List ℕ)} → length table ≡ 8 → length lined ≡ 3 → table′ ≡ copied rows n book′ 0 table → lined′ ≡ copied rows m lines′ 0 lined
           → byTables table′ lined′ ≡ filled s before
@@ -200,12 +185,12 @@ module _ (text head : List ℕ) (table lined : List (List ℕ)) (out : List ℕ)
           (λ i. byTables ((f ∙ held) i) ((g ∙ taken) i))
           ∙ sym (filled-values (s .head) (holdingsOf (parsedIn text)) (valuesBy 2 (parsedIn text)) table lined eight three)
 
-      pub all-read : {two : Bool} {head′ : List ℕ} {table′ lined′ : List (List ℕ)} (out′ : List ℕ) (r : ℕ) → two ≡ short → two ≡ false
-          → length table ≡ 8 → length lined ≡ 3 → head′ ≡ putFrom 0 (headNumbers h) head → table′ ≡ copied rows n book′ 0 table → lined′ ≡ copied rows m lines′ 0 lined
+      pub all-read : {two : Bool} {dated head′ : List ℕ} {table′ lined′ : List (List ℕ)} (out′ : List ℕ) (r : ℕ) → two ≡ short → two ≡ false
+          → length table ≡ 8 → length lined ≡ 3 → dated ≡ withWord head 0 (h .date) → head′ ≡ withWord dated 1 (h .letter) → table′ ≡ copied rows n book′ 0 table → lined′ ≡ copied rows m lines′ 0 lined
           → Answers (makeAnswer 0 n m) out out′ r → Reads text head head′ before (byTables table′ lined′) out out′ r
       unfolding readingAnswer filled headNumbers
-      all-read out′ r same fits eight three p f g answered =
-          let put = head-put p in
+      all-read out′ r same fits eight three p q f g answered =
+          let put = head-put p q in
           let after = all-filled eight three f g in
           let whole : readingAnswer text head before out ≡ makeAnswer 0 n m =
           answer-none text short (no-fault from-file e) ∙ rw (sym same ∙ fits, holdings-counted from-file e, lines-counted from-file e) in
