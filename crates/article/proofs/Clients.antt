@@ -54,11 +54,11 @@ module _ (date : ℕ) where
     client-pairs = record {
       may = (
         λ m.
-        let p = by-two (m .paragraph) in
-        (record { first-long = m .first-long; second-short = m .second-short; period = rw (same-period (l .maturity), same-period (s .maturity)) at (m .period); paragraph = by-2 p }, p),
+            let p = by-two (m .paragraph) in
+            (record { first-long = m .first-long; second-short = m .second-short; period = rw (same-period (l .maturity), same-period (s .maturity)) at (m .period); paragraph = by-2 p }, p),
         λ m.
-        let (n, p) = m in
-        record { first-long = n .first-long; second-short = n .second-short; period = rw (same-period (l .maturity), same-period (s .maturity)) (n .period); paragraph = by-2 p },
+            let (n, p) = m in
+            record { first-long = n .first-long; second-short = n .second-short; period = rw (same-period (l .maturity), same-period (s .maturity)) (n .period); paragraph = by-2 p },
       );
       same-rate = λ m. same-rate (by-two (m .paragraph));
       alone = same-alone l;
