@@ -6,8 +6,7 @@ use native.Mathlib.Omega.{arith}
 use lib.ListN.{length}
 use borrow.Author.Tests.{lt-ltb, le-ltb}
 use Rattle.article.specs.Answer.{Answer}
-use Rattle.lists.specs.Tables.{front}
-use Rattle.words.specs.Words.{withWord, encode}
+use Rattle.words.specs.Words.{withWord}
 use Rattle.words.proofs.Encoded.{encoded-two}
 use Rattle.words.proofs.ReadBack.{read-back}
 use Rattle.lent.specs.Boundary.{answered, Answers}
