@@ -9,8 +9,8 @@ use borrow.Author.Tests.{eq-eqb, ne-eqb, ltb-true, ltb-false}
 use Rattle.lists.specs.Choice.{firstOf}
 use Rattle.lists.proofs.Tests.{not-both, same-or-not, either-way, by-test}
 use Rattle.holding.proofs.Issuers.{above-range}
-use Rattle.article.specs.Pair.{isCanada, isProvince, isUs, isGb, isCorporate, inCad, inUsd, inGbp, kindsPair, sameClass, mixedClass, classRule, domesticRule, areParticipants, oneBond, bondRating}
-use Rattle.article.specs.Pair.{sameCorporation, corporateRule, sameGovernment, foreignRule, bothCad, sameForeign, cadRule, ruleOf, Outside, OneIssuer}
+use Rattle.article.specs.Pair.{isCanada, isProvince, isUs, isGb, isCorporate, inCad, inUsd, inGbp, kindsPair, sameClass, mixedClass, classRule, domesticRule}
+use Rattle.article.specs.Pair.{areParticipants, oneBond, bondRating, sameCorporation, corporateRule, sameGovernment, foreignRule, bothCad, sameForeign, cadRule, ruleOf, Outside, OneIssuer}
 use Rattle.article.specs.declared.pair.Rule.{Rule}
 use Rattle.article.specs.declared.pair.Rule.the-variants.{Difference, Capped, NotAllowed}
 use Rattle.article.specs.declared.pair.Leg.{Leg}

@@ -18,7 +18,8 @@ use Rattle.article.proofs.Legs.{Permitted, one-class, two-classes, one-
 use Rattle.article.specs.Article.{OneClass, both-canada, both-provincial, TwoClasses, canada-long, canada-short, SameForeign, both-usd, both-gbp}
 use Rattle.article.specs.Article.{SameGovernment, of-canada, of-us, of-gb, OneBond, SameCorporation, of-corporation, Paragraph2, Paragraph3, Paragraph4, ByParagraph, by-2, by-3, by-4}
 use Rattle.article.specs.Pair.{legOf, isBond, isStrip, isCanada, isProvince, isUs, isGb, inCad, inUsd, inGbp, kindsPair, sameClass, mixedClass, classRule, domesticRule}
-use Rattle.article.specs.Pair.{isParticipant, areParticipants, isCorporate, bondRating, sameCorporation, corporateRule, cadRule, oneBond, sameGovernment, foreignRule, bothCad, sameForeign, ruleOf}
+use Rattle.article.specs.Pair.{isParticipant, areParticipants, isCorporate, bondRating, sameCorporation, corporateRule, cadRule}
+use Rattle.article.specs.Pair.{oneBond, sameGovernment, foreignRule, bothCad, sameForeign, ruleOf}
 use Rattle.holding.specs.declared.AccountKind.the-variants.{Participant}
 use Rattle.holding.specs.declared.Kind.{Kind}
 use Rattle.holding.specs.declared.Kind.the-variants.{Bond, Coupon, Residual}

@@ -176,8 +176,8 @@ module _ (l s : Leg) (p : l .period ≡ s .period) where
       rw (first, second, p, x, y, sought k, foreign, government)
 
   -- in CAD, of one corporation, the bond rated
-  corporate-mark : bothCad l s ≡ true → areParticipants l s ≡ true → oneBond l s ≡ true → isCorporate l ≡ true → isCorporate s ≡ true → l .issuer ≡ s .issuer → eqb (bondRating l s) 0 ≡ true
-      → shortMark s ≡ soughtMark l
+  corporate-mark : bothCad l s ≡ true → areParticipants l s ≡ true → oneBond l s ≡ true → isCorporate l ≡ true → isCorporate s ≡ true → l .issuer ≡ s .issuer
+      → eqb (bondRating l s) 0 ≡ true → shortMark s ≡ soughtMark l
   unfolding shortMark soughtMark bothCad inCad
   corporate-mark c a k n m i rated =
       let (x, y) = participants l s a in

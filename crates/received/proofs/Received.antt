@@ -128,7 +128,8 @@ module _ (text head : List ℕ) (table lined : List (List ℕ)) (out : List ℕ)
     module _ {h : Head} {n m corporations : ℕ} (e : d ≡ Read h n m corporations) where
       -- the lists are measured for what the text submits
       pub measured : {two : Bool}
-          → two ≡ tooShort ((length (headNumbers h), length head) ∷ (map (λ size. (n, size)) (holdingSizes before) ++ map (λ size. (m, size)) (lineSizes before))) (length out) → two ≡ short
+          → two ≡ tooShort ((length (headNumbers h), length head) ∷ (map (λ size. (n, size)) (holdingSizes before) ++ map (λ size. (m, size)) (lineSizes before))) (length out)
+          → two ≡ short
       unfolding heldLists headNumbers listsOf
       measured t = t ∙ rw (← holdings-counted from-file e, ← lines-counted from-file e)
 
@@ -186,7 +187,8 @@ module _ (text head : List ℕ) (table lined : List (List ℕ)) (out : List ℕ)
           ∙ sym (filled-values (s .head) (holdingsOf (parsedIn text)) (valuesBy 2 (parsedIn text)) table lined eight three)
 
       pub all-read : {two : Bool} {dated head′ : List ℕ} {table′ lined′ : List (List ℕ)} (out′ : List ℕ) (r : ℕ) → two ≡ short → two ≡ false
-          → length table ≡ 8 → length lined ≡ 3 → dated ≡ withWord head 0 (h .date) → head′ ≡ withWord dated 1 (h .letter) → table′ ≡ copied rows n book′ 0 table → lined′ ≡ copied rows m lines′ 0 lined
+          → length table ≡ 8 → length lined ≡ 3 → dated ≡ withWord head 0 (h .date) → head′ ≡ withWord dated 1 (h .letter)
+          → table′ ≡ copied rows n book′ 0 table → lined′ ≡ copied rows m lines′ 0 lined
           → Answers (makeAnswer 0 n m) out out′ r → Reads text head head′ before (byTables table′ lined′) out out′ r
       unfolding readingAnswer filled headNumbers
       all-read out′ r same fits eight three p q f g answered =

@@ -138,7 +138,8 @@ returns-3 c =
     {head′ = letter-put c .put-word2 .last .0}
     {table′ = b .0 ∷ b .1 .0 ∷ b .1 .1 .0 ∷ b .1 .1 .1 .0 ∷ b .1 .1 .1 .1 .0 ∷ b .1 .1 .1 .1 .1 .0 ∷ b .1 .1 .1 .1 .1 .1 .0 ∷ b .1 .1 .1 .1 .1 .1 .1 .0 ∷ []}
     {lined′ = l .0 ∷ l .1 .0 ∷ l .1 .1 .0 ∷ []}
-    _ _ (same asked) (fits c .if1 .left) refl refl (date-put c .put-word .ensures) (letter-put c .put-word2 .ensures) (book-copied c .copy-book .ensures) (lined c .copy-lines .ensures) (c .before .before .put-answer3 .ensures)
+    _ _ (same asked) (fits c .if1 .left) refl refl (date-put c .put-word .ensures) (letter-put c .put-word2 .ensures)
+    (book-copied c .copy-book .ensures) (lined c .copy-lines .ensures) (c .before .before .put-answer3 .ensures)
 
 pub read-into-spec : {M : Type 1} → statement M
 read-into-spec =
