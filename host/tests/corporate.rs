@@ -6,7 +6,9 @@ use margin_calculator::samples::{
     ANY, CORPORATE, CORPORATIONS, Random, SHAPES, Shape, best_sheet, book,
 };
 use margin_calculator::texts::{dated, issuer_text, joined, rated_in, records, text_of};
-use margin_calculator::{CURRENCIES, KINDS, NOT_RATED, RATINGS, Row, Sheet, VALUED, read};
+use margin_calculator::{
+    CURRENCIES, KINDS, NOT_RATED, RATINGS, Row, Sheet, VALUED, participant, read,
+};
 use margin_host::Line;
 use support::faults::{HOLDINGS, sound};
 use support::file::{File, Files};
@@ -310,7 +312,7 @@ fn the_least_margin_is_over_all_paragraphs() {
         let longs = legs.iter().map(|leg| one_cent(LONG, *leg));
         let shorts = legs.iter().map(|leg| one_cent(SHORT, *leg));
         let rows: Vec<Row> = longs.chain(shorts).collect();
-        let best = best_sheet(&Sheet::of_rows(VALUED, &rows, 0));
+        let best = best_sheet(&Sheet::of_rows(participant(VALUED), &rows, 0));
         let units = run.units(&best, format_args!("{maturity}"));
         let corporate = |long: &&u64| best.issuer[**long as usize] >= FIRST;
         let pairs = best.long.iter().filter(corporate).count();
@@ -462,7 +464,7 @@ fn as_many_corporations_as_there_may_be() {
     // The strips of 128 corporations with their bonds, in order and with the shorts turned around.
     let mut run = Run::fixed("128 corporations in pairs");
     for (turned, first) in [(false, FIRST), (true, 228)] {
-        let mut sheet = Sheet::empty(VALUED);
+        let mut sheet = Sheet::empty(participant(VALUED));
         for number in 0..128 {
             let strip = (RESIDUAL, first + number, 2046_11_27, CAD, number % 2);
             sheet.add_holding(one_cent(LONG, strip), 29_200);
@@ -498,7 +500,7 @@ fn as_many_corporations_as_there_may_be() {
     }
     // 256 corporations, each alone.
     let rows = CORPORATIONS.map(|issuer| one_cent(LONG, (BOND, issuer, 2030_06_24, CAD, LOWER)));
-    let all = Sheet::of_rows(VALUED, &rows, 0);
+    let all = Sheet::of_rows(participant(VALUED), &rows, 0);
     run.accepted(
         &Lent::of(&all),
         256 * 10_220,
@@ -516,15 +518,15 @@ fn the_largest_totals_of_a_corporation() {
         ..one_cent(side, (kind, LAST, 2125_01_01, CAD, SINGLE_A))
     };
     for side in [LONG, SHORT] {
-        let strips = Sheet::of_rows(VALUED, &[of(side, RESIDUAL); 256], 0);
+        let strips = Sheet::of_rows(participant(VALUED), &[of(side, RESIDUAL); 256], 0);
         let left = run.compare(&Lent::of(&strips), format_args!("side {side}"));
         let units = 256 * value * 43_800;
         assert_eq!((left.number, left.figures()), (0, (units, units / 146_000)));
         assert!(Left::entries(&left.ranking).into_iter().eq(0..256));
-        let dear = Sheet::of_rows(VALUED, &[of(side, COUPON); 256], 43_800);
+        let dear = Sheet::of_rows(participant(VALUED), &[of(side, COUPON); 256], 43_800);
         run.refused(&Lent::of(&dear), (17, 0, 0), format_args!("side {side}"));
     }
-    let mut sheet = Sheet::of_rows(VALUED, &[of(LONG, COUPON); 128], 29_200);
+    let mut sheet = Sheet::of_rows(participant(VALUED), &[of(LONG, COUPON); 128], 29_200);
     for long in 0..128 {
         sheet.add_holding(of(SHORT, BOND), 0);
         sheet.add_line(Line {
@@ -597,7 +599,7 @@ fn every_corporation_in_a_file() {
                         ..one_cent(SHORT, (kind, FIRST, 2030_06_24, currency, rating))
                     };
                     let file = File::exact(&dated(&[&record]), 1, 0);
-                    let sheet = Sheet::of_rows(VALUED, &[row], 7);
+                    let sheet = Sheet::of_rows(participant(VALUED), &[row], 7);
                     files.accepted(&file, &sheet, format_args!("{record}"));
                 }
             }
@@ -606,15 +608,19 @@ fn every_corporation_in_a_file() {
     // All numbers, in order, turned around, and each twice.
     let one = |issuer| one_cent(LONG, (COUPON, issuer, 2030_06_24, CAD, LOWER));
     let mut rows = CORPORATIONS.map(one);
-    let ordered = Sheet::of_rows(VALUED, &rows, 0);
+    let ordered = Sheet::of_rows(participant(VALUED), &rows, 0);
     assert_eq!(ordered.renumbered(), ordered);
     read_back(&mut files, &ordered, "in order");
     rows.reverse();
-    let reversed = Sheet::of_rows(VALUED, &rows, 0);
+    let reversed = Sheet::of_rows(participant(VALUED), &rows, 0);
     assert_eq!(reversed.renumbered(), ordered);
     read_back(&mut files, &reversed, "turned around");
     let twice = std::array::from_fn::<Row, 256, _>(|at| one(FIRST + (at as u64 * 37) % 128));
-    read_back(&mut files, &Sheet::of_rows(VALUED, &twice, 0), "each twice");
+    read_back(
+        &mut files,
+        &Sheet::of_rows(participant(VALUED), &twice, 0),
+        "each twice",
+    );
 }
 
 #[test]

@@ -4,12 +4,12 @@ mod support;
 
 use margin_calculator::samples::{ANY, best_sheet, book};
 use margin_calculator::texts::{PRINTED, dated, holding, joined, line, rated, text_of};
-use margin_calculator::{Row, Sheet, VALUED};
+use margin_calculator::{Row, Sheet, VALUED, participant};
 use margin_host::Line;
-use support::file::{File, Files, LISTS};
+use support::file::{File, Files, HEAD_LENGTH, LISTS};
 use support::lent::NAMES;
 
-/// A date, three holdings and two lines.
+/// A head, three holdings and two lines.
 fn exact() -> File {
     File::exact(&joined(&PRINTED), 3, 2)
 }
@@ -34,7 +34,7 @@ fn one_list_of_every_length() {
 
 #[test]
 fn heads_of_every_length() {
-    // The head is asked for its one entry after all records, whatever else is short.
+    // The head is asked for its two entries after all records, whatever else is short.
     let mut files = Files::fixed("heads of every length");
     let (late, empty) = ([PRINTED[0]; 2], PRINTED[..1].to_vec());
     for length in 0..=33 {
@@ -50,14 +50,18 @@ fn heads_of_every_length() {
             file.head = length;
             if wanted.0 > 0 {
                 files.refused(&file, wanted, what);
-            } else if length < 8 {
+            } else if length < HEAD_LENGTH {
                 files.refused(&file, (2, 0), what);
                 file.lists = [0; LISTS];
                 file.answer = 7;
                 files.refused(&file, (2, 0), what);
             } else {
                 let read = files.compare(&file, what);
-                assert_eq!((read.number, read.sheet().date), (0, 2025_01_01), "{what}");
+                assert_eq!(
+                    (read.number, read.sheet().head),
+                    (0, participant(VALUED)),
+                    "{what}"
+                );
             }
         }
     }
@@ -128,7 +132,7 @@ fn lists_of_the_empty_book() {
         file.text = joined(&PRINTED[..1]);
         file.lists = [length; LISTS];
         let what = format_args!("lists of {length} bytes");
-        files.accepted(&file, &Sheet::empty(VALUED), what);
+        files.accepted(&file, &Sheet::empty(participant(VALUED)), what);
     }
 }
 
@@ -166,7 +170,7 @@ fn lists_of_the_largest_file() {
         currency: 2,
         rating: 2,
     };
-    let mut sheet = Sheet::of_rows(VALUED, &[holding; 256], 0);
+    let mut sheet = Sheet::of_rows(participant(VALUED), &[holding; 256], 0);
     for line in 0..512 {
         sheet.add_line(Line {
             long: line,
@@ -202,7 +206,7 @@ fn lists_of_random_lengths() {
             }
         }
         if files.random.below(12) == 0 {
-            file.head = files.random.place(17);
+            file.head = files.random.place(25);
         }
         file.answer = 14 + files.random.place(3) * files.random.place(5) + files.random.place(3);
         files.compare(&file, format_args!("{size} holdings"));

@@ -3,7 +3,7 @@
 mod support;
 
 use margin_calculator::samples::{Random, SHAPES, best_sheet, book};
-use margin_calculator::{Sheet, VALUED};
+use margin_calculator::{Sheet, VALUED, participant};
 use support::lent::{Lent, NAMES, OF_HOLDINGS};
 use support::{Run, column};
 
@@ -55,10 +55,10 @@ const PROBES: [u64; 42] = [
 
 fn change(random: &mut Random, sheet: &mut Sheet) {
     if random.below(20) == 0 {
-        sheet.date = match random.below(3) {
+        sheet.head.date = match random.below(3) {
             0 => random.pick(&PROBES),
-            1 => sheet.date.wrapping_add(1),
-            _ => sheet.date.wrapping_sub(1),
+            1 => sheet.head.date.wrapping_add(1),
+            _ => sheet.head.date.wrapping_sub(1),
         };
         return;
     }
@@ -107,7 +107,7 @@ fn best_proposals_with_random_changes() {
 fn random_lengths_and_numbers() {
     let mut run = Run::new("random lengths and numbers", 0x0702);
     for _ in 0..3_000 {
-        let mut lent = Lent::of(&Sheet::empty(VALUED));
+        let mut lent = Lent::of(&Sheet::empty(participant(VALUED)));
         let lengths = [run.random.place(7), run.random.place(5)].map(|count| 8 * count);
         let uneven = run.random.below(4) == 0;
         for (at, column) in lent.columns.iter_mut().enumerate() {
@@ -135,7 +135,7 @@ fn random_lengths_and_numbers() {
 fn random_bytes() {
     let mut run = Run::new("random bytes", 0x0703);
     for _ in 0..1_000 {
-        let mut lent = Lent::of(&Sheet::empty(VALUED));
+        let mut lent = Lent::of(&Sheet::empty(participant(VALUED)));
         let lengths = [8 * run.random.place(4), 8 * run.random.place(4)];
         for (at, column) in lent.columns.iter_mut().enumerate() {
             let length = lengths[usize::from(at >= OF_HOLDINGS)];

@@ -1,7 +1,7 @@
-//! Sheets in the papers' numbers, and the papers' rates and pairs, typed from them. All are valued on
-//! 2025-01-01.
+//! Sheets in the papers' numbers, and the papers' rates and pairs, typed from them. All are approved participants'
+//! and valued on 2025-01-01.
 
-use margin_calculator::{NOT_RATED, Row, Sheet, VALUED, calendar};
+use margin_calculator::{NOT_RATED, Row, Sheet, VALUED, calendar, participant};
 use margin_host::Line;
 
 use super::Run;
@@ -36,7 +36,7 @@ pub fn holding(side: u64, kind: u64, issuer: u64, maturity: u64, value: u64) -> 
 
 /// A sheet of holdings, each with its price, and of lines.
 pub fn sheet(holdings: &[(Row, u64)], lines: &[(u64, u64, u64)]) -> Sheet {
-    let mut sheet = Sheet::empty(VALUED);
+    let mut sheet = Sheet::empty(participant(VALUED));
     for (holding, price) in holdings {
         sheet.add_holding(*holding, *price);
     }
