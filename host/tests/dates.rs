@@ -4,7 +4,7 @@ mod support;
 
 use margin_calculator::{Sheet, participant};
 use margin_host::Line;
-use support::faults::{Fault, HOLDINGS, NUMBERS, PAIRS, VALUATION, plant, sound};
+use support::faults::{HOLDINGS, VALUATION, comes_after, sound};
 use support::lent::{Lent, NAMES, OF_HOLDINGS};
 use support::sheets::{BOND, CA, COUPON, LONG, ON, QC, RESIDUAL, SHORT, holding};
 use support::{Run, column};
@@ -169,19 +169,8 @@ fn numbers_that_are_no_date() {
 
 #[test]
 fn the_turn_of_the_valuation_date() {
-    // After 1, 3, 9 and 2, and before everything else.
     let mut run = Run::fixed("the turn of the valuation date");
-    for number in NUMBERS {
-        for place in 0..Fault::places(number) {
-            let fault = Fault::at(number, place, PAIRS);
-            let wanted = match number {
-                1 | 3 | 9 | 2 => (number, 0, 0),
-                _ => (24, 0, 0),
-            };
-            let faults = [fault, Fault::at(VALUATION, 0, 0)];
-            run.refused(&plant(&faults), wanted, format_args!("{fault:?}"));
-        }
-    }
+    comes_after(&mut run, VALUATION, &[1, 3, 9, 2]);
 }
 
 #[test]

@@ -67,13 +67,19 @@ fn large_numbers_in_every_column() {
 }
 
 #[test]
-fn large_numbers_as_the_valuation_date() {
-    let mut run = Run::fixed("large numbers as the valuation date");
+fn large_numbers_in_the_head() {
+    let mut run = Run::fixed("large numbers in the head");
     for number in large().into_iter().chain([0, 1, 1899_12_31, 2300_01_01]) {
         let mut sheet = sound();
         sheet.head.date = number;
         let what = format_args!("valued on {number}");
         run.refused(&Lent::of(&sheet), (24, 0, 0), what);
+    }
+    for number in large().into_iter().chain([2, 3, VALUED]) {
+        let mut sheet = sound();
+        sheet.head.letter = number;
+        let what = format_args!("letter {number}");
+        run.refused(&Lent::of(&sheet), (26, 0, 0), what);
     }
 }
 

@@ -3,11 +3,12 @@
 mod support;
 
 use margin_calculator::samples::{ANY, best_sheet, book};
-use margin_calculator::texts::{PRINTED, dated, holding, joined, line, rated, text_of};
+use margin_calculator::texts::{PRINTED, dated, dated_for, holding, joined, line, rated, text_of};
 use margin_calculator::{Row, Sheet, VALUED, participant};
 use margin_host::Line;
 use support::file::{File, Files, HEAD_LENGTH, LISTS};
 use support::lent::NAMES;
+use support::sheets::HEADS;
 
 /// A head, three holdings and two lines.
 fn exact() -> File {
@@ -37,31 +38,34 @@ fn heads_of_every_length() {
     // The head is asked for its two entries after all records, whatever else is short.
     let mut files = Files::fixed("heads of every length");
     let (late, empty) = ([PRINTED[0]; 2], PRINTED[..1].to_vec());
+    let [of_participant, of_client] = HEADS;
     for length in 0..=33 {
         let what = format_args!("head of {length} bytes");
         for (text, holdings, lines, wanted) in [
-            (joined(&PRINTED), 3, 2, (0, 0)),
-            (joined(&empty), 0, 0, (0, 0)),
-            (joined(&late), 0, 0, (22, 1)),
-            (Vec::new(), 0, 0, (22, 0)),
-            (joined(&PRINTED[1..]), 3, 2, (22, 0)),
+            (joined(&PRINTED), 3, 2, Ok(of_participant)),
+            (dated_for("C", &PRINTED[1..]), 3, 2, Ok(of_client)),
+            (joined(&empty), 0, 0, Ok(of_participant)),
+            (joined(&late), 0, 0, Err((22, 1))),
+            (Vec::new(), 0, 0, Err((22, 0))),
+            (joined(&PRINTED[1..]), 3, 2, Err((22, 0))),
         ] {
             let mut file = File::exact(&text, holdings, lines);
             file.head = length;
-            if wanted.0 > 0 {
-                files.refused(&file, wanted, what);
-            } else if length < HEAD_LENGTH {
+            let head = match wanted {
+                Ok(head) => head,
+                Err(refusal) => {
+                    files.refused(&file, refusal, what);
+                    continue;
+                }
+            };
+            if length < HEAD_LENGTH {
                 files.refused(&file, (2, 0), what);
                 file.lists = [0; LISTS];
                 file.answer = 7;
                 files.refused(&file, (2, 0), what);
             } else {
                 let read = files.compare(&file, what);
-                assert_eq!(
-                    (read.number, read.sheet().head),
-                    (0, participant(VALUED)),
-                    "{what}"
-                );
+                assert_eq!((read.number, read.sheet().head), (0, head), "{what}");
             }
         }
     }

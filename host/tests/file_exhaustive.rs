@@ -102,6 +102,19 @@ fn every_byte_in_a_currency() {
 }
 
 #[test]
+fn every_short_letter_of_an_account() {
+    let mut files = Files::fixed("every short letter of an account");
+    for length in 0..=5 {
+        for letter in texts(b"PCpD \"", length) {
+            let head = with_field(PRINTED[0], 2, &letter);
+            files.compare(&File::exact(&head, 0, 0), format_args!("{letter:?}"));
+        }
+    }
+    assert_eq!(files.seen[0], 4, "P and C, bare and in quotes");
+    files.has_seen(&[19, 21], 500);
+}
+
+#[test]
 fn every_byte_in_a_date() {
     let mut files = Files::fixed("every byte in a date");
     for at in 0..10 {

@@ -3,7 +3,7 @@
 use margin_calculator::cases::all;
 use margin_calculator::samples::{Random, SHAPES, best_sheet, book};
 use margin_calculator::texts::{
-    PRINTED, dated, holding, issuer_text, joined, line, of_width, rated, text_of, valued,
+    PRINTED, dated, head, holding, issuer_text, joined, line, of_width, rated, text_of, valued,
 };
 use margin_calculator::{self as calculator, FIELDS, Sheet, print};
 use margin_host::{
@@ -135,6 +135,45 @@ fn both_paragraphs_by_their_names() {
     let dollars = text.replace("GBP,\r\nH,L,R", "USD,\r\nH,L,R");
     let refusal = Err(Refusal::PairNotAllowed { line: 1 });
     assert_eq!(check_file(dollars.as_bytes()), refusal);
+}
+
+#[test]
+fn the_same_holdings_in_both_accounts() {
+    // Ten per cent for the bond and thirty for the strip, but 20 for the two where they may be paired.
+    let text = "D,2025-01-01,C,,,,,,\r\n\
+                H,L,B,5493001KJTIIGC8Y1R12,2046-11-27,1000,0,CAD,Y\r\n\
+                H,S,R,5493001KJTIIGC8Y1R12,2046-11-27,1000,0,CAD,N\r\n";
+    let (mut book, mut proposal) = read(text.as_bytes()).expect("it is read");
+    assert_eq!(book.account, AccountKind::Client);
+    let cents = |book: &Book, proposal: &Proposal| {
+        check(book, proposal).map(|accepted| accepted.figures.cents)
+    };
+    assert_eq!(cents(&book, &proposal), Ok(400));
+    assert_eq!(check(&book, &proposal), check_file(text.as_bytes()));
+    book.account = AccountKind::Participant;
+    let uncovered = Refusal::PairNotCovered { long: 0, short: 1 };
+    assert_eq!(cents(&book, &proposal), Err(uncovered));
+    let participants = text.replace(",C,,", ",P,,");
+    assert_eq!(check_file(participants.as_bytes()), Err(uncovered));
+    proposal.prices[1] = 29_200;
+    proposal.lines = vec![Line {
+        long: 0,
+        short: 1,
+        amount: 1_000,
+    }];
+    assert_eq!(cents(&book, &proposal), Ok(200));
+    book.account = AccountKind::Client;
+    let refusal = Refusal::PairNotAllowed { line: 0 };
+    assert_eq!(cents(&book, &proposal), Err(refusal));
+}
+
+#[test]
+fn an_account_that_is_none() {
+    let refusal = Err(Refusal::FieldNotOfItsSort { record: 0 });
+    for account in ["", "p", "PC", "0"] {
+        let text = with(0, &head("2025-01-01", account));
+        assert_eq!(read(&text), refusal, "{account:?}");
+    }
 }
 
 #[test]

@@ -3,6 +3,7 @@
 use margin_calculator::{NOT_RATED, Row, Sheet, VALUED, participant};
 use margin_host::Line;
 
+use super::Run;
 use super::lent::Lent;
 
 /// The longs with lines of the sound sheet are 0 to 5, the shorts 6 to 11.
@@ -190,6 +191,23 @@ fn plant_in_sheet(sheet: &mut Sheet, fault: &Fault, all: &[Fault]) {
         16 => uncover(sheet, at, fault.second as usize),
         17 => sheet.price[LONE_LONG as usize] = 1,
         _ => {}
+    }
+}
+
+/// Demands that a fault of the head is named with each other one, but for those of these numbers.
+pub fn comes_after(run: &mut Run, own: u64, earlier: &[u64]) {
+    let own = Fault::at(own, 0, 0);
+    for number in NUMBERS {
+        for place in 0..Fault::places(number) {
+            let fault = Fault::at(number, place, PAIRS);
+            let first = if earlier.contains(&number) {
+                fault
+            } else {
+                own
+            };
+            let what = format_args!("{fault:?}");
+            run.refused(&plant(&[fault, own]), first.answer(), what);
+        }
     }
 }
 
