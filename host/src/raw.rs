@@ -150,9 +150,9 @@ pub fn margin_check(
 /// Calls the reader and returns the refusal number, 0 for a file that was read.
 ///
 /// A file that is read goes to the front of the lists: its valuation date and its account's letter to the first two
-/// entries of the head, and of the columns eight get an entry for each holding and three one for each line. What comes after is kept,
-/// and a refusal keeps the head and all eleven. An answer slice of 16 bytes or more gets the number of holdings
-/// and the number of lines, or the place and 0; a shorter one is kept.
+/// entries of the head, and of the columns eight get an entry for each holding and three one for each line. What
+/// comes after is kept, and a refusal keeps the head and all eleven. An answer slice of 16 bytes or more gets the
+/// number of holdings and the number of lines, or the place and 0; a shorter one is kept.
 ///
 /// The call needs less than 56 KiB of stack, whatever the size of the file: when tried with 256 holdings and
 /// 512 lines, a thread of 56 KiB was enough, and one of 54 KiB was not.

@@ -101,16 +101,17 @@ fn a_client_has_a_participants_pairs_of_paragraph_2() {
             for &short in &legs {
                 let domestic = [long, short].map(|leg| leg.1 <= 10 && leg.3 == CAD) == [true; 2];
                 let what = format_args!("{long:?} with {short:?}");
-                let [theirs, ours] =
-                    HEADS.map(|head| run.compare(&rated_legs(head, long, 43_799, short), what));
-                let wanted = if domestic { theirs.number } else { 13 };
-                assert_eq!(ours.number, wanted, "{what}");
+                let paired = |head| rated_legs(head, long, 43_800, short);
+                let alone = |head| unpaired_legs(head, long, 0, short);
+                let [theirs, ours] = HEADS.map(|head| run.compare(&paired(head), what));
                 taken[0] += usize::from(theirs.number != 13);
                 taken[1] += usize::from(ours.number != 13);
-                let [theirs, ours] =
-                    HEADS.map(|head| run.compare(&unpaired_legs(head, long, 0, short), what));
-                let wanted = if domestic { theirs.number } else { 0 };
-                assert_eq!(ours.number, wanted, "{what}");
+                let [theirs_alone, ours_alone] = HEADS.map(|head| run.compare(&alone(head), what));
+                if domestic {
+                    assert_eq!([ours, ours_alone], [theirs, theirs_alone], "{what}");
+                } else {
+                    assert_eq!([ours.number, ours_alone.number], [13, 0], "{what}");
+                }
             }
         }
     }
@@ -130,7 +131,7 @@ fn numbers_that_are_no_letter() {
     let (one, other, saving, _) = OF_PARTICIPANTS[0];
     let characters = [b'P', b'C'].map(u64::from);
     let shifted = (1..64).flat_map(|power| [0, 1].map(|low| (1 << power) + low));
-    let others = [2, 255, u64::MAX - 1, u64::MAX].into_iter();
+    let others = [255, u64::MAX - 1, u64::MAX];
     for letter in shifted.chain(others).chain(characters) {
         let what = format_args!("letter {letter}");
         let head = Head {

@@ -134,9 +134,9 @@ fn grouped(entries: &[Entry]) -> impl Iterator<Item = (usize, &Entry, usize)> {
 
 #[cfg(test)]
 mod tests {
-    use super::{Short, group, needed};
     use margin_host::Head;
 
+    use super::{Short, group, needed};
     use crate::{Account, Position, Row, VALUED, client, participant, saving_rate};
 
     /// Issuers, each with a rating.

@@ -43,9 +43,9 @@ pub fn run() {
         "corporations: 4, and a fourth of the holdings, in CAD. Any currency, any issuer: also what no paragraph pairs."
     );
     println!(
-        "Approved participants' books, valued on 2025-01-01, but for that of a client, which has the holdings of any issuer."
+        "A client's: the holdings of any issuer in a client's account; all other accounts are approved participants'."
     );
-    println!("Outputs are not cleared before a call.");
+    println!("Valued on 2025-01-01. Outputs are not cleared before a call.");
     println!("Median of {BATCHES} alternating batches; calls a second, and their ratio.");
     println!();
     println!(
