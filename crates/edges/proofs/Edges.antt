@@ -13,11 +13,11 @@ use Rattle.words.specs.Words.{number, littleEndian, wordAt, entries, decode, en
 use Rattle.dates.specs.Calendar.{isLeap, leapDay, monthLengths, monthLength, isReal, isDate, yearStart, monthStart, dayNumber, daysBetween, isLeapDay, anniversary}
 use Rattle.dates.specs.Text.{digitsOf, dateText, textNumber, readDate}
 use Rattle.holding.specs.Holding as row
-use Rattle.holding.specs.Holding.{headNumbers, headFaults, headFault, accountOf, outOfTerm, identityFaults, termFaults, worthFaults, moneyFaults, rowFaults, faultOf, holdingOf}
+use Rattle.holding.specs.Holding.{headNumbers, headFaults, headFault, letterOf, accountOf, outOfTerm, identityFaults, termFaults, worthFaults, moneyFaults, rowFaults, faultOf, holdingOf}
 use Rattle.holding.specs.Holding.{isCorporation, isIssuer, isRated, sideOf, kindOf, issuerOf, currencyOf, ratingOf, rowOf}
 use Rattle.rates.specs.Rate.{longerThan, atLeast, periodOf, percents, flatRate, bondRate, stripRate, kindRate, rateAt, rateOf}
 use Rattle.article.specs.Pair.{legOf, isLong, isShort, isBond, isStrip, isCanada, isProvince, isUs, isGb, inCad, inUsd, inGbp, kindsPair, sameClass, mixedClass, classRule}
-use Rattle.article.specs.Pair.{isCorporate, bondRating, sameCorporation, corporateRule, cadRule}
+use Rattle.article.specs.Pair.{isParticipant, areParticipants, isCorporate, bondRating, sameCorporation, corporateRule, cadRule}
 use Rattle.article.specs.Pair.{domesticRule, oneBond, sameGovernment, foreignRule, bothCad, sameForeign, ruleOf, ruleRate, allowed, pairRateOf, savingRateOf, pairOf}
 use Rattle.pairing.specs.Pairing as theory
 use Rattle.pairing.specs.Pairing.{used, saving, pairUnits, pricedTotal}
@@ -58,13 +58,25 @@ use Rattle.edges.proofs.Corporate.{threeParagraphs, withoutParagraph3, 
 use Rattle.edges.proofs.Corporate.{firstAppearance, mostCorporations, numberedFile, alikeInHalf, noCorporation, corporateColumns, smallCorporateFile}
 use Rattle.edges.proofs.Corporate.{twoIssuersFile, ratedLowerFile, corporateFile, ninthField, beforeOrder, smallLetters, nineFields, namedLeis, namedLonger}
 use Rattle.edges.proofs.Corporate.{namedShort, namedOthers}
+use Rattle.edges.proofs.Clients.{accountLetters, beforeHoldings, beforeLines, afterSizes, clientRates, unitedStates, canadaAbroad, corporations, participantPairs}
+use Rattle.edges.proofs.Clients.{clientPairs, deniedToBoth, deniedToClients, clientBooks, clientLeast, participantLeast, notLeast, accountTexts, accountRecord}
+use Rattle.edges.proofs.Clients.{accountOrder, headTwo, headTwoKept, clientWorked, clientFile, clientLines, clientHedges, clientCorporation}
 
--- the table: document 01's cases, the starred first, then those of document 02 a), of b) and of d). Most groups are as small as the prover computes when it names
+-- the table: document 01's cases, the starred first, then those of document 02 a), of b), of d) and of e). Most groups are as small as the prover computes when it names
 -- a case that fails; of the others it names the group
+abbrev pub clientTexts : List (List Case)
+clientTexts =
+    accountTexts ∷ accountRecord ∷ accountOrder ∷ headTwo ∷ headTwoKept ∷ clientWorked ∷ clientFile ∷ clientLines ∷ clientHedges ∷ clientCorporation ∷ []
+
+abbrev pub accounts : List (List Case)
+accounts =
+    accountLetters ∷ beforeHoldings ∷ beforeLines ∷ afterSizes ∷ clientRates ∷ unitedStates ∷ canadaAbroad ∷ corporations ∷ participantPairs ∷ clientPairs
+    ∷ deniedToBoth ∷ deniedToClients ∷ clientBooks ∷ clientLeast ∷ participantLeast ∷ notLeast ∷ clientTexts
+
 abbrev pub corporateTexts : List (List Case)
 corporateTexts =
     smallCorporateFile ∷ twoIssuersFile ∷ ratedLowerFile ∷ corporateFile ∷ ninthField ∷ beforeOrder ∷ smallLetters ∷ nineFields ∷ namedLeis
-    ∷ namedLonger ∷ namedShort ∷ namedOthers ∷ []
+    ∷ namedLonger ∷ namedShort ∷ namedOthers ∷ accounts
 
 abbrev pub identifiers : List (List Case)
 identifiers =
@@ -109,7 +121,7 @@ unfolding
     headList headKept failing alone together judged worked within firstOf some count same insert ordered sumTo sumOf only listTo turns inTurn front holdingSizes
     lineSizes listsOf writtenLists two entriesOf unequal differ tooShort outcomeIn outcomeOf countIn numbersAt rowsIn linesIn submission column filledFrom
     filled row.numbersOf lineNumbers answered readAnswer heldLists readingAnswer filling heading isLeap leapDay monthLengths monthLength isReal isDate yearStart
-    monthStart dayNumber daysBetween isLeapDay anniversary digitsOf dateText textNumber readDate headNumbers headFaults headFault accountOf outOfTerm
+    monthStart dayNumber daysBetween isLeapDay anniversary digitsOf dateText textNumber readDate headNumbers headFaults headFault letterOf accountOf outOfTerm
     identityFaults termFaults worthFaults moneyFaults rowFaults faultOf holdingOf sideOf kindOf issuerOf currencyOf rowOf longerThan atLeast periodOf percents
     flatRate bondRate stripRate kindRate rateAt rateOf legOf isLong isShort isBond isStrip isCanada isProvince isUs isGb inCad inUsd inGbp kindsPair sameClass
     mixedClass classRule domesticRule oneBond sameGovernment foreignRule bothCad sameForeign ruleOf ruleRate allowed pairRateOf savingRateOf pairOf used
@@ -118,15 +130,19 @@ unfolding
     faults accepted outcome lead digits valueFrom numeralOf placeFrom placeOf isText isQuotable part textFrom textEnd closeFrom closeAt followedBy followed
     begins opens enclosed fieldAt fieldsFrom recordAt recordsFrom recordsAt recordsOf valueOf valuesOf parsedOf parse parsedIn valuesBy submissionOf atRecord
     fileFaults fileFault afterComma lineOf answerNumbers refusalLine marginLine remainderLine printedLines bookLine printedOf fileAnswer printed flatMap number
-    littleEndian wordAt entries decode encode isCorporation isIssuer isRated ratingOf isCorporate bondRating sameCorporation corporateRule cadRule isDigit
+    littleEndian wordAt entries decode encode isCorporation isIssuer isRated ratingOf isParticipant areParticipants isCorporate bondRating sameCorporation corporateRule cadRule isDigit
     isCapital isCharacter inForm lei.valueOf lei.digitsOf lei.number lei.remainder halfOf leiOf judgedOf characterOf characters leiText sameLei firstPlace enter
     misrated issuerNumber knownAfter numberedFrom leisFrom holdingsOf leisOf answerTo namedTexts leisTooShort namingAnswer naming groupFive hedges longerHedges
     capped belowCap hedgeEnds ratedLower sameKinds twoCorporations corporationAndCanada corporationAndProvince corporationAbroad corporationInUsd
     corporationInGbp corporatePeriods ratingFaults ratingPlaces threeParagraphs withoutParagraph3 hedgedBooks corporateUnpaired leis leiTexts recordValues
     misratedRecords firstAppearance mostCorporations numberedFile alikeInHalf noCorporation corporateColumns smallCorporateFile twoIssuersFile ratedLowerFile
-    corporateFile ninthField beforeOrder smallLetters nineFields namedLeis namedLonger namedShort namedOthers
+    corporateFile ninthField beforeOrder smallLetters nineFields namedLeis namedLonger namedShort namedOthers accountLetters beforeHoldings beforeLines afterSizes
+    clientRates unitedStates canadaAbroad corporations participantPairs clientPairs deniedToBoth deniedToClients clientBooks clientLeast participantLeast notLeast
+    accountTexts accountRecord accountOrder headTwo headTwoKept clientWorked clientFile clientLines clientHedges clientCorporation
 none-fails =
-    let f : NoneFails corporateTexts = (refl, (refl, (refl, (refl, (refl, (refl, (refl, (refl, (refl, (refl, (refl, (refl, tt)))))))))))) in
+    let h : NoneFails clientTexts = (refl, (refl, (refl, (refl, (refl, (refl, (refl, (refl, (refl, (refl, tt)))))))))) in
+    let g : NoneFails accounts = (refl, (refl, (refl, (refl, (refl, (refl, (refl, (refl, (refl, (refl, (refl, (refl, (refl, (refl, (refl, (refl, h)))))))))))))))) in
+    let f : NoneFails corporateTexts = (refl, (refl, (refl, (refl, (refl, (refl, (refl, (refl, (refl, (refl, (refl, (refl, g)))))))))))) in
     let e : NoneFails identifiers = (refl, (refl, (refl, (refl, (refl, (refl, (refl, (refl, (refl, (refl, f)))))))))) in
     let d : NoneFails corporateBooks = (refl, (refl, (refl, (refl, (refl, (refl, e)))))) in
     let c : NoneFails corporatePairs = (refl, (refl, (refl, (refl, (refl, (refl, (refl, (refl, (refl, (refl, (refl, (refl, (refl, (refl, (refl, d))))))))))))))) in
