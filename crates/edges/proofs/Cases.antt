@@ -46,9 +46,9 @@ abbrev pub Agrees : Case → Type 0
 Agrees c = c .computed ≡ c .stated
 
 -- the names of the cases that do not hold
-unfoldable pub failing : List Case → List String
-failing [] = []
-failing (c ∷ cs) = cond (same (c .computed) (c .stated)) (failing cs) (c .name ∷ failing cs)
+unfoldable pub namesOfWrongCases : List Case → List String
+namesOfWrongCases [] = []
+namesOfWrongCases (c ∷ cs) = cond (same (c .computed) (c .stated)) (namesOfWrongCases cs) (c .name ∷ namesOfWrongCases cs)
 
 -- the head with a valuation date and a letter; a participant's and a client's; and the date of document 01's cases
 abbrev pub head : ℕ → ℕ → Head

@@ -120,12 +120,9 @@ bondAndStrip issuer currency rating =
     (λ (k : ℕ). (long B issuer currency rating, short k issuer currency rating) ∷ (long k issuer currency rating, short B issuer currency rating) ∷ [])
     (C ∷ R ∷ [])
 
--- kinds of a long and a short in CAD of two issuers, each issuer long once
+-- a long and a short of two issuers in CAD, of each two kinds
 abbrev domestic : ℕ → ℕ → List (ℕ × ℕ) → List (Row × Row)
-domestic issuer other kinds =
-    flatMap
-    (λ (k : ℕ × ℕ). (long (k .0) issuer CAD none, short (k .1) other CAD none) ∷ (long (k .1) other CAD none, short (k .0) issuer CAD none) ∷ [])
-    kinds
+domestic issuer other kinds = map (λ (k : ℕ × ℕ). (long (k .0) issuer CAD none, short (k .1) other CAD none)) kinds
 
 -- a holding has the same rate in both accounts
 unfoldable pub clientRates : List Case
@@ -138,16 +135,28 @@ clientRates =
     ∷ []
 
 -- paragraph 4 is a participant's, and not a client's
-unfoldable pub unitedStates : List Case
-unitedStates =
-    pairs "a participant's, of US in USD and in GBP" (bondAndStrip US USD none ++ bondAndStrip US GBP none) 1460 5840
-    ∷ no-pairs-by ours "a client's, of US in USD and in GBP" (bondAndStrip US USD none ++ bondAndStrip US GBP none)
+unfoldable pub usInUsd : List Case
+usInUsd =
+    pairs "a participant's, of US in USD" (bondAndStrip US USD none) 1460 5840
+    ∷ no-pairs-by ours "a client's, of US in USD" (bondAndStrip US USD none)
     ∷ []
 
-unfoldable pub canadaAbroad : List Case
-canadaAbroad =
-    pairs "a participant's, of Canada in USD and of GB in GBP" (bondAndStrip CA USD none ++ bondAndStrip GB GBP none) 1460 5840
-    ∷ no-pairs-by ours "a client's, of Canada in USD and of GB in GBP" (bondAndStrip CA USD none ++ bondAndStrip GB GBP none)
+unfoldable pub usInGbp : List Case
+usInGbp =
+    pairs "a participant's, of US in GBP" (bondAndStrip US GBP none) 1460 5840
+    ∷ no-pairs-by ours "a client's, of US in GBP" (bondAndStrip US GBP none)
+    ∷ []
+
+unfoldable pub canadaInUsd : List Case
+canadaInUsd =
+    pairs "a participant's, of Canada in USD" (bondAndStrip CA USD none) 1460 5840
+    ∷ no-pairs-by ours "a client's, of Canada in USD" (bondAndStrip CA USD none)
+    ∷ []
+
+unfoldable pub gbInGbp : List Case
+gbInGbp =
+    pairs "a participant's, of GB in GBP" (bondAndStrip GB GBP none) 1460 5840
+    ∷ no-pairs-by ours "a client's, of GB in GBP" (bondAndStrip GB GBP none)
     ∷ []
 
 -- and so is paragraph 3
@@ -159,60 +168,92 @@ corporations =
     ∷ no-pairs-by ours "a client's, with a strip from 20 years" ((rated Y (row L B K1 20380910 100), rated N (row S C K1 20461127 100)) ∷ [])
     ∷ []
 
--- paragraph 2 is a participant's and a client's, at one rate
-abbrev paragraph2 : Head → List Case
-paragraph2 h =
-    pairs-by h "bond with strip of Canada" (domestic CA CA ((B, C) ∷ (B, R) ∷ [])) 1460 5840
-    ∷ pairs-by h "strip with strip of Canada" (domestic CA CA ((C, C) ∷ (C, R) ∷ (R, R) ∷ [])) 0 8760
-    ∷ pairs-by h "bond with strip of provinces" (domestic ON QC ((B, C) ∷ (R, B) ∷ []) ++ domestic ON ON ((B, C) ∷ [])) 2920 11680
-    ∷ pairs-by h "strip with strip of provinces" (domestic ON QC ((C, C) ∷ (C, R) ∷ (R, R) ∷ [])) 0 17520
-    ∷ pairs-by h "Canada bond with strip of a province" (domestic CA ON ((B, C) ∷ (B, R) ∷ [])) 5840 5840
-    ∷ pairs-by h "Canada strip with bond of a province" (domestic CA ON ((C, B) ∷ (R, B) ∷ [])) 5110 5110
-    ∷ pairs-by h "Canada strip with strip of a province" (domestic CA ON ((C, R) ∷ (R, C) ∷ [])) 6570 6570
+-- paragraph 2 is a participant's and a client's, at one rate: a bond with a strip of one class, a strip with a strip, and Canada with a province
+abbrev bondWithStrip : Head → List Case
+bondWithStrip h =
+    pairs-by h "bond with strip of Canada" (domestic CA CA ((B, C) ∷ (C, B) ∷ (B, R) ∷ (R, B) ∷ [])) 1460 5840
+    ∷ pairs-by h "bond with strip of provinces" (domestic ON QC ((B, C) ∷ (C, B) ∷ (B, R) ∷ (R, B) ∷ []) ++ domestic ON ON ((B, C) ∷ (R, B) ∷ [])) 2920 11680
     ∷ []
 
-unfoldable pub participantPairs : List Case
-participantPairs = paragraph2 (participant new-year)
+abbrev stripWithStrip : Head → List Case
+stripWithStrip h =
+    pairs-by h "strip with strip of Canada" (domestic CA CA ((C, C) ∷ (C, R) ∷ (R, C) ∷ (R, R) ∷ [])) 0 8760
+    ∷ pairs-by h "strip with strip of provinces" (domestic ON QC ((C, C) ∷ (C, R) ∷ (R, C) ∷ (R, R) ∷ []) ++ domestic QC QC ((C, R) ∷ [])) 0 17520
+    ∷ []
 
-unfoldable pub clientPairs : List Case
-clientPairs = paragraph2 ours
+abbrev canadaWithProvince : Head → List Case
+canadaWithProvince h =
+    pairs-by h "Canada bond with strip of a province" (domestic CA ON ((B, C) ∷ (B, R) ∷ []) ++ domestic ON CA ((C, B) ∷ (R, B) ∷ [])) 5840 5840
+    ∷ pairs-by h "Canada strip with bond of a province" (domestic CA ON ((C, B) ∷ (R, B) ∷ []) ++ domestic ON CA ((B, C) ∷ (B, R) ∷ [])) 5110 5110
+    ∷ pairs-by h "Canada strip with strip of a province" (domestic CA ON ((C, R) ∷ (R, C) ∷ []) ++ domestic ON CA ((C, C) ∷ (R, R) ∷ [])) 6570 6570
+    ∷ []
 
--- and what it denies, it denies to both
+unfoldable pub participantBonds : List Case
+participantBonds = bondWithStrip (participant new-year)
+
+unfoldable pub clientBonds : List Case
+clientBonds = bondWithStrip ours
+
+unfoldable pub participantStrips : List Case
+participantStrips = stripWithStrip (participant new-year)
+
+unfoldable pub clientStrips : List Case
+clientStrips = stripWithStrip ours
+
+unfoldable pub participantMixed : List Case
+participantMixed = canadaWithProvince (participant new-year)
+
+unfoldable pub clientMixed : List Case
+clientMixed = canadaWithProvince ours
+
+-- what it denies, it denies to both
 abbrev bondWithBond : List (Row × Row)
-bondWithBond = domestic CA CA ((B, B) ∷ []) ++ domestic ON QC ((B, B) ∷ []) ++ domestic CA ON ((B, B) ∷ [])
+bondWithBond = flatMap (λ (i : ℕ × ℕ). domestic (i .0) (i .1) ((B, B) ∷ [])) ((CA, CA) ∷ (ON, ON) ∷ (ON, QC) ∷ (CA, ON) ∷ (ON, CA) ∷ [])
 
-unfoldable pub deniedToBoth : List Case
-deniedToBoth =
+unfoldable pub participantDenied : List Case
+participantDenied =
     no-pairs "a participant's bond with bond" bondWithBond
-    ∷ no-pairs-by ours "a client's bond with bond" bondWithBond
     ∷ []
 
-unfoldable pub deniedToClients : List Case
-deniedToClients =
-    no-pairs-by ours "on either side of 11 years" ((row L C CA 20360101 100, row S C CA 20360102 100) ∷ [])
-    ∷ no-pairs-by ours "strips in USD, and debt of US in CAD" ((long C CA USD none, short R CA USD none) ∷ (long B US CAD none, short C US CAD none) ∷ [])
-    ∷ no-pairs-by ours "Canada in CAD with Canada in USD" ((long B CA CAD none, short C CA USD none) ∷ (long C CA USD none, short B CA CAD none) ∷ [])
+unfoldable pub clientDenied : List Case
+clientDenied =
+    no-pairs-by ours "a client's bond with bond" bondWithBond
+    ∷ []
+
+unfoldable pub otherDenied : List Case
+otherDenied =
+    no-pairs-by ours "a client's, on either side of 11 years" ((row L C CA 20360101 100, row S C CA 20360102 100) ∷ [])
+    ∷ no-pairs-by ours "a client's strips in USD, and debt of US in CAD" ((long C CA USD none, short R CA USD none) ∷ (long B US CAD none, short C US CAD none) ∷ [])
+    ∷ no-pairs-by ours "a client's Canada in CAD with Canada in USD" ((long B CA CAD none, short C CA USD none) ∷ (long C CA USD none, short B CA CAD none) ∷ [])
     ∷ []
 
 -- a bond and a strip of one issuer, by its currency and rating
 abbrev hedge : ℕ → ℕ → ℕ → List Row
 hedge issuer currency rating = long B issuer currency rating ∷ short C issuer currency rating ∷ []
 
--- one book in both accounts: in USD, and of a corporation, a line is a participant's alone, and the two are paid for in full by a client
-unfoldable pub clientBooks : List Case
-clientBooks =
+-- one book in both accounts: a line in USD is a participant's alone, and a client's two holdings have their full margins; so is one of a corporation
+unfoldable pub booksInUsd : List Case
+booksInUsd =
     proposal "a participant's line in USD" (hedge US USD none) (5840 ∷ 0 ∷ []) (line 0 1 100 ∷ []) (0 ∷ 146000 ∷ 1 ∷ 0 ∷ 0 ∷ 0 ∷ 1 ∷ [])
+    ∷ proposal "a participant's unpaired, in USD" (hedge US USD none) (0 ∷ 0 ∷ []) [] (16 ∷ 0 ∷ 1 ∷ [])
     ∷ proposal-by ours "a client's line in USD" (hedge US USD none) (5840 ∷ 0 ∷ []) (line 0 1 100 ∷ []) (13 ∷ 0 ∷ 0 ∷ [])
     ∷ proposal-by ours "a client's unpaired, in USD" (hedge US USD none) (0 ∷ 0 ∷ []) [] (0 ∷ 730000 ∷ 5 ∷ 100 ∷ 100 ∷ 1 ∷ 0 ∷ [])
-    ∷ proposal "a participant's unpaired, in USD" (hedge US USD none) (0 ∷ 0 ∷ []) [] (16 ∷ 0 ∷ 1 ∷ [])
-    ∷ proposal "a participant's line of a corporation" (hedge K1 CAD Y) (10220 ∷ 0 ∷ []) (line 0 1 100 ∷ []) (0 ∷ 1533000 ∷ 11 ∷ 0 ∷ 0 ∷ 0 ∷ 1 ∷ [])
+    -- a client has nothing to save here, so that no price may stand
+    ∷ proposal-by ours "a client's unpaired, at a participant's prices" (hedge US USD none) (5840 ∷ 0 ∷ []) [] (17 ∷ 0 ∷ 0 ∷ [])
+    ∷ []
+
+unfoldable pub booksOfCompany : List Case
+booksOfCompany =
+    proposal "a participant's line of a corporation" (hedge K1 CAD Y) (10220 ∷ 0 ∷ []) (line 0 1 100 ∷ []) (0 ∷ 1533000 ∷ 11 ∷ 0 ∷ 0 ∷ 0 ∷ 1 ∷ [])
+    ∷ proposal "a participant's unpaired, of a corporation" (hedge K1 CAD Y) (0 ∷ 0 ∷ []) [] (16 ∷ 0 ∷ 1 ∷ [])
     ∷ proposal-by ours "a client's line of a corporation" (hedge K1 CAD Y) (10220 ∷ 0 ∷ []) (line 0 1 100 ∷ []) (13 ∷ 0 ∷ 0 ∷ [])
     ∷ proposal-by ours "a client's unpaired, of a corporation" (hedge K1 CAD Y) (0 ∷ 0 ∷ []) [] (0 ∷ 2555000 ∷ 18 ∷ 100 ∷ 100 ∷ 1 ∷ 0 ∷ [])
-    ∷ proposal "a participant's unpaired, of a corporation" (hedge K1 CAD Y) (0 ∷ 0 ∷ []) [] (16 ∷ 0 ∷ 1 ∷ [])
-    -- prices of a participant are too high for a client, who has nothing to save
-    ∷ proposal-by ours "a client's unpaired, at a participant's prices" (hedge US USD none) (5840 ∷ 0 ∷ []) [] (17 ∷ 0 ∷ 0 ∷ [])
-    -- in CAD they have one margin
-    ∷ proposal "a participant's line in CAD" (hedge CA CAD none) (5840 ∷ 0 ∷ []) (line 0 1 100 ∷ []) (0 ∷ 146000 ∷ 1 ∷ 0 ∷ 0 ∷ 0 ∷ 1 ∷ [])
+    ∷ []
+
+-- and by paragraph 2 they have one margin
+unfoldable pub booksInCad : List Case
+booksInCad =
+    proposal "a participant's line in CAD" (hedge CA CAD none) (5840 ∷ 0 ∷ []) (line 0 1 100 ∷ []) (0 ∷ 146000 ∷ 1 ∷ 0 ∷ 0 ∷ 0 ∷ 1 ∷ [])
     ∷ proposal-by ours "a client's line in CAD" (hedge CA CAD none) (5840 ∷ 0 ∷ []) (line 0 1 100 ∷ []) (0 ∷ 146000 ∷ 1 ∷ 0 ∷ 0 ∷ 0 ∷ 1 ∷ [])
     ∷ proposal-by ours "a client's unpaired, in CAD" (hedge CA CAD none) (0 ∷ 0 ∷ []) [] (16 ∷ 0 ∷ 1 ∷ [])
     ∷ []
@@ -233,30 +274,45 @@ desk-lines = file-lines 600000 ++ (line 3 4 500000 ∷ line 5 6 500000 ∷ [])
 abbrev desk-prices : List ℕ
 desk-prices = 0 ∷ 5840 ∷ 6570 ∷ 5840 ∷ 0 ∷ 10220 ∷ 0 ∷ []
 
--- a client's least margin is the least over the pairs of paragraph 2, a participant's over all three
+-- a client's least margin is the least over the pairs of paragraph 2, with prices that cover these
+abbrev client-prices : List ℕ
+client-prices = 0 ∷ 5840 ∷ 6570 ∷ 0 ∷ 0 ∷ 0 ∷ 0 ∷ []
+
 unfoldable pub clientLeast : List Case
 clientLeast =
-    proposal-by ours "a client's least, by paragraph 2" desk (0 ∷ 5840 ∷ 6570 ∷ 0 ∷ 0 ∷ 0 ∷ 0 ∷ []) (file-lines 600000)
+    proposal-by ours "a client's least, by paragraph 2" desk client-prices (file-lines 600000)
     (0 ∷ 25623000000 ∷ 175500 ∷ 100000 ∷ 0 ∷ 0 ∷ 500000 ∷ 800000 ∷ 500000 ∷ 800000 ∷ 6 ∷ 5 ∷ 4 ∷ 3 ∷ 0 ∷ 1 ∷ 2 ∷ [])
-    ∷ proposal "a participant's, of which pairs in USD and of the corporation are not covered" desk (0 ∷ 5840 ∷ 6570 ∷ 0 ∷ 0 ∷ 0 ∷ 0 ∷ []) (file-lines 600000) (16 ∷ 3 ∷ 4 ∷ [])
-    ∷ proposal "a participant's, of which the pair of the corporation is not covered" desk (0 ∷ 5840 ∷ 6570 ∷ 5840 ∷ 0 ∷ 0 ∷ 0 ∷ []) (file-lines 600000) (16 ∷ 5 ∷ 6 ∷ [])
     ∷ []
 
+unfoldable pub clientNotLeast : List Case
+clientNotLeast =
+    proposal-by ours "a client's, with one pair of paragraph 2 left out" desk client-prices (line 0 1 600000 ∷ []) (17 ∷ 0 ∷ 0 ∷ [])
+    ∷ proposal-by ours "a client's, with a participant's lines" desk desk-prices desk-lines (13 ∷ 2 ∷ 0 ∷ [])
+    ∷ []
+
+unfoldable pub dearerPrices : List Case
+dearerPrices =
+    proposal-by ours "a client's, at a participant's prices" desk desk-prices (file-lines 600000) (17 ∷ 0 ∷ 0 ∷ [])
+    ∷ []
+
+-- a participant's is the least over all three paragraphs
 unfoldable pub participantLeast : List Case
 participantLeast =
     proposal "a participant's least, by all three" desk desk-prices desk-lines
     (0 ∷ 17593000000 ∷ 120500 ∷ 100000 ∷ 0 ∷ 0 ∷ 0 ∷ 300000 ∷ 0 ∷ 300000 ∷ 6 ∷ 4 ∷ 0 ∷ 1 ∷ 2 ∷ 3 ∷ 5 ∷ [])
-    ∷ proposal-by ours "a client's, with a participant's lines" desk desk-prices desk-lines (13 ∷ 2 ∷ 0 ∷ [])
-    ∷ proposal-by ours "a client's, with a line of the corporation" desk desk-prices (file-lines 600000 ++ (line 5 6 500000 ∷ [])) (13 ∷ 2 ∷ 0 ∷ [])
     ∷ []
 
-unfoldable pub notLeast : List Case
-notLeast =
-    proposal-by ours "a client's, at a participant's prices" desk desk-prices (file-lines 600000) (17 ∷ 0 ∷ 0 ∷ [])
-    ∷ proposal-by ours "a client's, with one pair of paragraph 2 left out" desk (0 ∷ 5840 ∷ 6570 ∷ 0 ∷ 0 ∷ 0 ∷ 0 ∷ []) (line 0 1 600000 ∷ []) (17 ∷ 0 ∷ 0 ∷ [])
-    -- of the uncovered pairs that of the lowest long, among those that the account may have
-    ∷ proposal "a participant's lowest uncovered pair" (hedge US USD none ++ hedge K1 CAD Y ++ hedge CA CAD none) (replicate 6 0) [] (16 ∷ 0 ∷ 1 ∷ [])
-    ∷ proposal-by ours "a client's lowest uncovered pair" (hedge US USD none ++ hedge K1 CAD Y ++ hedge CA CAD none) (replicate 6 0) [] (16 ∷ 4 ∷ 5 ∷ [])
+unfoldable pub atClientPrices : List Case
+atClientPrices =
+    proposal "a participant's, at a client's prices" desk client-prices (file-lines 600000) (16 ∷ 3 ∷ 4 ∷ [])
+    ∷ []
+
+-- of the uncovered pairs that of the lowest long, among those that the account may have
+unfoldable pub lowestUncovered : List Case
+lowestUncovered =
+    proposal "a participant's, in USD" (hedge US USD none ++ hedge K1 CAD Y ++ hedge CA CAD none) (replicate 6 0) [] (16 ∷ 0 ∷ 1 ∷ [])
+    ∷ proposal "a participant's, of a corporation" (hedge US USD none ++ hedge K1 CAD Y ++ hedge CA CAD none) (5840 ∷ replicate 5 0) [] (16 ∷ 2 ∷ 3 ∷ [])
+    ∷ proposal-by ours "a client's, in CAD" (hedge US USD none ++ hedge K1 CAD Y ++ hedge CA CAD none) (replicate 6 0) [] (16 ∷ 4 ∷ 5 ∷ [])
     ∷ []
 
 -- the third field of a D: `P` or `C`; any other text is 21
@@ -355,14 +411,18 @@ clientFile =
     prints "a client's file with a pair of paragraph 2" (DC ++ clientHoldings ++ P "0,1,1") "M,18,1\r\nR,3,2,12\r\nR,2,1,4\r\nR,0,0,0\r\nR,1,0,0\r\n"
     ∷ []
 
-unfoldable pub clientLines : List Case
-clientLines =
+unfoldable pub clientLine : List Case
+clientLine =
     prints "a client's file with a line in USD, at line 1" (DC ++ clientHoldings ++ P "0,1,1" ++ P "2,3,1") "X,13,1,0\r\n"
-    ∷ prints "a participant's file without it" (D ++ clientHoldings ++ P "0,1,1") "X,16,2,3\r\n"
     ∷ []
 
-unfoldable pub clientHedges : List Case
-clientHedges =
+unfoldable pub participantFile : List Case
+participantFile =
+    prints "a participant's file without it" (D ++ clientHoldings ++ P "0,1,1") "X,16,2,3\r\n"
+    ∷ []
+
+unfoldable pub clientHedge : List Case
+clientHedge =
     prints "a client's file with a line in USD" (DC ++ H-in "USD" "L,B,US,2025-01-02,1,8" ++ H-in "USD" "S,C,US,2025-01-02,1,0" ++ P "0,1,1") "X,13,0,0\r\n"
     ∷ []
 
