@@ -64,18 +64,21 @@ use Rattle.edges.proofs.Clients.{clientDenied, otherDenied, booksInUsd,
 use Rattle.edges.proofs.Clients.{participantLeast, atClientPrices, lowestUncovered, accountTexts, accountRecord, accountOrder, headTwo, headTwoKept}
 use Rattle.edges.proofs.Clients.{clientWorked, clientFile, clientLine, participantFile, clientHedge, clientCorporation}
 
--- the table: document 01's cases, the starred first, then those of document 02 a), of b), of d) and of e). Most groups are as small as the prover computes when it names
--- a case that fails; of the others it names the group
+-- the table: document 01's cases, the starred first, then those of document 02 a), of b), of d) and of e). Most groups are as small as the prover computes
+-- when it names a case that fails; of the others it names the group
 abbrev pub clientTexts : List (List Case)
 clientTexts =
     accountTexts ∷ accountRecord ∷ accountOrder ∷ headTwo ∷ headTwoKept ∷ clientWorked ∷ clientFile ∷ clientLine ∷ participantFile ∷ clientHedge
     ∷ clientCorporation ∷ []
 
+abbrev pub clientBooks : List (List Case)
+clientBooks =
+    booksInUsd ∷ booksOfCompany ∷ booksInCad ∷ clientLeast ∷ clientNotLeast ∷ dearerPrices ∷ participantLeast ∷ atClientPrices ∷ lowestUncovered ∷ clientTexts
+
 abbrev pub accounts : List (List Case)
 accounts =
     accountLetters ∷ beforeHoldings ∷ beforeLines ∷ afterSizes ∷ clientRates ∷ usInUsd ∷ usInGbp ∷ canadaInUsd ∷ gbInGbp ∷ corporations ∷ participantBonds
-    ∷ clientBonds ∷ participantStrips ∷ clientStrips ∷ participantMixed ∷ clientMixed ∷ participantDenied ∷ clientDenied ∷ otherDenied ∷ booksInUsd
-    ∷ booksOfCompany ∷ booksInCad ∷ clientLeast ∷ clientNotLeast ∷ dearerPrices ∷ participantLeast ∷ atClientPrices ∷ lowestUncovered ∷ clientTexts
+    ∷ clientBonds ∷ participantStrips ∷ clientStrips ∷ participantMixed ∷ clientMixed ∷ participantDenied ∷ clientDenied ∷ otherDenied ∷ clientBooks
 
 abbrev pub corporateTexts : List (List Case)
 corporateTexts =
@@ -122,32 +125,33 @@ unfolding
     lending reading readingShort tooMany texts fileProposals shortcuts proposals lineRefusals refusals governments longBonds longStrips notParagraph4
     twoCurrencies foreignProvinces foreignDebt bothParagraphs paragraph2Alone foreignBooks foreignFile sterlingFile unpairedFiles eighthField sevenFields
     actualDays wholeYears anniversaries twentyYears periodEnds otherEnds maturities valuations dateTexts valuationRecord datedFiles datedFigures headAnswers
-    headList headKept namesOfWrongCases alone together judged worked within firstOf some count same insert ordered sumTo sumOf only listTo turns inTurn front holdingSizes
-    lineSizes listsOf writtenLists two entriesOf unequal differ tooShort outcomeIn outcomeOf countIn numbersAt rowsIn linesIn submission column filledFrom
-    filled row.numbersOf lineNumbers answered readAnswer heldLists readingAnswer filling heading isLeap leapDay monthLengths monthLength isReal isDate yearStart
-    monthStart dayNumber daysBetween isLeapDay anniversary digitsOf dateText textNumber readDate headNumbers headFaults headFault letterOf accountOf outOfTerm
-    identityFaults termFaults worthFaults moneyFaults rowFaults faultOf holdingOf sideOf kindOf issuerOf currencyOf rowOf longerThan atLeast periodOf percents
-    flatRate bondRate stripRate kindRate rateAt rateOf legOf isLong isShort isBond isStrip isCanada isProvince isUs isGb inCad inUsd inGbp kindsPair sameClass
-    mixedClass classRule domesticRule oneBond sameGovernment foreignRule bothCad sameForeign ruleOf ruleRate allowed pairRateOf savingRateOf pairOf used
-    theory.savingRate saving pairUnits pricedTotal ranksBefore rankingOf bookOf termsOf priced remainder margin unitsOf remaindersOf ranked centsOf atPlace
-    holdingFaults pairFaults lineFaults atHolding bookFaults atLine linesFaults uncovered atPair atLong uncoveredPairs totalsDiffer totalsFaults sizeFaults
-    faults accepted outcome lead digits valueFrom numeralOf placeFrom placeOf isText isQuotable part textFrom textEnd closeFrom closeAt followedBy followed
-    begins opens enclosed fieldAt fieldsFrom recordAt recordsFrom recordsAt recordsOf valueOf valuesOf parsedOf parse parsedIn valuesBy submissionOf atRecord
-    fileFaults fileFault afterComma lineOf answerNumbers refusalLine marginLine remainderLine printedLines bookLine printedOf fileAnswer printed flatMap number
-    littleEndian wordAt entries decode encode isCorporation isIssuer isRated ratingOf isParticipant areParticipants isCorporate bondRating sameCorporation corporateRule cadRule isDigit
-    isCapital isCharacter inForm lei.valueOf lei.digitsOf lei.number lei.remainder halfOf leiOf judgedOf characterOf characters leiText sameLei firstPlace enter
-    misrated issuerNumber knownAfter numberedFrom leisFrom holdingsOf leisOf answerTo namedTexts leisTooShort namingAnswer naming groupFive hedges longerHedges
-    capped belowCap hedgeEnds ratedLower sameKinds twoCorporations notWithCanada notWithProvince corporationAbroad corporationInUsd
-    corporationInGbp corporatePeriods ratingFaults ratingPlaces threeParagraphs withoutParagraph3 hedgedBooks corporateUnpaired leis leiTexts recordValues
-    misratedRecords firstAppearance mostCorporations numberedFile alikeInHalf noCorporation corporateColumns corporatePairFile twoIssuersFile ratedLowerFile
-    corporateFile ninthField beforeOrder smallLetters nineFields namedLeis namedLonger namedShort namedOthers
+    headList headKept namesOfWrongCases alone together judged worked within firstOf some count same insert ordered sumTo sumOf only listTo turns inTurn front
+    holdingSizes lineSizes listsOf writtenLists two entriesOf unequal differ tooShort outcomeIn outcomeOf countIn numbersAt rowsIn linesIn submission column
+    filledFrom filled row.numbersOf lineNumbers answered readAnswer heldLists readingAnswer filling heading isLeap leapDay monthLengths monthLength isReal
+    isDate yearStart monthStart dayNumber daysBetween isLeapDay anniversary digitsOf dateText textNumber readDate headNumbers headFaults headFault letterOf
+    accountOf outOfTerm identityFaults termFaults worthFaults moneyFaults rowFaults faultOf holdingOf sideOf kindOf issuerOf currencyOf rowOf longerThan atLeast
+    periodOf percents flatRate bondRate stripRate kindRate rateAt rateOf legOf isLong isShort isBond isStrip isCanada isProvince isUs isGb inCad inUsd inGbp
+    kindsPair sameClass mixedClass classRule domesticRule oneBond sameGovernment foreignRule bothCad sameForeign ruleOf ruleRate allowed pairRateOf savingRateOf
+    pairOf used theory.savingRate saving pairUnits pricedTotal ranksBefore rankingOf bookOf termsOf priced remainder margin unitsOf remaindersOf ranked centsOf
+    atPlace holdingFaults pairFaults lineFaults atHolding bookFaults atLine linesFaults uncovered atPair atLong uncoveredPairs totalsDiffer totalsFaults
+    sizeFaults faults accepted outcome lead digits valueFrom numeralOf placeFrom placeOf isText isQuotable part textFrom textEnd closeFrom closeAt followedBy
+    followed begins opens enclosed fieldAt fieldsFrom recordAt recordsFrom recordsAt recordsOf valueOf valuesOf parsedOf parse parsedIn valuesBy submissionOf
+    atRecord fileFaults fileFault afterComma lineOf answerNumbers refusalLine marginLine remainderLine printedLines bookLine printedOf fileAnswer printed
+    flatMap number littleEndian wordAt entries decode encode isCorporation isIssuer isRated ratingOf isParticipant areParticipants isCorporate bondRating
+    sameCorporation corporateRule cadRule isDigit isCapital isCharacter inForm lei.valueOf lei.digitsOf lei.number lei.remainder halfOf leiOf judgedOf
+    characterOf characters leiText sameLei firstPlace enter misrated issuerNumber knownAfter numberedFrom leisFrom holdingsOf leisOf answerTo namedTexts
+    leisTooShort namingAnswer naming groupFive hedges longerHedges capped belowCap hedgeEnds ratedLower sameKinds twoCorporations notWithCanada notWithProvince
+    corporationAbroad corporationInUsd corporationInGbp corporatePeriods ratingFaults ratingPlaces threeParagraphs withoutParagraph3 hedgedBooks
+    corporateUnpaired leis leiTexts recordValues misratedRecords firstAppearance mostCorporations numberedFile alikeInHalf noCorporation corporateColumns
+    corporatePairFile twoIssuersFile ratedLowerFile corporateFile ninthField beforeOrder smallLetters nineFields namedLeis namedLonger namedShort namedOthers
     accountLetters beforeHoldings beforeLines afterSizes clientRates usInUsd usInGbp canadaInUsd gbInGbp corporations participantBonds clientBonds
     participantStrips clientStrips participantMixed clientMixed participantDenied clientDenied otherDenied booksInUsd booksOfCompany booksInCad clientLeast
     clientNotLeast dearerPrices participantLeast atClientPrices lowestUncovered accountTexts accountRecord accountOrder headTwo headTwoKept clientWorked
     clientFile clientLine participantFile clientHedge clientCorporation
 none-fails =
-    let h : NoneFails clientTexts = (refl, (refl, (refl, (refl, (refl, (refl, (refl, (refl, (refl, (refl, (refl, tt))))))))))) in
-    let g : NoneFails accounts = (refl, (refl, (refl, (refl, (refl, (refl, (refl, (refl, (refl, (refl, (refl, (refl, (refl, (refl, (refl, (refl, (refl, (refl, (refl, (refl, (refl, (refl, (refl, (refl, (refl, (refl, (refl, (refl, h)))))))))))))))))))))))))))) in
+    let i : NoneFails clientTexts = (refl, (refl, (refl, (refl, (refl, (refl, (refl, (refl, (refl, (refl, (refl, tt))))))))))) in
+    let h : NoneFails clientBooks = (refl, (refl, (refl, (refl, (refl, (refl, (refl, (refl, (refl, i))))))))) in
+    let g : NoneFails accounts = (refl, (refl, (refl, (refl, (refl, (refl, (refl, (refl, (refl, (refl, (refl, (refl, (refl, (refl, (refl, (refl, (refl, (refl, (refl, h))))))))))))))))))) in
     let f : NoneFails corporateTexts = (refl, (refl, (refl, (refl, (refl, (refl, (refl, (refl, (refl, (refl, (refl, (refl, g)))))))))))) in
     let e : NoneFails identifiers = (refl, (refl, (refl, (refl, (refl, (refl, (refl, (refl, (refl, (refl, f)))))))))) in
     let d : NoneFails corporateBooks = (refl, (refl, (refl, (refl, (refl, (refl, e)))))) in
@@ -162,7 +166,8 @@ unfolding namesOfWrongCases
 none-each [] e = tt
 none-each (c ∷ cs) e = by (none-each cs) (same (c .computed) (c .stated)) refl e
   where
-    by : (namesOfWrongCases cs ≡ [] → Each Agrees cs) → (t : Bool) → same (c .computed) (c .stated) ≡ t → cond t (namesOfWrongCases cs) (c .name ∷ namesOfWrongCases cs) ≡ [] → Agrees c × Each Agrees cs
+    by : (namesOfWrongCases cs ≡ [] → Each Agrees cs) → (t : Bool) → same (c .computed) (c .stated) ≡ t → cond t (namesOfWrongCases cs) (c .name ∷ namesOfWrongCases cs) ≡ []
+        → Agrees c × Each Agrees cs
     by rest true h f = (same-true (c .computed) (c .stated) h, rest f)
     by rest false h f = absurd (omega (arith, ap (λ (l : List String). length l) f))
 
