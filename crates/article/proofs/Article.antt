@@ -11,6 +11,7 @@ use Rattle.holding.proofs.Ranges.{fault-none, none-fault, row-refused, row-kept
 use Rattle.holding.proofs.Numbers.{numbers}
 use Rattle.rates.proofs.RateTable.{rate-table}
 use Rattle.rates.proofs.Periods.{periods}
+use Rattle.article.proofs.Clients.{client-pairs}
 use Rattle.article.proofs.PairRates.{difference-excess, half-exact, rate-and-saving}
 use Rattle.article.proofs.Saved.{corporate-legs, saving-high}
 use Rattle.article.proofs.LegRates.{leg-rates}
@@ -26,6 +27,7 @@ use Rattle.holding.specs.declared.Issuer.{Issuer}
 use Rattle.holding.specs.declared.Issuer.the-variants.{Canada, Province, UnitedStates, UnitedKingdom, Corporation}
 use Rattle.holding.specs.declared.Currency.{Currency}
 use Rattle.holding.specs.declared.Currency.the-variants.{Cad, Usd, Gbp}
+use Rattle.holding.specs.declared.AccountKind.the-variants.{Participant}
 use Rattle.holding.specs.declared.Kind.the-variants.{Bond}
 use Rattle.holding.specs.declared.Rating.the-variants.{SingleA}
 use Rattle.holding.specs.declared.Holding.{Holding}
@@ -91,10 +93,11 @@ no-corporation (inr (canada-long p)) e = false≢true (corporations e .0)
 no-corporation (inr (canada-short p)) e = false≢true (corporations e .0)
 
 -- what follows from each of the paragraphs
-by-each : {A : Type 0} {l s : Holding} → (Paragraph2 l s → A) → (Paragraph3 l s → A) → (Paragraph4 l s → A) → ByParagraph l s → A
+by-each : {A : Type 0} {a : Account} {l s : Holding} → (Paragraph2 l s → A) → (a .letter ≡ Participant → Paragraph3 l s → A) → (a .letter ≡ Participant → Paragraph4 l s → A)
+    → ByParagraph a l s → A
 by-each f g h (by-2 p) = f p
-by-each f g h (by-3 p) = g p
-by-each f g h (by-4 p) = h p
+by-each f g h (by-3 e p) = g e p
+by-each f g h (by-4 e p) = h e p
 
 -- an allowed pair is one of the paragraphs'
 allowed-may : (a : Account) (l s : Holding) → allowed (legOf a l) (legOf a s) ≡ true → MayPair a l s
@@ -109,20 +112,32 @@ allowed-may a l s e =
     }
 
 module _ (a : Account) (l s : Holding) (f : InRange a l) (g : InRange a s) where
+  -- paragraphs 3 and 4 have no pair of paragraph 2, so that only a participant has one of theirs
+  of-participant-3 : MayPair a l s → Paragraph3 l s → a .letter ≡ Participant
+  of-participant-3 m p = by-each (λ q. absurd (no-corporation (q .classes) (p .corporation))) (λ e _. e) (λ e _. e) (m .paragraph)
+
+  of-participant-4 : MayPair a l s → Paragraph4 l s → a .letter ≡ Participant
+  of-participant-4 m p =
+      by-each
+      (λ q. absurd (false≢true (sym (ap foreign (q .first-cad)) ∙ foreigners (p .currency) .0)))
+      (λ e _. e)
+      (λ e _. e)
+      (m .paragraph)
+
   -- the rule that two holdings have if they may be paired
   difference-rule : MayPair a l s → OneClass (l .issuer) (s .issuer) → ruleOf (legOf a l) (legOf a s) ≡ Difference
-  difference-rule m e = by-each (λ p. class-one a l s f g p e) (λ p. absurd (no-corporation (inl e) (p .corporation))) (λ p. abroad a l s p) (m .paragraph)
+  difference-rule m e = by-each (λ p. class-one a l s f g p e) (λ _ p. absurd (no-corporation (inl e) (p .corporation))) (abroad a l s) (m .paragraph)
 
   half-rule : MayPair a l s → TwoClasses (l .issuer) (s .issuer) → ruleOf (legOf a l) (legOf a s) ≡ HalfSum
   half-rule m e =
-      by-each (λ p. class-two a l s f g p e) (λ p. absurd (no-corporation (inr e) (p .corporation))) (λ p. absurd (never-both e (p .government))) (m .paragraph)
+      by-each (λ p. class-two a l s f g p e) (λ _ p. absurd (no-corporation (inr e) (p .corporation))) (λ _ p. absurd (never-both e (p .government))) (m .paragraph)
 
   may-permit : MayPair a l s → permits (ruleOf (legOf a l) (legOf a s)) ≡ true
   may-permit m =
       by-each
       (λ p. ⊎-elim (λ e. ap permits (difference-rule m e)) (λ e. ap permits (half-rule m e)) (p .classes))
-      (λ p. ap permits (capped a l s f g p))
-      (λ p. ap permits (abroad a l s p))
+      (λ e p. ap permits (capped a l s f g e p))
+      (λ e p. ap permits (abroad a l s e p))
       (m .paragraph)
 
   may-allowed : MayPair a l s → allowed (legOf a l) (legOf a s) ≡ true
@@ -147,8 +162,8 @@ module _ (a : Account) (l s : Holding) (f : InRange a l) (g : InRange a s) where
     permitted = (allowed-may a l s, may-allowed);
     difference = λ m e. excess (difference-rule m e);
     half-sum = λ m e. rw (rate-by HalfSum (half-rule m e)) (half-exact a l s);
-    foreign = λ _ p. excess (abroad a l s p);
-    corporate = λ _ p. rate-by Capped (capped a l s f g p) ∙ (unfold ruleRate in refl);
+    foreign = λ m p. excess (abroad a l s (of-participant-4 m p) p);
+    corporate = λ m p. rate-by Capped (capped a l s f g (of-participant-3 m p) p) ∙ (unfold ruleRate in refl);
     saving = unfold legOf in rate-and-saving (legOf a l) (legOf a s);
     saving-range = saving-high (legOf a l) (legOf a s) (leg-rates a l f) (leg-rates a s g);
   }
@@ -164,17 +179,17 @@ never-paired h f g = record {
 module _ (l : Leg) (e : l .issuer ≡ noIssuer) (s : Leg) where
   not-long : {r : Rule} → Permitted l s r → ⊥
   unfolding sameClass mixedClass sameGovernment isCanada isProvince isUs isGb isCorporate isCorporation within
-  not-long (one-corporation _ _ n _) = false≢true (rw e at (corporate-legs l s n .0))
+  not-long (one-corporation _ _ _ n _) = false≢true (rw e at (corporate-legs l s n .0))
   not-long (one-class _ _ f) = false≢true (rw e at f)
   not-long (two-classes _ _ f) = false≢true (rw e at f)
-  not-long (one-government _ _ f) = false≢true (rw e at f)
+  not-long (one-government _ _ _ f) = false≢true (rw e at f)
 
   not-short : {r : Rule} → Permitted s l r → ⊥
   unfolding sameClass mixedClass sameGovernment isCanada isProvince isUs isGb isCorporate isCorporation within
-  not-short (one-corporation _ _ n _) = false≢true (rw e at (corporate-legs s l n .1 .0))
+  not-short (one-corporation _ _ _ n _) = false≢true (rw e at (corporate-legs s l n .1 .0))
   not-short (one-class _ _ f) = false≢true (rw (e, and-false (isCanada s), and-false (isProvince s)) at f)
   not-short (two-classes _ _ f) = false≢true (rw (e, and-false (isCanada s), and-false (isProvince s)) at f)
-  not-short (one-government _ _ f) = false≢true (rw (e, and-false (isCanada s), and-false (isUs s), and-false (isGb s)) at f)
+  not-short (one-government _ _ _ f) = false≢true (rw (e, and-false (isCanada s), and-false (isUs s), and-false (isGb s)) at f)
 
 no-pair : (l s : Leg) → (Permitted l s (ruleOf l s) → ⊥) → allowed l s ≡ false
 no-pair l s f = either-way (allowed l s) (λ e. absurd (f (permitted l s (allowed-meets l s e .rule)))) (λ e. e)
@@ -210,14 +225,14 @@ module _ (h : Holding) where
       (λ _ s m.
       by-each
       (λ p. f (domestics (p .classes) .0) (p .first-cad))
-      (λ p. c (record { issuer = corporations (p .corporation) .0; cad = p .first-cad; rated = p .long-rated }))
-      (λ p. g (governments (p .government) .0) (foreigners (p .currency) .0))
+      (λ _ p. c (record { issuer = corporations (p .corporation) .0; cad = p .first-cad; rated = p .long-rated }))
+      (λ _ p. g (governments (p .government) .0) (foreigners (p .currency) .0))
       (m .paragraph))
       (λ _ l m.
       by-each
       (λ p. f (domestics (p .classes) .1) (p .second-cad))
-      (λ p. c (record { issuer = corporations (p .corporation) .1; cad = p .second-cad; rated = p .short-rated }))
-      (λ p. g (governments (p .government) .1) (foreigners (p .currency) .1))
+      (λ _ p. c (record { issuer = corporations (p .corporation) .1; cad = p .second-cad; rated = p .short-rated }))
+      (λ _ p. g (governments (p .government) .1) (foreigners (p .currency) .1))
       (m .paragraph))
 
   in-cad : h .currency ≡ Cad → domestic (h .issuer) ≡ false → corporate (h .issuer) ≡ false → Unpaired h
@@ -245,4 +260,5 @@ article = record {
   rates = rate-table;
   pairs = pairing;
   no-pairs = stay-unpaired;
+  clients = client-pairs;
 }

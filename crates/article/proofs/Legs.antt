@@ -8,7 +8,7 @@ use Rattle.lists.specs.Choice.{firstOf}
 use Rattle.lists.proofs.Tests.{zero-out, by-test}
 use Rattle.article.proofs.PairRates.{permitted-high}
 use Rattle.article.specs.Pair.{isLong, isShort, isBond, isStrip, kindsPair, sameClass, mixedClass}
-use Rattle.article.specs.Pair.{classRule, domesticRule, isCorporate, bondRating, sameCorporation, corporateRule, cadRule, oneBond, sameGovernment, foreignRule}
+use Rattle.article.specs.Pair.{classRule, domesticRule, isCorporate, bondRating, sameCorporation, corporateRule, cadRule, areParticipants, oneBond, sameGovernment, foreignRule}
 use Rattle.article.specs.Pair.{bothCad, sameForeign, ruleOf, permits, allowed, pairRateOf, rateLimit, RateInRange}
 use Rattle.article.specs.declared.pair.Rule.{Rule}
 use Rattle.article.specs.declared.pair.Rule.the-variants.{Difference, HalfSum, Capped, NotAllowed}
@@ -46,20 +46,20 @@ module _ (l s : Leg) where
       let Is : Rule → Type 0 = λ r. r ≡ NotAllowed in
       by-test Is (bothCad l s)
       (λ _. by-test Is (isCorporate l)
-      (λ _. rw (zero-out 2 (l .kind) a, zero-out 2 (s .kind) b, eq-eqb _ _ a))
+      (λ _. rw (zero-out 2 (l .kind) a, zero-out 2 (s .kind) b, eq-eqb _ _ a, and-false (areParticipants l s)))
       (λ _. rw (zero-out 2 (l .kind) a, zero-out 2 (s .kind) b, eq-eqb _ _ a)))
-      (λ _. by-test Is (sameForeign l s) (λ _. rw (zero-out 2 (l .kind) a, zero-out 2 (s .kind) b, eq-eqb _ _ a)) (λ _. refl))
+      (λ _. by-test Is (sameForeign l s) (λ _. rw (zero-out 2 (l .kind) a, zero-out 2 (s .kind) b, eq-eqb _ _ a, and-false (areParticipants l s))) (λ _. refl))
 
   pub no-rule : permits (ruleOf l s) ≡ false → allowed l s ≡ false
   unfolding allowed
   no-rule e = rw e (and-false (isLong l && isShort s && eqb (l .period) (s .period)))
 
--- why a rule permits a pair: paragraph 2 for legs of one class or of two, paragraph 3, or paragraph 4
+-- why a rule permits a pair: paragraph 2 for legs of one class or of two, or a participant's paragraph 3 or 4
 pub data Permitted (l s : Leg) : Rule → Type 0 where
   one-class : bothCad l s ≡ true → kindsPair l s ≡ true → sameClass l s ≡ true → Permitted l s Difference
   two-classes : bothCad l s ≡ true → kindsPair l s ≡ true → mixedClass l s ≡ true → Permitted l s HalfSum
-  one-corporation : bothCad l s ≡ true → oneBond l s ≡ true → sameCorporation l s ≡ true → eqb (bondRating l s) 0 ≡ true → Permitted l s Capped
-  one-government : sameForeign l s ≡ true → oneBond l s ≡ true → sameGovernment l s ≡ true → Permitted l s Difference
+  one-corporation : bothCad l s ≡ true → areParticipants l s ≡ true → oneBond l s ≡ true → sameCorporation l s ≡ true → eqb (bondRating l s) 0 ≡ true → Permitted l s Capped
+  one-government : sameForeign l s ≡ true → areParticipants l s ≡ true → oneBond l s ≡ true → sameGovernment l s ≡ true → Permitted l s Difference
 
 module _ (l s : Leg) where
   pub permitted : permits (ruleOf l s) ≡ true → Permitted l s (ruleOf l s)
@@ -69,15 +69,21 @@ module _ (l s : Leg) where
       let none : Why NotAllowed = λ e. absurd (false≢true e) in
       by-test Why (bothCad l s)
       (λ c. by-test Why (isCorporate l)
-      (λ _. by-test Why (oneBond l s && sameCorporation l s && eqb (bondRating l s) 0)
+      (λ _. by-test Why (areParticipants l s && oneBond l s && sameCorporation l s && eqb (bondRating l s) 0)
       (λ e _.
-      let (both, rated) = and-eq-true-iff _ _ .0 e in
-      let (k, n) = and-eq-true-iff _ _ .0 both in
-      one-corporation c k n rated)
+      let (three, rated) = and-eq-true-iff _ _ .0 e in
+      let (two, n) = and-eq-true-iff _ _ .0 three in
+      let (p, k) = and-eq-true-iff _ _ .0 two in
+      one-corporation c p k n rated)
       (λ _. none))
       (λ _. by-test Why (kindsPair l s)
       (λ k. by-test Why (sameClass l s) (λ e _. one-class c k e) (λ _. by-test Why (mixedClass l s) (λ e _. two-classes c k e) (λ _. none)))
       (λ _. none)))
       (λ _. by-test Why (sameForeign l s)
-      (λ c. by-test Why (oneBond l s && sameGovernment l s) (λ e _. let (k, g) = and-eq-true-iff _ _ .0 e in one-government c k g) (λ _. none))
+      (λ c. by-test Why (areParticipants l s && oneBond l s && sameGovernment l s)
+      (λ e _.
+      let (two, g) = and-eq-true-iff _ _ .0 e in
+      let (p, k) = and-eq-true-iff _ _ .0 two in
+      one-government c p k g)
+      (λ _. none))
       (λ _. none))

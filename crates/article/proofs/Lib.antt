@@ -5,5 +5,6 @@ pub mod Outside
 pub mod Saved
 pub mod LegRates
 pub mod Paragraphs
+pub mod Clients
 pub mod Article
 pub mod Answered

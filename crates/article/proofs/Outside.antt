@@ -9,8 +9,8 @@ use borrow.Author.Tests.{eq-eqb, ne-eqb, ltb-true, ltb-false}
 use Rattle.lists.specs.Choice.{firstOf}
 use Rattle.lists.proofs.Tests.{not-both, same-or-not, either-way, by-test}
 use Rattle.holding.proofs.Issuers.{above-range}
-use Rattle.article.specs.Pair.{isCanada, isProvince, isUs, isGb, isCorporate, inCad, inUsd, inGbp, kindsPair, sameClass, mixedClass, classRule, domesticRule, oneBond, bondRating}
-use Rattle.article.specs.Pair.{sameCorporation, corporateRule, sameGovernment, foreignRule, bothCad, sameForeign, cadRule, ruleOf, Outside, OneIssuer}
+use Rattle.article.specs.Pair.{isCanada, isProvince, isUs, isGb, isCorporate, inCad, inUsd, inGbp, kindsPair, sameClass, mixedClass, classRule, domesticRule}
+use Rattle.article.specs.Pair.{areParticipants, oneBond, bondRating, sameCorporation, corporateRule, sameGovernment, foreignRule, bothCad, sameForeign, cadRule, ruleOf, Outside, OneIssuer}
 use Rattle.article.specs.declared.pair.Rule.{Rule}
 use Rattle.article.specs.declared.pair.Rule.the-variants.{Difference, Capped, NotAllowed}
 use Rattle.article.specs.declared.pair.Leg.{Leg}
@@ -48,7 +48,7 @@ module _ (l s : Leg) where
 
   no-corporation : isCorporate l ≡ false → corporateRule l s ≡ NotAllowed
   unfolding corporateRule sameCorporation
-  no-corporation n = rw (n, and-false (oneBond l s))
+  no-corporation n = rw (n, and-false (areParticipants l s && oneBond l s))
 
   module _ (o : Outside l s) where
     -- in CAD paragraph 3 alone can have them
@@ -75,17 +75,21 @@ module _ (l s : Leg) where
     unfolding corporateRule sameCorporation foreignRule sameGovernment isCanada isUs isGb
     two-issuers h =
         neither-rule
-        (rw (ne-eqb (l .issuer) (s .issuer) h, and-false (isCorporate l), and-false (oneBond l s)))
-        (rw (not-both (l .issuer) (s .issuer) 0 h, not-both (l .issuer) (s .issuer) 11 h, not-both (l .issuer) (s .issuer) 12 h, and-false (oneBond l s)))
+        (rw (ne-eqb (l .issuer) (s .issuer) h, and-false (isCorporate l), and-false (areParticipants l s && oneBond l s)))
+        (rw (not-both (l .issuer) (s .issuer) 0 h, not-both (l .issuer) (s .issuer) 11 h, not-both (l .issuer) (s .issuer) 12 h, and-false (areParticipants l s && oneBond l s)))
 
     pub no-bond : oneBond l s ≡ false → NotAllowed ≡ ruleOf l s
     unfolding corporateRule foreignRule
-    no-bond e = neither-rule (rw e) (rw e)
+    no-bond e = neither-rule (rw (e, and-false (areParticipants l s))) (rw (e, and-false (areParticipants l s)))
 
-  -- of one issuer, just one a bond
+    pub no-participants : areParticipants l s ≡ false → NotAllowed ≡ ruleOf l s
+    unfolding corporateRule foreignRule
+    no-participants e = neither-rule (rw e) (rw e)
+
+  -- a participant's, of one issuer, just one a bond
   pub unrated : (bondRating l s ≡ 0 → ⊥) → NotAllowed ≡ corporateRule l s
   unfolding corporateRule
-  unrated h = rw (ne-eqb (bondRating l s) 0 h, and-false (oneBond l s && sameCorporation l s))
+  unrated h = rw (ne-eqb (bondRating l s) 0 h, and-false (areParticipants l s && oneBond l s && sameCorporation l s))
 
   pub not-corporate : isCorporate l ≡ false → NotAllowed ≡ corporateRule l s
   not-corporate n = sym (no-corporation n)
@@ -93,20 +97,20 @@ module _ (l s : Leg) where
   module _ (i : OneIssuer l s) where
     pub rated-bond : isCorporate l ≡ true → bondRating l s ≡ 0 → Capped ≡ corporateRule l s
     unfolding corporateRule sameCorporation
-    rated-bond n r = rw (i .one-bond, n, eq-eqb (l .issuer) (s .issuer) (i .issuer), eq-eqb (bondRating l s) 0 r)
+    rated-bond n r = rw (i .participants, i .one-bond, n, eq-eqb (l .issuer) (s .issuer) (i .issuer), eq-eqb (bondRating l s) 0 r)
 
     pub of-canada : l .issuer ≡ 0 → Difference ≡ foreignRule l s
     unfolding foreignRule sameGovernment isCanada
-    of-canada e = rw (i .one-bond, ← i .issuer, eq-eqb _ 0 e)
+    of-canada e = rw (i .participants, i .one-bond, ← i .issuer, eq-eqb _ 0 e)
 
     pub of-us : l .issuer ≡ 11 → Difference ≡ foreignRule l s
     unfolding foreignRule sameGovernment isCanada isUs
-    of-us e = rw (i .one-bond, ← i .issuer, e)
+    of-us e = rw (i .participants, i .one-bond, ← i .issuer, e)
 
     pub of-gb : l .issuer ≡ 12 → Difference ≡ foreignRule l s
     unfolding foreignRule sameGovernment isCanada isUs isGb
-    of-gb e = rw (i .one-bond, ← i .issuer, e)
+    of-gb e = rw (i .participants, i .one-bond, ← i .issuer, e)
 
   pub no-government : (l .issuer ≡ 0 → ⊥) → (l .issuer ≡ 11 → ⊥) → (l .issuer ≡ 12 → ⊥) → NotAllowed ≡ foreignRule l s
   unfolding foreignRule sameGovernment isCanada isUs isGb
-  no-government f g h = rw (ne-eqb _ 0 f, ne-eqb _ 11 g, ne-eqb _ 12 h, and-false (oneBond l s))
+  no-government f g h = rw (ne-eqb _ 0 f, ne-eqb _ 11 g, ne-eqb _ 12 h, and-false (areParticipants l s && oneBond l s))

@@ -7,16 +7,20 @@ use native.Mathlib.Omega.{arith}
 use lib.Dec.{eqb}
 use borrow.Author.Tests.{eq-eqb, ne-eqb, eqb-true}
 use Rattle.lists.specs.Choice.{within, firstOf}
-use Rattle.lists.proofs.Tests.{within-true, one-of, either-way}
+use Rattle.lists.proofs.Tests.{within-true, one-of, either-way, by-test}
+use Rattle.holding.proofs.Heads.{letter-back}
 use Rattle.holding.proofs.Ranges.{issuer-back, currency-back, rating-back, province-range, corporation-range}
-use Rattle.holding.proofs.Issuers.{no-corporation, corporation-is}
-use Rattle.holding.specs.Holding.{Government, Corporate, isCorporation, kindNumber, issuerNumber, currencyNumber, ratingNumber, issuerOf, currencyOf, ratingOf, rowOf, InRange}
+use Rattle.holding.proofs.Issuers.{above-range, no-corporation, corporation-is}
+use Rattle.holding.specs.Holding.{Government, Corporate, isCorporation, noIssuer, letterNumber, kindNumber, issuerNumber, currencyNumber, ratingNumber}
+use Rattle.holding.specs.Holding.{letterOf, issuerOf, currencyOf, ratingOf, rowOf, InRange}
 use Rattle.article.proofs.ByKind.{bond-of, strip-of}
 use Rattle.article.proofs.Legs.{Permitted, one-class, two-classes, one-corporation, one-government}
 use Rattle.article.specs.Article.{OneClass, both-canada, both-provincial, TwoClasses, canada-long, canada-short, SameForeign, both-usd, both-gbp}
 use Rattle.article.specs.Article.{SameGovernment, of-canada, of-us, of-gb, OneBond, SameCorporation, of-corporation, Paragraph2, Paragraph3, Paragraph4, ByParagraph, by-2, by-3, by-4}
 use Rattle.article.specs.Pair.{legOf, isBond, isStrip, isCanada, isProvince, isUs, isGb, inCad, inUsd, inGbp, kindsPair, sameClass, mixedClass, classRule, domesticRule}
-use Rattle.article.specs.Pair.{isCorporate, bondRating, sameCorporation, corporateRule, cadRule, oneBond, sameGovernment, foreignRule, bothCad, sameForeign, ruleOf}
+use Rattle.article.specs.Pair.{isParticipant, areParticipants, isCorporate, bondRating, sameCorporation, corporateRule, cadRule}
+use Rattle.article.specs.Pair.{oneBond, sameGovernment, foreignRule, bothCad, sameForeign, ruleOf}
+use Rattle.holding.specs.declared.AccountKind.the-variants.{Participant}
 use Rattle.holding.specs.declared.Kind.{Kind}
 use Rattle.holding.specs.declared.Kind.the-variants.{Bond, Coupon, Residual}
 use Rattle.holding.specs.declared.Issuer.{Issuer}
@@ -81,6 +85,12 @@ both t u f e = let (a, b) = and-eq-true-iff t u .0 e in f a b
 
 -- what the tests say of two records
 module _ (a : Account) (l s : Holding) where
+  participant : areParticipants (legOf a l) (legOf a s) ≡ true → a .letter ≡ Participant
+  unfolding areParticipants isParticipant legOf letterOf
+  participant e =
+      let number = eqb-true (letterNumber (a .letter)) 0 (and-eq-true-iff _ _ .0 e .0) in
+      sym (letter-back (a .letter)) ∙ ap letterOf number
+
   both-cad : bothCad (legOf a l) (legOf a s) ≡ true → (l .currency ≡ Cad) × (s .currency ≡ Cad)
   unfolding bothCad inCad legOf rowOf currencyOf
   both-cad e = let (x, y) = and-eq-true-iff _ _ .0 e in (currency-of (l .currency) 0 x, currency-of (s .currency) 0 y)
@@ -151,10 +161,10 @@ module _ (a : Account) (l s : Holding) where
   short-rated e k = either-way (eqb (kindNumber (l .kind)) 0) (λ b. absurd (k (bond-of (l .kind) b))) (λ b. single-a-of (s .rating) (rw b at e))
 
   -- one of the paragraphs has a pair that is permitted
-  pub by-paragraph : {r : Rule} → Permitted (legOf a l) (legOf a s) r → ByParagraph l s
-  by-paragraph (one-corporation c k e rated) =
+  pub by-paragraph : {r : Rule} → Permitted (legOf a l) (legOf a s) r → ByParagraph a l s
+  by-paragraph (one-corporation c p k e rated) =
       let bond = one-bond k in
-      by-3 (record {
+      by-3 (participant p) (record {
         first-cad = both-cad c .0;
         second-cad = both-cad c .1;
         corporation = same-corporation e;
@@ -164,7 +174,7 @@ module _ (a : Account) (l s : Holding) where
       })
   by-paragraph (one-class c k e) = by-2 (record { first-cad = both-cad c .0; second-cad = both-cad c .1; classes = inl (same-class e); not-bonds = not-bonds k })
   by-paragraph (two-classes c k e) = by-2 (record { first-cad = both-cad c .0; second-cad = both-cad c .1; classes = inr (mixed-class e); not-bonds = not-bonds k })
-  by-paragraph (one-government c k e) = by-4 (record { currency = same-foreign c; government = same-government e; one-bond = one-bond k })
+  by-paragraph (one-government c p k e) = by-4 (participant p) (record { currency = same-foreign c; government = same-government e; one-bond = one-bond k })
 
 -- and what two records say of the tests
 module _ (l s : Leg) where
@@ -205,10 +215,19 @@ province-leg l p e h =
     let (low, _) = within-true 1 10 p w in
     (ne-eqb (l .issuer) 0 (λ z. omega arith), ap (within 1 10) number ∙ w)
 
-of-province : (p : ℕ) → Government (issuerNumber (Province p)) ⊎ Corporate (issuerNumber (Province p)) → isCorporation (issuerNumber (Province p)) ≡ false
-of-province p h =
-    let w = province-range p h in
-    rw w (no-corporation p (omega (arith, within-true 1 10 p w .1)))
+-- Canada and a province, of any number, are no corporation's
+of-province : (p : ℕ) → isCorporation (issuerNumber (Province p)) ≡ false
+unfolding isCorporation
+of-province p =
+    by-test (λ n. within 100 355 n ≡ false) (within 1 10 p)
+    (λ w. unfold isCorporation in no-corporation p (omega (arith, within-true 1 10 p w .1)))
+    (λ _. above-range 100 355 noIssuer (omega arith))
+
+of-classes : {i j : Issuer} → OneClass i j ⊎ TwoClasses i j → isCorporation (issuerNumber i) ≡ false
+of-classes (inl both-canada) = no-corporation 0 (omega arith)
+of-classes (inl (both-provincial p q)) = of-province p
+of-classes (inr (canada-long p)) = no-corporation 0 (omega arith)
+of-classes (inr (canada-short p)) = of-province p
 
 -- both Canada or both provincial: the difference; one Canada, one provincial: half the sum
 one-class-rule : (l s : Leg) {i j : Issuer} → OneClass i j → l .issuer ≡ issuerNumber i → s .issuer ≡ issuerNumber j
@@ -231,6 +250,10 @@ two-class-rule l s (canada-short p) a b f g =
 
 -- the rule of two records by their paragraph
 module _ (a : Account) (l s : Holding) where
+  participants : a .letter ≡ Participant → areParticipants (legOf a l) (legOf a s) ≡ true
+  unfolding areParticipants isParticipant legOf
+  participants e = rw e
+
   cads : Paragraph2 l s → bothCad (legOf a l) (legOf a s) ≡ true
   unfolding bothCad inCad legOf rowOf
   cads p = rw (p .first-cad, p .second-cad)
@@ -255,35 +278,29 @@ module _ (a : Account) (l s : Holding) where
       let short : s .kind ≡ Bond = ⊎-elim (λ k. absurd (false≢true (sym b ∙ ap (λ (x : Kind). eqb (kindNumber x) 0) k))) (λ k. k) (p .one-bond .some) in
       rw (b, p .short-rated short))
 
-  in-cad : Paragraph2 l s → isCorporate (legOf a l) ≡ false → {r : Rule} → classRule (legOf a l) (legOf a s) ≡ r → ruleOf (legOf a l) (legOf a s) ≡ r
-  unfolding ruleOf cadRule domesticRule
-  in-cad p n e = rw (cads p, n, pairs (p .not-bonds) .0) e
+  -- paragraph 2 has no corporation's long, and asks for no letter
+  pub in-cad : Paragraph2 l s → ruleOf (legOf a l) (legOf a s) ≡ domesticRule (legOf a l) (legOf a s)
+  unfolding ruleOf cadRule isCorporate legOf rowOf
+  in-cad p = rw (cads p, of-classes (p .classes))
 
-  -- paragraph 2 has no corporation's long
-  no-corporate : InRange a l → OneClass (l .issuer) (s .issuer) ⊎ TwoClasses (l .issuer) (s .issuer) → isCorporate (legOf a l) ≡ false
-  unfolding isCorporate legOf rowOf
-  no-corporate f c = by c (f .ranges .identity .issuer)
-    where
-      by : {i j : Issuer} → OneClass i j ⊎ TwoClasses i j → Government (issuerNumber i) ⊎ Corporate (issuerNumber i) → isCorporation (issuerNumber i) ≡ false
-      by (inl both-canada) h = no-corporation 0 (omega arith)
-      by (inl (both-provincial p q)) h = of-province p h
-      by (inr (canada-long p)) h = no-corporation 0 (omega arith)
-      by (inr (canada-short p)) h = of-province p h
+  by-classes : Paragraph2 l s → {r : Rule} → classRule (legOf a l) (legOf a s) ≡ r → ruleOf (legOf a l) (legOf a s) ≡ r
+  unfolding domesticRule
+  by-classes p e = in-cad p ∙ rw (pairs (p .not-bonds) .0) e
 
-  pub abroad : Paragraph4 l s → ruleOf (legOf a l) (legOf a s) ≡ Difference
+  pub abroad : a .letter ≡ Participant → Paragraph4 l s → ruleOf (legOf a l) (legOf a s) ≡ Difference
   unfolding ruleOf foreignRule legOf rowOf
-  abroad p =
+  abroad e p =
       let (foreign, same) = foreigners (legOf a l) (legOf a s) (p .currency) refl refl in
-      rw (foreign, same, pairs (p .one-bond .not-both) .1 (p .one-bond .some), governments (legOf a l) (legOf a s) (p .government) refl refl)
+      rw (foreign, same, participants e, pairs (p .one-bond .not-both) .1 (p .one-bond .some), governments (legOf a l) (legOf a s) (p .government) refl refl)
 
   module _ (f : InRange a l) (g : InRange a s) where
     pub class-one : Paragraph2 l s → OneClass (l .issuer) (s .issuer) → ruleOf (legOf a l) (legOf a s) ≡ Difference
     unfolding legOf rowOf
-    class-one p e = in-cad p (no-corporate f (inl e)) (one-class-rule (legOf a l) (legOf a s) e refl refl (f .ranges .identity .issuer) (g .ranges .identity .issuer))
+    class-one p e = by-classes p (one-class-rule (legOf a l) (legOf a s) e refl refl (f .ranges .identity .issuer) (g .ranges .identity .issuer))
 
     pub class-two : Paragraph2 l s → TwoClasses (l .issuer) (s .issuer) → ruleOf (legOf a l) (legOf a s) ≡ HalfSum
     unfolding legOf rowOf
-    class-two p e = in-cad p (no-corporate f (inr e)) (two-class-rule (legOf a l) (legOf a s) e refl refl (f .ranges .identity .issuer) (g .ranges .identity .issuer))
+    class-two p e = by-classes p (two-class-rule (legOf a l) (legOf a s) e refl refl (f .ranges .identity .issuer) (g .ranges .identity .issuer))
 
     corporates : SameCorporation (l .issuer) (s .issuer) → (isCorporate (legOf a l) ≡ true) × (sameCorporation (legOf a l) (legOf a s) ≡ true)
     unfolding legOf rowOf isCorporate sameCorporation
@@ -297,8 +314,8 @@ module _ (a : Account) (l s : Holding) where
             (n, rw (n, eq-eqb (issuerNumber (Corporation c)) (issuerNumber (Corporation c)) refl))
 
     -- of one corporation
-    pub capped : Paragraph3 l s → ruleOf (legOf a l) (legOf a s) ≡ Capped
+    pub capped : a .letter ≡ Participant → Paragraph3 l s → ruleOf (legOf a l) (legOf a s) ≡ Capped
     unfolding ruleOf cadRule corporateRule
-    capped p =
+    capped k p =
         let (n, e) = corporates (p .corporation) in
-        rw (cads3 p, n, bond p, e, rated p)
+        rw (cads3 p, n, participants k, bond p, e, rated p)

@@ -83,8 +83,8 @@ module _ (l s : Leg) (f : RateInRange l) (g : RateInRange s) where
   unfolding ruleRate
   saved (one-class c k e) = let (x, y) = of-one-class l s e in omega (arith, f .government x, g .government y)
   saved (two-classes c k e) = let (x, y) = of-two-classes l s e in omega (arith, f .government x, g .government y)
-  saved (one-government c k e) = let (x, y) = of-one-government l s e in omega (arith, f .government x, g .government y)
-  saved (one-corporation c k n rated) =
+  saved (one-government c p k e) = let (x, y) = of-one-government l s e in omega (arith, f .government x, g .government y)
+  saved (one-corporation c p k n rated) =
       let (first, (second, _)) = corporate-legs l s n in
       ⊎-elim (λ x. omega (arith, x, g .high)) (λ x. omega (arith, x, f .high)) (bond-high first second k)
 

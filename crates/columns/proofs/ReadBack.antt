@@ -24,9 +24,10 @@ use Rattle.columns.proofs.Columns.{row-at, line-at}
 abbrev pub Fits : List ℕ → Type 0
 Fits xs = Each (λ x. x < 2 ^ 64) xs
 
-pub price-read : (prices old : List ℕ) → Fits prices → (k : ℕ) → k < length prices → wordAt (column prices old) k ≡ getD prices k 0
+-- written into a column, they are read back
+pub column-read : (xs old : List ℕ) → Fits xs → (k : ℕ) → k < length xs → wordAt (column xs old) k ≡ getD xs k 0
 unfolding column
-price-read prices old fit k h = read-back prices old fit k h
+column-read xs old fit k h = read-back xs old fit k h
 
 -- the bytes of the numbers alone, which are those of a column that held nothing
 pub cut-column : (xs old : List ℕ) → take (8 * length xs) (column xs old) ≡ encode xs
@@ -49,7 +50,7 @@ module _ (ns : List (List ℕ)) where
   numbers-read fit k h j [] e = sym (drop-of-length-le (getD ns k []) {i = j} (omega (arith, e)))
   numbers-read fit k h j (old ∷ olds) e =
       let each = each-map _ (nth j) ns (each-so Fits (λ xs. nth j xs < 2 ^ 64) (λ xs f. each-read (λ x. x < 2 ^ 64) 0 (omega arith) xs f j) ns fit) in
-      let first = price-read (map (nth j) ns) old each k (omega (arith, length-map ns (nth j))) ∙ getD-map-in (nth j) ns k [] 0 h in
+      let first = column-read (map (nth j) ns) old each k (omega (arith, length-map ns (nth j))) ∙ getD-map-in (nth j) ns k [] 0 h in
       rw (drop-cons (getD ns k []) j 0 (omega (arith, e))) (λ i. first i ∷ numbers-read fit k h (suc j) olds (omega (arith, e)) i)
 
   -- cut behind them, a column has the bytes of the numbers alone

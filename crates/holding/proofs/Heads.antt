@@ -6,13 +6,22 @@ use native.Mathlib.Omega.{arith}
 use lib.Dec.{leb}
 use Rattle.lists.specs.Choice.{firstOf, within}
 use Rattle.lists.proofs.Tests.{either-way, same-or-not, true-within}
+use Rattle.lists.proofs.Firsts.{None, Listed, none-first, first-of-none}
 use borrow.Author.Tests.{eq-eqb, ne-eqb, lt-leb, leb-true, leb-false}
 use Rattle.dates.specs.Calendar.{isDate}
 use Rattle.dates.proofs.Tested.{date-high}
-use Rattle.holding.specs.Holding.{headNumbers, headFaults, headFault, letterOf, accountOf, headedOf, HeadKept}
+use Rattle.holding.specs.Holding.{headNumbers, headFaults, headFault, letterNumber, letterOf, accountOf, headedOf, HeadKept}
+use Rattle.holding.specs.declared.AccountKind.{AccountKind}
+use Rattle.holding.specs.declared.AccountKind.the-variants.{Participant, Client}
 use Rattle.holding.specs.declared.Head.{Head}
 use Rattle.holding.specs.declared.Account.{Account}
 use Rattle.holding.specs.declared.Headed.the-variants.{For, NoAccount}
+
+-- a letter is the case of its number
+pub letter-back : (k : AccountKind) → letterOf (letterNumber k) ≡ k
+unfolding letterOf
+letter-back Participant = refl
+letter-back Client = refl
 
 module _ (h : Head) where
   pub sound-head : isDate (h .date) ≡ true → h .letter ≤ 1 → headFault h ≡ 0
@@ -26,6 +35,19 @@ module _ (h : Head) where
   pub unlettered-head : isDate (h .date) ≡ true → 1 < h .letter → headFault h ≡ 26
   unfolding headFault headFaults firstOf within
   unlettered-head e l = rw (e, lt-leb (h .letter) 1 l, and-false (leb 0 (h .letter)))
+
+  pub head-listed : Listed (headFaults h)
+  unfolding headFaults
+  head-listed = (omega arith, (omega arith, tt))
+
+  -- none of its refusals holds exactly when it has no fault
+  pub none-of-head : headFault h ≡ 0 → None (headFaults h)
+  unfolding headFault
+  none-of-head e = none-first (λ (n : ℕ). n) (headFaults h) 0 head-listed e .0
+
+  pub head-of-none : None (headFaults h) → headFault h ≡ 0
+  unfolding headFault
+  head-of-none n = first-of-none (headFaults h) 0 n
 
   pub head-valued : headFault h ≡ 0 → isDate (h .date) ≡ true
   head-valued e = either-way (isDate (h .date)) (λ t. t) (λ f. let never : 24 ≡ 0 = sym (unvalued-head f) ∙ e in absurd (omega arith))

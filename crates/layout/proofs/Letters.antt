@@ -22,10 +22,10 @@ use Rattle.dates.specs.declared.text.Reading.the-variants.{Number as Dated, Not
 use Rattle.lei.specs.Lei.{judgedOf}
 use Rattle.lei.specs.declared.Judged.{Judged}
 use Rattle.lei.specs.declared.Judged.the-variants.{Lei, WrongForm, WrongRemainder}
-use Rattle.layout.specs.Layout.{sides, kinds, issuers, currencies, ratings, byPlace, byNumeral, byDate, byIssuer, valueOf, padded, layouts, letters, sortsBy}
+use Rattle.layout.specs.Layout.{accounts, sides, kinds, issuers, currencies, ratings, byPlace, byNumeral, byDate, byIssuer, valueOf, padded, layouts, letters, sortsBy}
 use Rattle.layout.specs.Layout.{Values, values, wrong, andValue, valuesOf, Meaning, good, refused, issuerIn, ratingIn, misrated, leiNumbers, meant, afterLetter, parsedOf, parse}
 use Rattle.layout.specs.declared.Sort.{Sort}
-use Rattle.layout.specs.declared.Sort.the-variants.{Side, Kind, Issuer, Currency, Rating, Date, Six, Twelve, Empty}
+use Rattle.layout.specs.declared.Sort.the-variants.{Account, Side, Kind, Issuer, Currency, Rating, Date, Six, Twelve, Empty}
 use Rattle.layout.specs.declared.Value.{Value}
 use Rattle.layout.specs.declared.Value.the-variants.{Of, Refused}
 
@@ -97,6 +97,7 @@ issuer-late Nowhere WrongRemainder = omega arith
 
 pub value-late : (s : Sort) (t : List ℕ) → Late (valueOf s t)
 unfolding valueOf
+value-late Account t = place-late (placeOf t accounts)
 value-late Side t = place-late (placeOf t sides)
 value-late Kind t = place-late (placeOf t kinds)
 value-late Issuer t = issuer-late (placeOf t issuers) (judgedOf t)

@@ -6,9 +6,8 @@ use native.Mathlib.Omega.{arith}
 use lib.ListN.{length}
 use borrow.Author.Tests.{lt-ltb, le-ltb}
 use Rattle.article.specs.Answer.{Answer}
-use Rattle.lists.specs.Tables.{front}
-use Rattle.words.specs.Words.{withWord, encode}
-use Rattle.words.proofs.Encoded.{encoded-none, encoded-more}
+use Rattle.words.specs.Words.{withWord}
+use Rattle.words.proofs.Encoded.{encoded-two}
 use Rattle.words.proofs.ReadBack.{read-back}
 use Rattle.lent.specs.Boundary.{answered, Answers}
 
@@ -18,7 +17,7 @@ pub two-answered : (a : Answer) (old first second : List ℕ) → a .first < 2 ^
 unfolding answered
 two-answered a old first second p q h e f =
     let both = a .first ∷ a .second ∷ [] in
-    let in-bytes : second ≡ front (encode both) old = encoded-more both old first second 1 (omega arith) (encoded-more both old old first 0 (omega arith) (encoded-none both old) e) f in
+    let in-bytes = encoded-two (a .first) (a .second) old first second e f in
     let read = read-back both old (p, (q, tt)) in
     record {
       number = refl;

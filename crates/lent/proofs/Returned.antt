@@ -19,6 +19,7 @@ same-demands s one two a r x y e f d = record {
   cheapest = λ z. let n : a .number ≡ 0 = sym e ∙ z in rw (f n .0) (d .cheapest n);
   rounding = λ z. let n : a .number ≡ 0 = sym e ∙ z in rw (f n .0, f n .1) (d .rounding n);
   undated = d .undated;
+  unlettered = d .unlettered;
   count = d .count;
   terms = d .terms;
   remainders = d .remainders;

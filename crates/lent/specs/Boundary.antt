@@ -49,7 +49,7 @@ outcomeOf h c l = outcomeIn (two c l) h c
 -- what the exported check promises of what is lent, before and after, and of the number that it returns
 module _ (h : Head) (c : Columns) (before after : Lent) (r : ℕ) where
   pub record Checks : Type 0 where
-    -- a book or proposal has as many holdings or lines as its columns have entries, of each the numbers that stand there, and the valuation date of its head
+    -- a book or proposal has as many holdings or lines as its columns have entries, of each the numbers that stand there, and its head
     pub submitted : ColumnEntries h c
     -- the refusal number, 0 for accepted, is returned; units and cents, or the two places, stand in the answer slice, where the host reads them
     pub returned : Answers (outcomeOf h c before) (before .answer) (after .answer) r

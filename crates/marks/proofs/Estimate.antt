@@ -13,7 +13,7 @@ use Rattle.holding.proofs.Issuers.{corporation-is, above-range}
 use Rattle.rates.specs.Rate.{flatRate, percents}
 use Rattle.rates.proofs.FlatRates.{flat-high}
 use Rattle.article.proofs.Saved.{of-one-class, of-two-classes, of-one-government, one-bond-of, corporate-legs}
-use Rattle.article.specs.Pair.{isBond, isStrip, isCanada, isProvince, isUs, isGb, inCad, inUsd, inGbp}
+use Rattle.article.specs.Pair.{isParticipant, areParticipants, isBond, isStrip, isCanada, isProvince, isUs, isGb, inCad, inUsd, inGbp}
 use Rattle.article.specs.Pair.{sameClass, mixedClass, oneBond, sameGovernment, bothCad, sameForeign, isCorporate, bondRating, sameCorporation, RateInRange}
 use Rattle.article.specs.Pair.{permits, allowed, ruleRate, pairRateOf, savingRateOf}
 use Rattle.article.proofs.Legs.{allowed-meets, bonds-no-rule, no-rule, Permitted, one-class, two-classes, one-corporation, one-government, permitted}
@@ -58,16 +58,20 @@ outside-mark : (bond : Bool) (l : Leg) → isDomestic l ≡ false → hasPartner
 unfolding markOf keyOf
 outside-mark bond l d h = rw (d, h)
 
--- a corporation's leg is not domestic; in CAD it may have a pair if paragraph 3 can have it
+-- a corporation's leg is not domestic; a participant's in CAD may have a pair if paragraph 3 can have it
 no-domestic : (l : Leg) → isCorporate l ≡ true → isDomestic l ≡ false
 unfolding isDomestic isCorporate isCanada isProvince
 no-domestic l n =
     let (low, _) = corporation-is (l .issuer) n in
     rw (ne-eqb (l .issuer) 0 (λ z. omega arith), above-range 1 10 (l .issuer) (omega arith)) (and-false (inCad l))
 
-partner : (l : Leg) → inCad l ≡ true → isOffered l ≡ true → hasPartner l ≡ true
+partner : (l : Leg) → isParticipant l ≡ true → inCad l ≡ true → isOffered l ≡ true → hasPartner l ≡ true
 unfolding hasPartner
-partner l c o = rw (c, o)
+partner l p c o = rw (p, c, o)
+
+participants : (l s : Leg) → areParticipants l s ≡ true → (isParticipant l ≡ true) × (isParticipant s ≡ true)
+unfolding areParticipants
+participants l s e = and-eq-true-iff (isParticipant l) (isParticipant s) .0 e
 
 -- of a bond and a strip of a corporation, the bond rated, paragraph 3 can have both
 offered : (l s : Leg) → isCorporate l ≡ true → isCorporate s ≡ true → oneBond l s ≡ true → eqb (bondRating l s) 0 ≡ true → (isOffered l ≡ true) × (isOffered s ≡ true)
@@ -163,24 +167,26 @@ module _ (l s : Leg) (p : l .period ≡ s .period) where
       ⊎-elim (λ f. ⊎-elim (both Has _ _ 0 refl) (both Has _ _ 11 refl) (one-of _ _ f)) (both Has _ _ 12 refl) (one-of _ _ e)
 
   -- in the same foreign currency, of one government
-  foreign-mark : sameForeign l s ≡ true → oneBond l s ≡ true → sameGovernment l s ≡ true → shortMark s ≡ soughtMark l
+  foreign-mark : sameForeign l s ≡ true → areParticipants l s ≡ true → oneBond l s ≡ true → sameGovernment l s ≡ true → shortMark s ≡ soughtMark l
   unfolding shortMark soughtMark markOf keyOf isDomestic hasPartner isGovernment inCad isCanada isUs isGb isBond
-  foreign-mark c k e =
+  foreign-mark c a k e =
+      let (first, second) = participants l s a in
       let (x, foreign) = currency c in
       let (y, government) = issuer e in
-      rw (p, x, y, sought k, foreign, government)
+      rw (first, second, p, x, y, sought k, foreign, government)
 
   -- in CAD, of one corporation, the bond rated
-  corporate-mark : bothCad l s ≡ true → oneBond l s ≡ true → isCorporate l ≡ true → isCorporate s ≡ true → l .issuer ≡ s .issuer → eqb (bondRating l s) 0 ≡ true
-      → shortMark s ≡ soughtMark l
+  corporate-mark : bothCad l s ≡ true → areParticipants l s ≡ true → oneBond l s ≡ true → isCorporate l ≡ true → isCorporate s ≡ true → l .issuer ≡ s .issuer
+      → eqb (bondRating l s) 0 ≡ true → shortMark s ≡ soughtMark l
   unfolding shortMark soughtMark bothCad inCad
-  corporate-mark c k n m i rated =
+  corporate-mark c a k n m i rated =
+      let (x, y) = participants l s a in
       let (f, g) = and-eq-true-iff (inCad l) (inCad s) .0 c in
       let same : l .currency ≡ s .currency = eqb-true (l .currency) 0 f ∙ sym (eqb-true (s .currency) 0 g) in
       let (first, second) = offered l s n m k rated in
-      outside-mark (isBond s) s (no-domestic s m) (partner s g second)
+      outside-mark (isBond s) s (no-domestic s m) (partner s y g second)
       ∙ (λ t. 4 * (sym p t % 8 + 8 * (sym same t % 4 + 4 * (sym i t % 512))) + cond (sought k t) 0 2)
-      ∙ sym (outside-mark (not (isBond l)) l (no-domestic l n) (partner l f first))
+      ∙ sym (outside-mark (not (isBond l)) l (no-domestic l n) (partner l x f first))
 
   -- what a rule saves of two rates, by the marks and the rates that the legs are scanned by
   module _ (f : RateInRange l) (g : RateInRange s) where
@@ -193,12 +199,12 @@ module _ (l s : Leg) (p : l .period ≡ s .period) where
     by-marks d h (two-classes c k e) =
         let (a, b) = of-two-classes l s e in
         omega (arith, h (two-marks c e), own-rate l a, own-rate s b)
-    by-marks d h (one-government c k e) =
+    by-marks d h (one-government c x k e) =
         let (a, b) = of-one-government l s e in
-        omega (arith, d (foreign-mark c k e), own-rate l a, own-rate s b)
-    by-marks d h (one-corporation c k e rated) =
+        omega (arith, d (foreign-mark c x k e), own-rate l a, own-rate s b)
+    by-marks d h (one-corporation c x k e rated) =
         let (n, (m, issuer)) = corporate-legs l s e in
-        let enough = d (corporate-mark c k n m issuer rated) in
+        let enough = d (corporate-mark c x k n m issuer rated) in
         ⊎-elim
         (λ w.
         le-trans (capped-saving (l .period) (f .bond n (w .0)) (rw (← p) at (g .strip m (w .1))) .0)

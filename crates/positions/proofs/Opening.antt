@@ -13,13 +13,14 @@ use Rattle.lists.proofs.Firsts.{first-of-none}
 use Rattle.lists.proofs.Overwrite.{front-more}
 use Rattle.lists.proofs.Passed.{Passed, passed-none, passed-more, passed-first, passed-all}
 use Rattle.lists.proofs.Tables.{length-to, getD-to, map-to, to-back}
-use Rattle.holding.specs.Holding.{accountOf, holdingOf, rowBy, Builds}
+use Rattle.holding.specs.Holding.{letterNumber, accountOf, holdingOf, rowBy, Builds}
 use Rattle.dates.specs.Calendar.{isDate}
 use Rattle.holding.specs.declared.Row.{Row}
-use Rattle.holding.specs.declared.Account.{Account}
+use Rattle.holding.specs.declared.{Head.Head, Account.Account}
 use Rattle.holding.specs.declared.Holding.{Holding}
 use Rattle.holding.specs.declared.Built.{Built}
 use Rattle.holding.specs.declared.Built.the-variants.{Made, Refused}
+use Rattle.holding.proofs.Heads.{letter-back}
 use Rattle.holding.proofs.Ranges.{fault-none}
 use Rattle.holding.proofs.Rows.{made-row, refused-row}
 use Rattle.article.specs.Answer.{makeAnswer}
@@ -35,7 +36,7 @@ use Rattle.proposal.proofs.Limits.{row-first, price-first, none-ranges, ranges-
 use Rattle.proposal.proofs.Places.{none-at, at-none, first-at}
 use Rattle.proposal.proofs.PricedBooks.{leg-at, value-at, rate-at}
 use Rattle.packed.specs.Packed.{legIn, Small, legAt}
-use Rattle.packed.proofs.Holdings.{small}
+use Rattle.packed.proofs.Holdings.{letter-few, small}
 use Rattle.positions.specs.Opens.{OpenRoom, Opens}
 
 -- a row whose numbers were read at an entry of the columns
@@ -133,31 +134,40 @@ module _ {a : Account} {columns : List (List ℕ)} {price legs₀ left₀ : List
       whole : i ≡ length (rowsIn columns)
       whole = omega (arith, count columns, o .passed .few)
 
+      -- the book for a head whose account it is
+      abbrev head : Head
+      head = record { date = a .date; letter = letterNumber (a .letter) }
+
+      same-account : accountOf head ≡ a
+      unfolding accountOf
+      same-account = λ t. record { date = a .date; letter = letter-back (a .letter) t }
+
       abbrev book : Submission
-      book = record { head = record { date = a .date }; rows = rowsIn columns; prices = decode price; lines = [] }
+      book = record { head = head; rows = rowsIn columns; prices = decode price; lines = [] }
 
       in-limits : Limits book
-      unfolding atHolding accountOf
+      unfolding atHolding
       in-limits =
           let each : (k : ℕ) → k < length (rowsIn columns) → _ = λ k q. none-ranges _ _ _ (at-none k _ (o .passed .none k (omega (arith, whole)))) in
           record {
             valued = o .room .valued;
+            lettered = letter-few (a .letter);
             holdings = omega (arith, count columns, o .room .few);
             lines = omega arith;
-            each-row = λ k q. each k q .0;
+            each-row = λ k q. rw same-account (each k q .0);
             prices = λ k q. each k q .1;
           }
 
       written : (k : ℕ) → k < length (rowsIn columns) → legAt legs k ≡ priced book .leg k
-      unfolding holdingAt accountOf
-      written k q = o .coded k (omega (arith, whole)) ∙ sym (leg-at book k q)
+      unfolding holdingAt
+      written k q = o .coded k (omega (arith, whole)) ∙ ap (λ (x : Account). legOf x (holdingAt book k)) (sym same-account) ∙ sym (leg-at book k q)
 
       all-values : listTo i (λ k. row columns k .value) ≡ map (λ r. r .value) (rowsIn columns)
       all-values = sym (map-to (λ (r : Row). r .value) i (row columns)) ∙ ap (map (λ (r : Row). r .value)) (to-back i (rowsIn columns) noRow (sym whole))
 
       -- no holding has a fault
       pub opens-all : {f : Fault} → f ≡ makeFault 0 0 0 → Opens a columns price left₀ legs left f
-      unfolding bookFaults faultAnswer priced bookOf accountOf
+      unfolding bookFaults faultAnswer priced bookOf
       opens-all s = rw s (record {
         fault = sym (first-of-none (bookFaults a (rowsIn columns) (decode price)) _ (passed-all (o .passed) (omega (arith, whole))));
         opened = λ _. record {
@@ -166,7 +176,7 @@ module _ {a : Account} {columns : List (List ℕ)} {price legs₀ left₀ : List
             held = omega (arith, count columns, o .room .legs-held, o .legs-long);
             rate = λ k q. rw (written k q) (rate-at book in-limits k q);
           };
-          legs = record { count = refl; leg = written };
+          legs = record { count = refl; leg = λ k q. rw same-account at (written k q) };
           values = o .values ∙ ap (λ (xs : List ℕ). front xs left₀) all-values;
           values-high = λ k q. rw (value-at book k) (in-limits .each-row k q .value .high);
           prices-high = in-limits .prices;

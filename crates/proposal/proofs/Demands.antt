@@ -1,7 +1,7 @@
 -- The outcome keeps what document 01 demands of the check's answer. Assumes nothing.
 use mathlib.Core.Path.{_≡_, refl, ap, _∙_}
 use mathlib.Core.Bool.{Bool, false, not}
-use Prim.Native.Nat.{ℕ, _<_}
+use Prim.Native.Nat.{ℕ, _≤_, _<_}
 use native.Mathlib.Omega.{arith}
 use lib.ListN.{length}
 use borrow.Author.Tests.{ltb-false, le-ltb, eqb-true, eq-eqb, not-false}
@@ -9,8 +9,8 @@ use Rattle.lists.proofs.Tests.{either-way}
 use Rattle.lists.proofs.Entries.{at-each}
 use Rattle.lists.proofs.Firsts.{none-first, first-of-none}
 use Rattle.lists.proofs.Tables.{length-to, getD-to}
-use Rattle.holding.specs.Holding.{headFault, accountOf}
-use Rattle.holding.proofs.Heads.{unvalued-head}
+use Rattle.holding.specs.Holding.{headFault}
+use Rattle.holding.proofs.Heads.{sound-head, unvalued-head, unlettered-head, none-of-head, head-kept}
 use Rattle.holding.proofs.Ranges.{row-kept}
 use Rattle.article.specs.Answer.{Answer, makeAnswer}
 use Rattle.article.proofs.Article.{article}
@@ -55,9 +55,11 @@ module _ (s : Submission) where
 
   -- the terms are the article's
   terms : Limits s → (i j : ℕ) → i < length (s .rows) → j < length (s .rows) → PairTerms s i j
-  unfolding termsOf legOf accountOf
+  unfolding termsOf legOf
   terms l i j p q = record {
-    date = refl;
+    date = head-kept (s .head) .date;
+    participant = head-kept (s .head) .participant;
+    client = head-kept (s .head) .client;
     numbers = unfold holdingAt in row-kept _ _ (l .each-row i p);
     value = value-at s i;
     price = unfold priced bookOf in refl;
@@ -95,7 +97,7 @@ module _ (one two : Bool) (s : Submission) where
     no-2 = q;
     no-3 = le-ltb _ _ (a .in-limits .holdings);
     no-9 = le-ltb _ _ (a .in-limits .lines);
-    no-24 = a .in-limits .valued;
+    head = none-of-head (s .head) (sound-head (s .head) (a .in-limits .valued) (a .in-limits .lettered));
     holdings = λ k h. ranges-none _ _ _ (a .in-limits .each-row k h) (a .in-limits .prices k h);
     lines = λ k h. fits-none _ _ _ (keeps-fitting s (a .in-limits) (a .article) k h);
     pairs = covers-clear (priced s) (a .covered);
@@ -115,6 +117,12 @@ module _ (one two : Bool) (s : Submission) where
   as-accepted : outcome one two s .number ≡ 0 → outcome one two s ≡ accepted (priced s) (s .lines)
   as-accepted e = clear-accepted (zero-clear e)
 
+  -- where lengths and counts fit, the head's refusal is given at place 0
+  head-refused : one ≡ false → two ≡ false → length (s .rows) ≤ 256 → length (s .lines) ≤ 512 → {n : ℕ} → headFault (s .head) ≡ n → 1 ≤ n
+      → outcome one two s ≡ makeAnswer n 0 0
+  head-refused p q h m {n} fault some =
+      unvalued s _ _ (from-lengths one two s p q h m) (λ z. omega (arith, fault)) ∙ ap (λ (x : ℕ). makeAnswer x 0 0) fault
+
   pub demands : Demands s one two (outcome one two s)
   demands = record {
     exactly = (
@@ -122,10 +130,8 @@ module _ (one two : Bool) (s : Submission) where
       (λ a. unfold accepted in ap (λ (x : Answer). x .number) (clear-accepted (acceptable-clear (a .0 .0) (a .0 .1) (a .1)))),
     );
     cheapest = λ e. rw (as-accepted e) (units-least s (clear-acceptable (zero-clear e)));
-    undated = λ p q h m e.
-        let fault = unvalued-head (s .head) e in
-        let some : headFault (s .head) ≡ 0 → ⊥ = λ z. omega (arith, fault) in
-        unvalued s _ _ (from-lengths one two s p q h m) some ∙ ap (λ (n : ℕ). makeAnswer n 0 0) fault;
+    undated = λ p q h m e. head-refused p q h m (unvalued-head (s .head) e) (omega arith);
+    unlettered = λ p q h m e l. head-refused p q h m (unlettered-head (s .head) e l) (omega arith);
     count = unfold termsOf priced bookOf in refl;
     terms = terms s;
     remainders = unfold remaindersOf priced bookOf in length-to (priced s .count) _;

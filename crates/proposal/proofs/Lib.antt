@@ -5,6 +5,7 @@ pub mod Limits
 pub mod KeepsArticle
 pub mod Figures
 pub mod Demands
+pub mod Clients
 pub mod OneFigure
 pub mod Bounds
 pub mod Stages

@@ -1,4 +1,4 @@
--- What the tests of 3 to 10 and 23 to 25 say of the limits, and the ranges of each holding of its tests; a row is judged before its price. Assumes nothing.
+-- What the tests of 3 to 10 and 23 to 26 say of the limits, and the ranges of each holding of its tests; a row is judged before its price. Assumes nothing.
 use mathlib.Core.Path.{_≡_, sym, _∙_}
 use mathlib.Core.Bool.{Bool}
 use mathlib.Core.List.{List, [], _∷_}
@@ -10,6 +10,7 @@ use Rattle.lists.proofs.Firsts.{None, none-append, append-none, first-append, f
 use Rattle.holding.specs.Holding.{Ranges, rowFaults, faultOf}
 use Rattle.holding.specs.declared.Row.{Row}
 use Rattle.holding.specs.declared.Account.{Account}
+use Rattle.holding.proofs.Heads.{head-of-none, head-valued, head-lettered}
 use Rattle.holding.proofs.Ranges.{none-of-row, fault-none, none-fault}
 use Rattle.proposal.specs.Submission.{Submission, priceLimit}
 use Rattle.proposal.specs.Outcome.{holdingFaults}
@@ -42,7 +43,8 @@ module _ (a : Account) (r : Row) (price : ℕ) where
 
 pub limits : (one two : Bool) (s : Submission) → Clear one two s → Limits s
 limits one two s c = record {
-  valued = c .no-24;
+  valued = head-valued (s .head) (head-of-none (s .head) (c .head));
+  lettered = head-lettered (s .head) (head-of-none (s .head) (c .head));
   holdings = ltb-false _ _ (c .no-3);
   lines = ltb-false _ _ (c .no-9);
   each-row = λ k q. none-ranges _ _ _ (c .holdings k q) .0;

@@ -9,6 +9,7 @@ use borrow.Author.Tests.{le-ltb, eq-eqb, ne-eqb}
 use Rattle.lists.specs.Choice.{firstOf}
 use Rattle.lists.proofs.Firsts.{Numbered, first-append, first-of-none, first-found, first-passed}
 use Rattle.holding.specs.Holding.{headFaults, headFault}
+use Rattle.holding.proofs.Heads.{head-listed}
 use Rattle.article.specs.Answer.{Answer, makeAnswer}
 use Rattle.pairing.specs.Pairing.{saving, pricedTotal}
 use Rattle.pairing.specs.declared.Line.{Line}
@@ -26,12 +27,12 @@ module _ (o : Answer) (stage rest : List (Bool × Answer)) (z : Answer) (so : o 
   passes n e = so ∙ first-passed number stage rest (makeAnswer 0 0 0) z n (sym (ap number found) ∙ e)
 
 module _ (one two : Bool) (s : Submission) where
-  -- lengths that fit: the valuation date, holdings, lines, pairs and totals decide
+  -- lengths that fit: the head, holdings, lines, pairs and totals decide
   pub from-lengths : one ≡ false → two ≡ false → length (s .rows) ≤ 256 → length (s .lines) ≤ 512 → outcome one two s ≡ firstOf (fromHead s) (accepted (priced s) (s .lines))
   unfolding outcome faults sizeFaults atPlace firstOf
   from-lengths p q h m = rw (p, le-ltb _ _ h, le-ltb _ _ m, q)
 
--- 24 on the valuation date
+-- 24 on the valuation date, 26 on the letter
 module _ (s : Submission) (o z : Answer) (so : o ≡ firstOf (fromHead s) z) where
   pub unvalued : (headFault (s .head) ≡ 0 → ⊥) → o ≡ makeAnswer (headFault (s .head)) 0 0
   unfolding headFault
@@ -41,7 +42,7 @@ module _ (s : Submission) (o z : Answer) (so : o ≡ firstOf (fromHead s) z) whe
   unfolding headFault
   valued e =
       so ∙ first-append (atPlace 0 (headFaults (s .head))) (fromBook s) z
-      ∙ first-of-none (atPlace 0 (headFaults (s .head))) _ (zero-at 0 (headFaults (s .head)) (unfold headFaults in (omega arith, tt)) e)
+      ∙ first-of-none (atPlace 0 (headFaults (s .head))) _ (zero-at 0 (headFaults (s .head)) (head-listed (s .head)) e)
 
 -- 17 at the end
 module _ (b : PricedBook) (lines : List Line) (o z : Answer) (so : o ≡ firstOf (totalsFaults b lines) z) where

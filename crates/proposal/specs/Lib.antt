@@ -1,3 +1,4 @@
 pub mod Submission
 pub mod Outcome
 pub mod Demands
+pub mod Clients

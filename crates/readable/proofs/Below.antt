@@ -7,9 +7,10 @@ use Rattle.lists.specs.Tables.{Each}
 use Rattle.numerals.proofs.Exactly.{numeral-exactly, numeral-below}
 use Rattle.layout.specs.Layout.{IsValue, AreValues, no-values, value-and}
 use Rattle.layout.specs.declared.Sort.{Sort}
-use Rattle.layout.specs.declared.Sort.the-variants.{Side, Kind, Issuer, Currency, Rating, Date, Six, Twelve, Empty}
+use Rattle.layout.specs.declared.Sort.the-variants.{Account, Side, Kind, Issuer, Currency, Rating, Date, Six, Twelve, Empty}
 
 value-below : (s : Sort) (t : List ℕ) (v : ℕ) → IsValue s t v → v < 10 ^ 12
+value-below Account t v h = omega (arith, h .inside)
 value-below Side t v h = omega (arith, h .inside)
 value-below Kind t v h = omega (arith, h .inside)
 value-below Issuer t v h = ⊎-elim (λ named. omega (arith, named .inside)) (λ lei. omega (arith, lei .1)) h

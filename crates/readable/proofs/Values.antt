@@ -19,10 +19,10 @@ use Rattle.dates.specs.Text.{readDate}
 use Rattle.dates.specs.declared.text.Reading.{Reading}
 use Rattle.dates.specs.declared.text.Reading.the-variants.{Number as Dated, NotADate}
 use Rattle.dates.proofs.Texts.{read-exactly}
-use Rattle.layout.specs.Layout.{IsValue, AreValues, no-values, value-and, sides, kinds, currencies, ratings}
+use Rattle.layout.specs.Layout.{IsValue, AreValues, no-values, value-and, accounts, sides, kinds, currencies, ratings}
 use Rattle.layout.specs.Layout.{byPlace, byNumeral, byDate, valueOf, Values, values, wrong, andValue, valuesOf}
 use Rattle.layout.specs.declared.Sort.{Sort}
-use Rattle.layout.specs.declared.Sort.the-variants.{Side, Kind, Issuer, Currency, Rating, Date, Six, Twelve, Empty}
+use Rattle.layout.specs.declared.Sort.the-variants.{Account, Side, Kind, Issuer, Currency, Rating, Date, Six, Twelve, Empty}
 use Rattle.layout.specs.declared.Value.{Value}
 use Rattle.layout.specs.declared.Value.the-variants.{Of, Refused}
 use Rattle.layout.proofs.Issuers.{issuer-exactly}
@@ -54,6 +54,7 @@ empty-value (c ∷ t) v = (
 -- a text and its value; the texts of each table differ, by computing
 pub value-exactly : (s : Sort) (t : List ℕ) (v : ℕ) → (valueOf s t ≡ Of v) ↔ IsValue s t v
 unfolding valueOf same
+value-exactly Account t v = Iff·trans (place-value (placeOf t accounts) v) (distinct-exactly t accounts refl v)
 value-exactly Side t v = Iff·trans (place-value (placeOf t sides) v) (distinct-exactly t sides refl v)
 value-exactly Kind t v = Iff·trans (place-value (placeOf t kinds) v) (distinct-exactly t kinds refl v)
 value-exactly Issuer t v = issuer-exactly t v

@@ -1,5 +1,5 @@
--- Document 01, "The file", and document 02 b), the record D, and d), the numbers of corporations: a file that is read, in the words of the paper and of RFC 4180's
--- grammar. Assumes nothing.
+-- Document 01, "The file", and document 02 b) and e), the record D, and d), the numbers of corporations: a file that is read, in the words of the paper and of
+-- RFC 4180's grammar. Assumes nothing.
 use mathlib.Core.{Path._≡_, Logic._↔_, Logic._≢_, List.List, List.[], List._∷_, List._++_, List.map}
 use Prim.Native.Nat.{ℕ, _+_, _≤_, _<_}
 use lib.ListN.{length, getD, set}

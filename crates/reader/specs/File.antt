@@ -1,5 +1,5 @@
--- Document 01, "Reader order: 18; each record in turn 19 to 22, then 3 or 9 if it is one too many; after all records 2", and document 02 b), the record D, and d), the
--- numbers of corporations. Assumes nothing.
+-- Document 01, "Reader order: 18; each record in turn 19 to 22, then 3 or 9 if it is one too many; after all records 2", and document 02 b) and e), the record D, and
+-- d), the numbers of corporations. Assumes nothing.
 use mathlib.Core.{Path._≡_, Bool.Bool, Bool.true, Bool.false, Bool.cond, Bool.not, Bool._&&_, List.List, List.[], List._∷_, List._++_, List.map}
 use Prim.Native.Nat.{ℕ, zero, suc, _+_, _-_, _*_, _≤_, _<_}
 use lib.{Dec.ltb, Dec.eqb, ListN.length, ListN.getD, ListN.set, ListN.take}

@@ -3,7 +3,7 @@ use mathlib.Core.Path.{_≡_, refl, sym, ap, subst, _∙_}
 use mathlib.Core.Logic.{_↔_, _≢_}
 use mathlib.Core.Bool.{Bool, true, false, cond}
 use mathlib.Core.List.{List, [], _∷_, _++_, map}
-use Prim.Native.Nat.{ℕ, suc, _*_, _/_, _≤_}
+use Prim.Native.Nat.{ℕ, suc, _*_, _/_, _≤_, _<_}
 use native.Mathlib.Omega.{arith}
 use lib.Dec.{eqb}
 use lib.ListN.{length, getD, take, drop, length-map, length-append, length-take, length-drop}
@@ -17,10 +17,10 @@ use Rattle.article.specs.Answer.{Answer, makeAnswer}
 use Rattle.proposal.specs.Submission.{Submission, noRow, noLine}
 use Rattle.proposal.proofs.Clear.{number}
 use Rattle.words.specs.Words.{wordAt, withWord, encode}
-use Rattle.words.proofs.Encoded.{word-more}
+use Rattle.words.proofs.Encoded.{encoded-two}
 use Rattle.columns.specs.Columns.{Columns, makeColumns, holdingSizes, lineSizes, listsOf, column, filledFrom, filled, copied, CopyRoom, RowAt, LineAt}
 use Rattle.columns.proofs.Tables.{entered-copied, byTables, filled-values}
-use Rattle.columns.proofs.ReadBack.{price-read, rows-read, lines-read}
+use Rattle.columns.proofs.ReadBack.{column-read, rows-read, lines-read}
 use Rattle.sizes.specs.Sizes.{Room, tooShort}
 use Rattle.sizes.proofs.Sizes.{room-exactly}
 use Rattle.lent.specs.Boundary.{Answers}
@@ -47,11 +47,6 @@ none-from j (old ∷ olds) = λ i. none-column old i ∷ none-from (suc j) olds 
 none-filled : (c : Columns) → c ≡ filled nothing c
 unfolding filled
 none-filled c = λ i. makeColumns (none-from 0 (c .holdings) i) (none-column (c .price) i) (none-from 0 (c .lines) i)
-
--- one number goes into the first entry of a list
-first-column : (v : ℕ) (old : List ℕ) → withWord old 0 v ≡ column (v ∷ []) old
-unfolding column front encode
-first-column v old = word-more [] old v
 
 -- a list that is to hold n numbers, with its length, and one that does
 abbrev Holds : ℕ × ℕ → Type 0
@@ -113,6 +108,7 @@ module _ (text head : List ℕ) (table lined : List (List ℕ)) (out : List ℕ)
         valued = rw (heading-by not-zero) (none-column head);
         untouched = λ _. (refl, refl);
         date = λ z. absurd (not-read z);
+        letter = λ z. absurd (not-read z);
         holding = λ z. absurd (not-read z);
         price = λ z. absurd (not-read z);
         line = λ z. absurd (not-read z);
@@ -132,7 +128,8 @@ module _ (text head : List ℕ) (table lined : List (List ℕ)) (out : List ℕ)
     module _ {h : Head} {n m corporations : ℕ} (e : d ≡ Read h n m corporations) where
       -- the lists are measured for what the text submits
       pub measured : {two : Bool}
-          → two ≡ tooShort ((1, length head) ∷ (map (λ size. (n, size)) (holdingSizes before) ++ map (λ size. (m, size)) (lineSizes before))) (length out) → two ≡ short
+          → two ≡ tooShort ((length (headNumbers h), length head) ∷ (map (λ size. (n, size)) (holdingSizes before) ++ map (λ size. (m, size)) (lineSizes before))) (length out)
+          → two ≡ short
       unfolding heldLists headNumbers listsOf
       measured t = t ∙ rw (← holdings-counted from-file e, ← lines-counted from-file e)
 
@@ -147,9 +144,9 @@ module _ (text head : List ℕ) (table lined : List (List ℕ)) (out : List ℕ)
           each-held : Each Holds (heldLists s head before)
           each-held = room-exactly (heldLists s head before) (length out) .0 (sym same ∙ fits) .each
 
-          pub head-room : 8 ≤ length head
+          pub head-room : 8 * length (headNumbers h) ≤ length head
           unfolding heldLists headNumbers
-          head-room = let one = each-held .0 in omega arith
+          head-room = let all = each-held .0 in omega arith
 
           each-list : Each (λ (c : List ℕ). 8 * n ≤ length c) (before .holdings ++ (before .price ∷ [])) × Each (λ (c : List ℕ). 8 * m ≤ length c) (before .lines)
           unfolding heldLists listsOf holdingSizes lineSizes
@@ -175,10 +172,10 @@ module _ (text head : List ℕ) (table lined : List (List ℕ)) (out : List ℕ)
               each = each-list .1;
             }
 
-      -- put, the date is what is submitted; copied, so are the tables
-      date-put : {head′ : List ℕ} → head′ ≡ withWord head 0 (h .date) → head′ ≡ column (headNumbers (s .head)) head
-      unfolding headNumbers
-      date-put p = p ∙ rw (← head-read from-file e) (first-column (s .head .date) head)
+      -- put one after the other, the numbers of the head are those that are submitted; copied, so are the tables
+      head-put : {dated head′ : List ℕ} → dated ≡ withWord head 0 (h .date) → head′ ≡ withWord dated 1 (h .letter) → head′ ≡ column (headNumbers (s .head)) head
+      unfolding column headNumbers
+      head-put p q = rw (head-read from-file e) (encoded-two (h .date) (h .letter) head _ _ p q)
 
       all-filled : {table′ lined′ : List (List ℕ)} → length table ≡ 8 → length lined ≡ 3 → table′ ≡ copied rows n book′ 0 table → lined′ ≡ copied rows m lines′ 0 lined
           → byTables table′ lined′ ≡ filled s before
@@ -189,28 +186,32 @@ module _ (text head : List ℕ) (table lined : List (List ℕ)) (out : List ℕ)
           (λ i. byTables ((f ∙ held) i) ((g ∙ taken) i))
           ∙ sym (filled-values (s .head) (holdingsOf (parsedIn text)) (valuesBy 2 (parsedIn text)) table lined eight three)
 
-      pub all-read : {two : Bool} {head′ : List ℕ} {table′ lined′ : List (List ℕ)} (out′ : List ℕ) (r : ℕ) → two ≡ short → two ≡ false
-          → length table ≡ 8 → length lined ≡ 3 → head′ ≡ withWord head 0 (h .date) → table′ ≡ copied rows n book′ 0 table → lined′ ≡ copied rows m lines′ 0 lined
+      pub all-read : {two : Bool} {dated head′ : List ℕ} {table′ lined′ : List (List ℕ)} (out′ : List ℕ) (r : ℕ) → two ≡ short → two ≡ false
+          → length table ≡ 8 → length lined ≡ 3 → dated ≡ withWord head 0 (h .date) → head′ ≡ withWord dated 1 (h .letter)
+          → table′ ≡ copied rows n book′ 0 table → lined′ ≡ copied rows m lines′ 0 lined
           → Answers (makeAnswer 0 n m) out out′ r → Reads text head head′ before (byTables table′ lined′) out out′ r
       unfolding readingAnswer filled headNumbers
-      all-read out′ r same fits eight three p f g answered =
-          let put = date-put p in
+      all-read out′ r same fits eight three p q f g answered =
+          let put = head-put p q in
           let after = all-filled eight three f g in
           let whole : readingAnswer text head before out ≡ makeAnswer 0 n m =
           answer-none text short (no-fault from-file e) ∙ rw (sym same ∙ fits, holdings-counted from-file e, lines-counted from-file e) in
           let zero : eqb (readingAnswer text head before out .number) 0 ≡ true = rw whole in
           let fit = file-fits text (no-fault from-file e) in
+          let entry : (k : ℕ) → k < length (headNumbers (s .head)) → wordAt _ k ≡ getD (headNumbers (s .head)) k 0 =
+          λ k l. ap (λ (c : List ℕ). wordAt c k) put ∙ column-read (headNumbers (s .head)) head (fit .head) k l in
           let as-many : length (s .prices) ≡ length (s .rows) = unfold submissionOf in simp length-map in
           record {
             returned = rw whole answered;
             columns = rw (filling-by zero) after;
             valued = rw (heading-by zero) put;
             untouched = λ h. absurd (h (answered .number));
-            date = λ _. ap (λ (c : List ℕ). wordAt c 0) put ∙ price-read (headNumbers (s .head)) head (fit .head) 0 (omega arith);
+            date = λ _. entry 0 (omega arith);
+            letter = λ _. entry 1 (omega arith);
             holding = λ _ k h.
                 subst (λ (c : Columns). RowAt (c .holdings) k (getD (s .rows) k noRow)) (sym after)
                 (rows-read (s .rows) (fit .rows) k h (before .holdings) (seven table lined eight));
-            price = λ _ k h. ap (λ (c : Columns). wordAt (c .price) k) after ∙ price-read (s .prices) (before .price) (fit .prices) k (omega (arith, as-many));
+            price = λ _ k h. ap (λ (c : Columns). wordAt (c .price) k) after ∙ column-read (s .prices) (before .price) (fit .prices) k (omega (arith, as-many));
             line = λ _ k h. subst (λ (c : Columns). LineAt (c .lines) k (getD (s .lines) k noLine)) (sym after) (lines-read (s .lines) (fit .lines) k h lined three);
             exactly = rw (answered .number ∙ sym (ap number whole)) read-when;
             only = read-exactly text .only;

@@ -57,7 +57,7 @@ pub fn lists_too_short(n: usize, remainder: usize, ranking: usize, answer: usize
     (remainder / 8 < n) | (ranking / 8 < n) | (answer < 16)
 }
 
-// The same of the lists that the reader fills: an entry for the valuation date, for each holding, or each line.
+// The same of the lists that the reader fills: two entries for the head, and one for each holding, or each line.
 pub fn columns_too_short(
     holdings: usize,
     lines: usize,

@@ -43,3 +43,9 @@ encoded-more numbers old so-far after i h e w =
 pub encoded-none : (numbers old : List ℕ) → old ≡ front (encode (take 0 numbers)) old
 unfolding front encode
 encoded-none numbers old = refl
+
+-- two numbers, one after the other
+pub encoded-two : (a b : ℕ) (old first second : List ℕ) → first ≡ withWord old 0 a → second ≡ withWord first 1 b → second ≡ front (encode (a ∷ b ∷ [])) old
+encoded-two a b old first second e f =
+    let both = a ∷ b ∷ [] in
+    encoded-more both old first second 1 (omega arith) (encoded-more both old old first 0 (omega arith) (encoded-none both old) e) f

@@ -74,7 +74,9 @@ long-part-open-requires c κs =
     (few, (few, (few, (few, (rate-low _ priced (turn .loop-test .taken) leg, λ k h. parts .rates-high k (omega arith))))))
 
 first-open-requires : tie.Need-first-open-requires Inv-loop μ-loop
-first-open-requires c κs = search needs
+first-open-requires c κs =
+    let turn = c .before .before .before .before .before .before .before .before .before in
+    (turn .before .before .before .before .before .before .before .before .before .pre .0, turn .loop-test .taken)
 
 fault-at-requires : tie.Need-fault-at-requires Inv-loop μ-loop
 fault-at-requires c κs = search needs

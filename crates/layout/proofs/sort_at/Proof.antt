@@ -21,6 +21,7 @@ sort-at-spec =
     tie.close
     (tie.spec
     (λ c. search needs)
+    (λ c. search needs)
     (λ c. rw (c .before .if1 .taken) (past-listed 0 _ (from-end _ _ (c .match .rest))))
     (λ c. search needs)
     (λ c. search needs)

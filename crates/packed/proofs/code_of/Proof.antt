@@ -20,4 +20,6 @@ code-of-spec =
     (λ c. search needs)
     (λ c. search needs)
     (λ c. search needs)
-    (λ c. back _ (c .before .before .before .before .before .before .before .pre)))
+    (λ c. search needs)
+    (λ c. search needs)
+    (λ c. back _ (c .before .before .before .before .before .before .before .before .pre)))

@@ -20,11 +20,13 @@ use Rattle.reader.proofs.read.Statement.{statement}
 use Rattle.reader.proofs.read.Tie as tie
 
 abbrev Inv-loop : tie.InvT-loop
-Inv-loop text rows book₀ lines₀ high₀ low₀ values₀ before₀ date₀ holdings₀ pairs₀ corporations₀ record₀ at₀ book lines high low values before date holdings pairs corporations «record» at =
-    Reading text rows book₀ lines₀ high₀ low₀ book lines high low before (record { date = date }) holdings pairs corporations «record» at
+Inv-loop text rows book₀ lines₀ high₀ low₀ values₀ before₀ date₀ account₀ holdings₀ pairs₀ corporations₀ record₀ at₀
+    book lines high low values before date account holdings pairs corporations «record» at =
+    Reading text rows book₀ lines₀ high₀ low₀ book lines high low before (record { date = date; letter = account }) holdings pairs corporations «record» at
 
 abbrev μ-loop : tie.MeasureT-loop
-μ-loop text rows book₀ lines₀ high₀ low₀ values₀ before₀ date₀ holdings₀ pairs₀ corporations₀ record₀ at₀ book lines high low values before date holdings pairs corporations «record» at =
+μ-loop text rows book₀ lines₀ high₀ low₀ values₀ before₀ date₀ account₀ holdings₀ pairs₀ corporations₀ record₀ at₀
+    book lines high low values before date account holdings pairs corporations «record» at =
     length text - at
 
 -- a turn, from the record that was looked at
@@ -73,7 +75,7 @@ returns-3 c =
 returns-4 : tie.Need-returns-4 Inv-loop μ-loop
 returns-4 c = contents-refused _ 22 _ (turn-late (good (c .before)) (sym (c .before .may-follow .ensures) ∙ not-true _ (c .if3 .taken))) (λ z. omega arith)
 
--- the valuation date
+-- the head
 loop-again : tie.Need-loop-again Inv-loop μ-loop
 loop-again c =
     let m = c .before .before in
@@ -202,6 +204,7 @@ read-spec =
     (λ c. search needs)
     (λ c. search needs)
     returns-4
+    (λ c. search needs)
     (λ c. search needs)
     (λ c. search needs)
     (λ c. let a = turn-ahead (good (c .before .before)) in omega arith)

@@ -1,8 +1,11 @@
 -- `read_into` reads a text into what is lent, or refuses a record or the lengths. Assumes nothing.
-use mathlib.Core.Path.{_≡_, refl}
+use mathlib.Core.Path.{_≡_, refl, _∙_}
 use mathlib.Core.List.{List, [], _∷_}
-use Prim.Native.Nat.{ℕ}
+use Prim.Native.Nat.{ℕ, _≤_}
+use native.Mathlib.Omega.{arith}
+use lib.ListN.{length}
 use borrow.Author.Needs.{needs}
+use Rattle.holding.specs.Holding.{headNumbers}
 use Rattle.columns.specs.Columns.{holdingSizes, lineSizes}
 use Rattle.received.proofs.Received.{short, record-refused, measured, list-refused, head-room, book-room, lines-room, all-read}
 use Rattle.received.proofs.read_into.Statement.{statement}
@@ -37,7 +40,7 @@ abbrev file : tie.After-columns-too-short → tie.After-read
 file c = c .before .before .before .before .before .before .before .before .before .before .before .before
 
 same : (c : tie.After-columns-too-short) → c .columns-too-short .result ≡ short (text (file c)) (head (file c)) (held (file c)) (taken (file c)) (answer (file c))
-unfolding holdingSizes lineSizes
+unfolding headNumbers holdingSizes lineSizes
 same c =
     let f = file c in
     measured (text f) (head f) (held f) (taken f) (answer f) (f .read .ensures) (c .before .before .contents2 .given .1) (c .columns-too-short .ensures)
@@ -52,9 +55,12 @@ refused c = c .before .before .before .before .before
 abbrev refused-file : tie.After-slice-known22 → tie.After-read
 refused-file c = refused c .before .before .before .before .before .before .before .before .before .before
 
--- from the tables copied back to the date put, and to the lists that have room
-abbrev dated : tie.After-copy-book-arg9 → tie.After-put-word
-dated c = c .before .before .before .before .before .before .before .before .before .before .before
+-- from the tables copied back to the letter put, to the date put, and to the lists that have room
+abbrev lettered : tie.After-copy-book-arg9 → tie.After-put-word2
+lettered c = c .before .before .before .before .before .before .before .before .before .before .before
+
+abbrev dated : tie.After-put-word2 → tie.After-put-word
+dated c = c .before .before .before .before
 
 abbrev fitting : tie.After-put-word → tie.Else1
 fitting c = c .before .before
@@ -63,15 +69,18 @@ abbrev booked : tie.After-copy-lines-arg4 → tie.After-copy-book
 booked c = c .before .before .before .before .before .before .before .before .before .before .before .before .before .before .before .before .before .before .before .before
 
 -- from the answer to a text that was read back to the tables copied
-module _ (c : tie.After-slice-known36) where
+module _ (c : tie.After-slice-known37) where
   abbrev lined : tie.After-copy-lines
   lined = c .before .before .before .before .before .before .before .before .before .before
 
   abbrev book-copied : tie.After-copy-book
   book-copied = booked (lined .before)
 
+  abbrev letter-put : tie.After-put-word2
+  letter-put = lettered (book-copied .before)
+
   abbrev date-put : tie.After-put-word
-  date-put = dated (book-copied .before)
+  date-put = dated letter-put
 
   abbrev fits : tie.Else1
   fits = fitting date-put
@@ -83,22 +92,32 @@ returns c =
     list-refused (text f) (head f) (held f) (taken f) (answer f) (f .read .ensures) (asked .before .before .contents2 .given .1) (same asked) _ _ (too-short c .if1 .taken)
     (c .before .before .put-answer2 .ensures)
 
-put-word-requires : tie.Need-put-word-requires
-put-word-requires c κs =
-    let asked = c .before .before in
+-- the head's list holds two numbers
+two-held : (c : tie.Else1) → 16 ≤ length (head (file (c .before)))
+unfolding headNumbers
+two-held c =
+    let asked = c .before in
     let f = file asked in
-    head-room (text f) (head f) (held f) (taken f) (answer f) (f .read .ensures) (asked .before .before .contents2 .given .1) (same asked) (c .before .if1 .left)
+    head-room (text f) (head f) (held f) (taken f) (answer f) (f .read .ensures) (asked .before .before .contents2 .given .1) (same asked) (c .if1 .left)
+
+put-word-requires : tie.Need-put-word-requires
+put-word-requires c κs = omega (arith, two-held (c .before))
+
+put-word-requires-2 : tie.Need-put-word-requires-2
+put-word-requires-2 c κs =
+    let put = c .before .before .before in
+    omega (arith, two-held (fitting put), put .put-word .kept .0)
 
 copy-book-requires : tie.Need-copy-book-requires
 copy-book-requires c κs =
-    let fits = fitting (dated c) in
+    let fits = fitting (dated (lettered c)) in
     let asked = fits .before in
     let f = file asked in
     book-room (text f) (head f) (held f) (taken f) (answer f) (f .read .ensures) (asked .before .before .contents2 .given .1) (same asked) (fits .if1 .left) (start f .pre) refl
 
 copy-lines-requires : tie.Need-copy-lines-requires
 copy-lines-requires c κs =
-    let fits = fitting (dated (booked c .before)) in
+    let fits = fitting (dated (lettered (booked c .before))) in
     let asked = fits .before in
     let f = file asked in
     lines-room (text f) (head f) (held f) (taken f) (answer f) (f .read .ensures) (asked .before .before .contents2 .given .1) (same asked) (fits .if1 .left) (start f .pre) refl
@@ -115,10 +134,12 @@ returns-3 c =
     let b = book-copied c .copy-book .last .1 .1 .1 in
     let l = lined c .copy-lines .last .1 .1 .1 in
     all-read (text f) (head f) (held f) (taken f) (answer f) (f .read .ensures) (asked .before .before .contents2 .given .1)
-    {head′ = date-put c .put-word .last .0}
+    {dated = date-put c .put-word .last .0}
+    {head′ = letter-put c .put-word2 .last .0}
     {table′ = b .0 ∷ b .1 .0 ∷ b .1 .1 .0 ∷ b .1 .1 .1 .0 ∷ b .1 .1 .1 .1 .0 ∷ b .1 .1 .1 .1 .1 .0 ∷ b .1 .1 .1 .1 .1 .1 .0 ∷ b .1 .1 .1 .1 .1 .1 .1 .0 ∷ []}
     {lined′ = l .0 ∷ l .1 .0 ∷ l .1 .1 .0 ∷ []}
-    _ _ (same asked) (fits c .if1 .left) refl refl (date-put c .put-word .ensures) (book-copied c .copy-book .ensures) (lined c .copy-lines .ensures) (c .before .before .put-answer3 .ensures)
+    _ _ (same asked) (fits c .if1 .left) refl refl (date-put c .put-word .ensures) (letter-put c .put-word2 .ensures)
+    (book-copied c .copy-book .ensures) (lined c .copy-lines .ensures) (c .before .before .put-answer3 .ensures)
 
 pub read-into-spec : {M : Type 1} → statement M
 read-into-spec =
@@ -139,6 +160,7 @@ read-into-spec =
     (λ c. c .before .before .put-answer2 .kept .1 .1 .1 .0)
     returns
     put-word-requires
+    put-word-requires-2
     copy-book-requires
     copy-lines-requires
     (λ c κs. tt)
@@ -152,7 +174,7 @@ read-into-spec =
     (λ c. file (fits c .before) .read .kept .1 .1 .1 .0)
     (λ c. file (fits c .before) .read .kept .1 .1 .1 .1 .0)
     (λ c. file (fits c .before) .read .kept .1 .1 .1 .1 .1 .0)
-    (λ c. date-put c .put-word .kept .0)
+    (λ c. letter-put c .put-word2 .kept .0 ∙ date-put c .put-word .kept .0)
     (λ c. book-copied c .copy-book .kept .1 .1 .1 .0)
     (λ c. book-copied c .copy-book .kept .1 .1 .1 .1 .0)
     (λ c. book-copied c .copy-book .kept .1 .1 .1 .1 .1 .0)

@@ -8,6 +8,9 @@ use Rattle.article.proofs.pair.leg_of.Tie as tie
 row-of-requires : tie.Need-row-of-requires
 row-of-requires c κs = search needs
 
+letter-number-requires : tie.Need-letter-number-requires
+letter-number-requires c κs = search needs
+
 period-requires : tie.Need-period-requires
 period-requires c κs = search needs
 
@@ -17,10 +20,12 @@ rate-requires c κs = search needs
 returns : tie.Need-returns
 unfolding legOf
 returns c =
-    let row = c .before .before .row-of .ensures in
+    let lettered = c .before .before in
+    let row = lettered .before .row-of .ensures in
+    let letter = lettered .letter-number .ensures in
     let period = c .before .period .ensures .0 in
     let rate = c .rate .ensures in
-    (rw (row, period, rate), λ g. rw (row, period, rate) (leg-rates _ _ g))
+    (rw (row, letter, period, rate), λ g. rw (row, letter, period, rate) (leg-rates _ _ g))
 
 pub leg-of-spec : {M : Type 1} → statement M
-leg-of-spec = tie.close (tie.spec row-of-requires period-requires rate-requires returns)
+leg-of-spec = tie.close (tie.spec row-of-requires letter-number-requires period-requires rate-requires returns)
