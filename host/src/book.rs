@@ -2,7 +2,7 @@
 
 use std::collections::HashSet;
 
-use crate::{Currency, Date, Issuer, Kind, Lei, Rating, Side};
+use crate::{AccountKind, Currency, Date, Issuer, Kind, Lei, Rating, Side};
 
 /// One holding. Its ranges are the check's to judge.
 #[derive(Clone, Copy, Debug, PartialEq, Eq, Hash)]
@@ -24,13 +24,14 @@ pub struct Holding {
     pub rating: Option<Rating>,
 }
 
-/// A book on its valuation date: up to 256 holdings, numbered from 0. Two may be alike in everything.
+/// A book on its valuation date, in a participant's or a client's account: up to 256 holdings, numbered from 0. Two
+/// may be alike in everything.
 ///
 /// ```
-/// use margin_host::{Book, Currency, Holding, Issuer, Kind, Side};
+/// use margin_host::{AccountKind, Book, Currency, Holding, Issuer, Kind, Side};
 ///
 /// let records = [("ON", "2026-02-05", 1_000), ("QC", "2028-02-29", 2_000)];
-/// let mut book = Book::new("2025-01-01".parse()?, []);
+/// let mut book = Book::new("2025-01-01".parse()?, AccountKind::Participant, []);
 /// for (issuer, maturity, value) in records {
 ///     book.holdings.push(Holding {
 ///         side: Side::Long,
@@ -49,15 +50,17 @@ pub struct Holding {
 pub struct Book {
     /// The valuation date.
     pub date: Date,
+    /// Whose account it is: a client has fewer pairs than an approved participant.
+    pub account: AccountKind,
     /// The holdings in the order of their numbers.
     pub holdings: Vec<Holding>,
 }
 
 impl Book {
-    /// A book of these holdings on this valuation date.
+    /// A book of these holdings on this valuation date, in this account.
     ///
     /// ```
-    /// use margin_host::{Book, Currency, Date, Holding, Issuer, Kind, Side};
+    /// use margin_host::{AccountKind, Book, Currency, Date, Holding, Issuer, Kind, Side};
     ///
     /// let date = Date::new(2025, 1, 1).expect("a day");
     /// let bond = Holding {
@@ -70,12 +73,14 @@ impl Book {
     ///     rating: None,
     /// };
     /// let coupon = Holding { kind: Kind::Coupon, ..bond };
-    /// assert_eq!(Book::new(date, [bond, coupon]).holdings, vec![bond, coupon]);
+    /// let book = Book::new(date, AccountKind::Client, [bond, coupon]);
+    /// assert_eq!(book.holdings, vec![bond, coupon]);
     /// ```
     #[must_use]
-    pub fn new(date: Date, holdings: impl Into<Vec<Holding>>) -> Book {
+    pub fn new(date: Date, account: AccountKind, holdings: impl Into<Vec<Holding>>) -> Book {
         Book {
             date,
+            account,
             holdings: holdings.into(),
         }
     }
@@ -84,7 +89,9 @@ impl Book {
     /// [`Issuer::FIRST_CORPORATION`] in this order.
     ///
     /// ```
-    /// use margin_host::{Book, Currency, Date, Holding, Issuer, Kind, Lei, Rating, Side};
+    /// use margin_host::{
+    ///     AccountKind, Book, Currency, Date, Holding, Issuer, Kind, Lei, Rating, Side,
+    /// };
     ///
     /// let date = Date::new(2025, 1, 1).expect("a day");
     /// let lei = Lei::new("5493001KJTIIGC8Y1R12").expect("an LEI");
@@ -98,7 +105,8 @@ impl Book {
     ///     rating: Some(Rating::SingleA),
     /// };
     /// let coupon = Holding { kind: Kind::Coupon, ..bond };
-    /// assert_eq!(Book::new(date, [bond, coupon]).corporations(), vec![lei]);
+    /// let book = Book::new(date, AccountKind::Participant, [bond, coupon]);
+    /// assert_eq!(book.corporations(), vec![lei]);
     /// ```
     #[must_use]
     pub fn corporations(&self) -> Vec<Lei> {

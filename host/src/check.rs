@@ -1,6 +1,6 @@
 //! The check with its answer as a `Result`: on a book and a proposal, and on columns of numbers.
 
-use crate::{Book, Columns, Proposal, Refusal, raw};
+use crate::{Book, Columns, Head, Proposal, Refusal, raw};
 
 /// The figures of an accepted proposal.
 #[derive(Clone, Copy, Debug, Default, PartialEq, Eq, Hash, PartialOrd, Ord)]
@@ -39,7 +39,7 @@ pub struct Accepted {
 ///
 /// ```
 /// use margin_host::{
-///     Book, Currency, Date, Holding, Issuer, Kind, Line, Proposal, Refusal, Side, check,
+///     AccountKind, Book, Currency, Date, Holding, Issuer, Kind, Line, Proposal, Refusal, Side, check,
 /// };
 ///
 /// let date = Date::new(2025, 1, 1).expect("a day");
@@ -53,7 +53,7 @@ pub struct Accepted {
 ///     rating: None,
 /// };
 /// let residual = Holding { side: Side::Short, kind: Kind::Residual, value: 400, ..coupon };
-/// let book = Book::new(date, [coupon, residual]);
+/// let book = Book::new(date, AccountKind::Client, [coupon, residual]);
 /// let mut proposal = Proposal::new([0, 17_520], [Line { long: 0, short: 1, amount: 400 }]);
 /// let accepted = check(&book, &proposal)?;
 /// assert_eq!(accepted.figures.cents, 36);
@@ -64,14 +64,14 @@ pub struct Accepted {
 /// # Ok::<(), Refusal>(())
 /// ```
 pub fn check(book: &Book, proposal: &Proposal) -> Result<Accepted, Refusal> {
-    accepted(book.date.number(), &Columns::of(book, proposal))
+    accepted(Head::of(book), &Columns::of(book, proposal))
 }
 
 /// What the check says to columns, with lists of their length.
-pub(crate) fn accepted(date: u64, columns: &Columns<Vec<u64>>) -> Result<Accepted, Refusal> {
+pub(crate) fn accepted(head: Head, columns: &Columns<Vec<u64>>) -> Result<Accepted, Refusal> {
     let count = columns.side.len();
     let (mut remainder, mut ranking) = (vec![0; count], vec![0; count]);
-    let figures = check_columns(date, columns, &mut remainder, &mut ranking)?;
+    let figures = check_columns(head, columns, &mut remainder, &mut ranking)?;
     Ok(Accepted {
         figures,
         remainder,
@@ -79,8 +79,7 @@ pub(crate) fn accepted(date: u64, columns: &Columns<Vec<u64>>) -> Result<Accepte
     })
 }
 
-/// Checks columns of numbers on a valuation date, in place and whatever they hold. Dates are the numbers
-/// YYYYMMDD.
+/// Checks columns of numbers under a head, in place and whatever they hold. Dates are the numbers YYYYMMDD.
 ///
 /// On acceptance the first entries of `remainder` and `ranking`, one for each holding, are written, as in
 /// [`Accepted`]. Entries past them, and on a refusal both lists, are kept. It needs as much stack as
@@ -97,7 +96,7 @@ pub(crate) fn accepted(date: u64, columns: &Columns<Vec<u64>>) -> Result<Accepte
 /// # Examples
 ///
 /// ```
-/// use margin_host::{Columns, Figures, Refusal, check_columns};
+/// use margin_host::{Columns, Figures, Head, Refusal, check_columns};
 ///
 /// let mut columns: Columns<&[u64]> = Columns {
 ///     side: &[0, 1],
@@ -112,25 +111,27 @@ pub(crate) fn accepted(date: u64, columns: &Columns<Vec<u64>>) -> Result<Accepte
 ///     short: &[1],
 ///     amount: &[400],
 /// };
+/// let head = Head { date: 2025_01_01, letter: 0 };
 /// let (mut remainder, mut ranking) = ([0; 2], [0; 2]);
-/// let figures = check_columns(2025_01_01, &columns, &mut remainder, &mut ranking);
+/// let figures = check_columns(head, &columns, &mut remainder, &mut ranking);
 /// assert_eq!(figures, Ok(Figures { units: 5_256_000, cents: 36 }));
 /// assert_eq!((remainder, ranking), ([600, 0], [0, 1]));
 ///
 /// columns.issuer = &[7, 13];
-/// let refused = check_columns(2025_01_01, &columns, &mut remainder, &mut ranking);
+/// let refused = check_columns(head, &columns, &mut remainder, &mut ranking);
 /// assert_eq!(refused, Err(Refusal::IssuerUnknown { holding: 1 }));
 /// ```
 pub fn check_columns<C: AsRef<[u64]>>(
-    date: u64,
+    head: Head,
     columns: &Columns<C>,
     remainder: &mut [u64],
     ranking: &mut [u64],
 ) -> Result<Figures, Refusal> {
+    let Head { date, letter } = head;
     let columns = columns.each_ref().map(|column| bytes(column.as_ref()));
     let (remainder, ranking) = (bytes_mut(remainder), bytes_mut(ranking));
     let mut answer = [0; 16];
-    let number = raw::margin_check(date, &columns, remainder, ranking, &mut answer);
+    let number = raw::margin_check(date, letter, &columns, remainder, ranking, &mut answer);
     let (first, second) = halves(&answer);
     if number == 0 {
         return Ok(Figures {
@@ -139,9 +140,9 @@ pub fn check_columns<C: AsRef<[u64]>>(
         });
     }
     match Refusal::from_parts(number, first, second) {
-        Some(refusal) if matches!(number, 1..=17 | 23..=25) => Err(refusal),
+        Some(refusal) if matches!(number, 1..=17 | 23..=26) => Err(refusal),
         _ => unreachable!(
-            "the check's contract is proved: it returns 0 to 17 or 23 to 25, and a place only \
+            "the check's contract is proved: it returns 0 to 17 or 23 to 26, and a place only \
              where the number has one"
         ),
     }

@@ -1,4 +1,4 @@
-//! Side, kind, currency and rating: each value has a text in the file and a number in a column.
+//! Side, kind, currency, rating and account: each value has a text in the file and a number for the check.
 
 use std::error::Error;
 use std::fmt;
@@ -24,7 +24,7 @@ macro_rules! coded {
 
             const TEXTS: &[&str] = &[$($text),+];
 
-            /// The number in a column.
+            /// The number for the check.
             ///
             /// ```
             #[doc = concat!("use margin_host::", stringify!($name), ";")]
@@ -140,7 +140,16 @@ coded! {
     Lower "N",
 }
 
-/// A text that no side, no kind, no issuer, no currency or no rating has.
+coded! {
+    /// Whose account a book is, which decides by which paragraphs its holdings may be paired.
+    AccountKind, "account", such as Client 1 "C":
+    /// An approved participant's: 0, `P` in the file. It has paragraphs 2, 3 and 4.
+    Participant "P",
+    /// A client's: 1, `C` in the file. It has paragraph 2 alone, Canada and the provinces in CAD.
+    Client "C",
+}
+
+/// A text that no side, no kind, no issuer, no currency, no rating or no account has.
 ///
 /// ```
 /// use margin_host::Side;

@@ -3,7 +3,8 @@
 use std::collections::HashMap;
 
 use crate::{
-    Book, Currency, Date, Holding, Issuer, Kind, Lei, Line, Proposal, Rating, Refusal, Side,
+    AccountKind, Book, Currency, Date, Head, Holding, Issuer, Kind, Lei, Line, Proposal, Rating,
+    Refusal, Side,
 };
 
 /// The number of no rating in a column.
@@ -169,10 +170,13 @@ columns! {
 }
 
 impl Columns<Vec<u64>> {
-    /// The columns of a book and a proposal. The valuation date is in none of them.
+    /// The columns of a book and a proposal. The valuation date and the account are in none of them:
+    /// [`Head::of`] has both.
     ///
     /// ```
-    /// use margin_host::{Book, Columns, Currency, Date, Holding, Issuer, Kind, Proposal, Side};
+    /// use margin_host::{
+    ///     AccountKind, Book, Columns, Currency, Date, Holding, Issuer, Kind, Proposal, Side,
+    /// };
     ///
     /// let date = Date::new(2025, 1, 1).expect("a day");
     /// let holding = Holding {
@@ -184,7 +188,8 @@ impl Columns<Vec<u64>> {
     ///     currency: Currency::Cad,
     ///     rating: None,
     /// };
-    /// let columns = Columns::of(&Book::new(date, [holding]), &Proposal::new([6_570], []));
+    /// let book = Book::new(date, AccountKind::Participant, [holding]);
+    /// let columns = Columns::of(&book, &Proposal::new([6_570], []));
     /// assert_eq!((columns.side, columns.kind, columns.issuer), (vec![1], vec![2], vec![7]));
     /// assert_eq!((columns.maturity, columns.rating), (vec![2030_06_24], vec![2]));
     /// ```
@@ -207,14 +212,15 @@ impl Columns<Vec<u64>> {
         }
     }
 
-    /// The book on this date and the proposal of columns that the reader has filled, with the LEIs of its
-    /// corporations: it knows each side, kind, issuer, currency and rating, but not whether a date is a day.
+    /// The book with this head and the proposal of columns that the reader has filled, with the LEIs of its
+    /// corporations: it knows the account and each side, kind, issuer, currency and rating, but not whether a date
+    /// is a day.
     pub(crate) fn book_and_proposal(
         self,
-        date: u64,
+        head: Head,
         leis: &[Lei],
     ) -> Result<(Book, Proposal), Refusal> {
-        const KNOWN: &str = "the reader's contract is proved: it knows each side, kind, issuer, currency and rating";
+        const KNOWN: &str = "the reader's contract is proved: it knows the account and each side, kind, issuer, currency and rating";
         let issuer = |number: u64| match number.checked_sub(Issuer::FIRST_CORPORATION) {
             Some(place) => leis.get(place as usize).copied().map(Issuer::Corporation),
             None => Issuer::from_number(number),
@@ -237,11 +243,13 @@ impl Columns<Vec<u64>> {
             short: self.short[at],
             amount: self.amount[at],
         };
-        let date = day(date, 0)?;
+        let date = day(head.date, 0)?;
+        let account = AccountKind::from_number(head.letter).expect(KNOWN);
         let holdings = (0..self.side.len()).map(holding);
         let holdings = holdings.collect::<Result<Vec<Holding>, Refusal>>()?;
         let lines: Vec<Line> = (0..self.long.len()).map(line).collect();
-        Ok((Book::new(date, holdings), Proposal::new(self.price, lines)))
+        let book = Book::new(date, account, holdings);
+        Ok((book, Proposal::new(self.price, lines)))
     }
 }
 

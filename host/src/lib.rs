@@ -1,19 +1,21 @@
 //! The desk's side of the margin check on paired strip bond holdings (article 7204, Groups I, II, V and XI).
-//! In Canadian dollars it pairs debt of Canada and its provinces, and a bond of a corporation that is rated
-//! single A or higher with a strip of the same corporation; in US dollars or sterling a bond of Canada, the
-//! United States or the United Kingdom with a strip of the same government.
+//! In Canadian dollars it pairs debt of Canada and its provinces. For an approved participant, but not for a
+//! client, it also pairs a bond with a strip: in Canadian dollars of the same corporation, the bond rated single A
+//! or higher, and in US dollars or sterling of the same government, Canada, the United States or the United
+//! Kingdom.
 //!
-//! A desk makes a [`Book`] of [`Holding`]s on its valuation date and a [`Proposal`] on it, or reads both from
-//! a file with [`read()`]; [`check()`] gives the least margin, or the [`Refusal`]. Both are done by code that
-//! was proved: this package lends it the memory and names its answers. Callers that keep [`Columns`] of
-//! numbers use [`check_columns`], [`read_columns`] and [`read_leis`], and [`raw`] has these calls on bytes.
+//! A desk makes a [`Book`] of [`Holding`]s on its valuation date, in a participant's or a client's account, and a
+//! [`Proposal`] on it, or reads both from a file with [`read()`]; [`check()`] gives the least margin, or the
+//! [`Refusal`]. Both are done by code that was proved: this package lends it the memory and names its answers.
+//! Callers that keep a [`Head`] and [`Columns`] of numbers use [`check_columns`], [`read_columns`] and
+//! [`read_leis`], and [`raw`] has these calls on bytes.
 //!
 //! The file that document 01, the customer's scope, prints, in Canadian dollars and valued on 2025-01-01:
 //!
 //! ```
 //! use margin_host::{
-//!     Book, Currency, Date, Figures, Holding, Issuer, Kind, Line, Proposal, Refusal, Side, check,
-//!     check_file,
+//!     AccountKind, Book, Currency, Date, Figures, Holding, Issuer, Kind, Line, Proposal, Refusal,
+//!     Side, check, check_file,
 //! };
 //!
 //! let date = Date::new(2025, 1, 1).expect("a day");
@@ -34,7 +36,7 @@
 //!     value: 300_000,
 //!     ..coupon
 //! };
-//! let book = Book::new(date, [coupon, bond, residual]);
+//! let book = Book::new(date, AccountKind::Participant, [coupon, bond, residual]);
 //! let lines = [
 //!     Line { long: 0, short: 1, amount: 600_000 },
 //!     Line { long: 0, short: 2, amount: 300_000 },
@@ -45,7 +47,7 @@
 //! assert_eq!(accepted.remainder, vec![100_000, 0, 0]);
 //! assert_eq!(accepted.ranking, vec![0, 1, 2]);
 //!
-//! let text = "D,2025-01-01,,,,,,,\r\n\
+//! let text = "D,2025-01-01,P,,,,,,\r\n\
 //!             H,L,C,CA,2030-06-24,1000000,0,CAD,\r\n\
 //!             H,S,B,CA,2030-06-24,600000,5840,CAD,\r\n\
 //!             H,S,R,ON,2030-06-24,300000,6570,CAD,\r\n\
@@ -62,7 +64,8 @@
 //!
 //! ```
 //! use margin_host::{
-//!     Book, Currency, Date, Holding, Issuer, Kind, Lei, Line, Proposal, Rating, Refusal, Side, check,
+//!     AccountKind, Book, Currency, Date, Holding, Issuer, Kind, Lei, Line, Proposal, Rating, Refusal,
+//!     Side, check,
 //! };
 //!
 //! let lei = Lei::new("5493001KJTIIGC8Y1R12").expect("an LEI");
@@ -81,10 +84,15 @@
 //!     rating: Some(Rating::SingleA),
 //!     ..strip
 //! };
-//! let book = Book::new(Date::new(2025, 1, 1).expect("a day"), [strip, bond]);
+//! let date = Date::new(2025, 1, 1).expect("a day");
+//! let mut book = Book::new(date, AccountKind::Participant, [strip, bond]);
 //! let proposal = Proposal::new([29_200, 0], [Line { long: 0, short: 1, amount: 1_000 }]);
 //! // 20 per cent in place of 30 for the strip and 10 for the bond.
 //! assert_eq!(check(&book, &proposal)?.figures.cents, 200);
+//!
+//! // A client may not pair them.
+//! book.account = AccountKind::Client;
+//! assert_eq!(check(&book, &proposal), Err(Refusal::PairNotAllowed { line: 0 }));
 //! # Ok::<(), Refusal>(())
 //! ```
 
@@ -95,6 +103,7 @@ mod check;
 mod codes;
 mod columns;
 mod date;
+mod head;
 mod issuer;
 mod lei;
 pub mod raw;
@@ -103,9 +112,10 @@ mod refusal;
 
 pub use book::{Book, Holding, Line, Proposal};
 pub use check::{Accepted, Figures, check, check_columns};
-pub use codes::{Currency, Kind, Rating, Side, UnknownCode};
+pub use codes::{AccountKind, Currency, Kind, Rating, Side, UnknownCode};
 pub use columns::Columns;
 pub use date::{Date, InvalidDate};
+pub use head::Head;
 pub use issuer::Issuer;
 pub use lei::{InvalidLei, Lei};
 pub use read::{check_file, read, read_columns, read_leis};

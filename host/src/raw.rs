@@ -48,10 +48,11 @@ unsafe extern "C" {
         answer_length: usize,
     ) -> u64;
 
-    // The valuation date, and fourteen slices, each a pointer and then its length in bytes.
+    // The valuation date, the account's letter, and fourteen slices, each a pointer and then its length in bytes.
     #[link_name = "margin_check"]
     fn exported_check(
         date: u64,
+        letter: u64,
         side: *const u8,
         side_length: usize,
         kind: *const u8,
@@ -83,7 +84,8 @@ unsafe extern "C" {
     ) -> u64;
 }
 
-/// Calls the check on a valuation date, the number YYYYMMDD, and returns the refusal number, 0 for accepted.
+/// Calls the check on a valuation date, the number YYYYMMDD, and the account's letter, 0 for an approved participant
+/// and 1 for a client, and returns the refusal number, 0 for accepted.
 ///
 /// An answer slice of 16 bytes or more gets units and cents, or the two places; a shorter one is kept.
 /// On acceptance the remainder and the ranking get one entry for each holding; a refusal keeps both.
@@ -99,15 +101,19 @@ unsafe extern "C" {
 /// let mut columns: Columns<&[u8]> = Columns::by_group(&zero, &[]);
 /// (columns.maturity, columns.value, columns.rating) = (&maturity, &one, &two);
 /// let (mut remainder, mut ranking, mut answer) = ([0; 8], [9; 8], [0; 16]);
-/// let mut check = |date| raw::margin_check(date, &columns, &mut remainder, &mut ranking, &mut answer);
-/// assert_eq!(check(2025_01_02), 7);
-/// assert_eq!(check(2025_01_01), 0);
+/// let mut check = |date, letter| {
+///     raw::margin_check(date, letter, &columns, &mut remainder, &mut ranking, &mut answer)
+/// };
+/// assert_eq!(check(2025_01_02, 0), 7);
+/// assert_eq!(check(2025_01_01, 2), 26);
+/// assert_eq!(check(2025_01_01, 0), 0);
 /// assert_eq!((remainder, ranking), (one, zero));
 /// assert_eq!(answer.as_chunks().0, [number(4), number(1)]);
 /// ```
 #[must_use]
 pub fn margin_check(
     date: u64,
+    letter: u64,
     columns: &Columns<&[u8]>,
     remainder: &mut [u8],
     ranking: &mut [u8],
@@ -121,6 +127,7 @@ pub fn margin_check(
     let number = unsafe {
         exported_check(
             date,
+            letter,
             c.side.as_ptr(), c.side.len(),
             c.kind.as_ptr(), c.kind.len(),
             c.issuer.as_ptr(), c.issuer.len(),
@@ -142,10 +149,10 @@ pub fn margin_check(
 
 /// Calls the reader and returns the refusal number, 0 for a file that was read.
 ///
-/// A file that is read goes to the front of the lists: its valuation date to the first entry of the head, and
-/// of the columns eight get an entry for each holding and three one for each line. What comes after is kept,
-/// and a refusal keeps the head and all eleven. An answer slice of 16 bytes or more gets the number of holdings
-/// and the number of lines, or the place and 0; a shorter one is kept.
+/// A file that is read goes to the front of the lists: its valuation date and its account's letter to the first two
+/// entries of the head, and of the columns eight get an entry for each holding and three one for each line. What
+/// comes after is kept, and a refusal keeps the head and all eleven. An answer slice of 16 bytes or more gets the
+/// number of holdings and the number of lines, or the place and 0; a shorter one is kept.
 ///
 /// The call needs less than 56 KiB of stack, whatever the size of the file: when tried with 256 holdings and
 /// 512 lines, a thread of 56 KiB was enough, and one of 54 KiB was not.
@@ -155,10 +162,10 @@ pub fn margin_check(
 ///
 /// let mut room = Columns::by_group(vec![0; 8], vec![0; 8]);
 /// let mut columns = room.each_mut().map(Vec::as_mut_slice);
-/// let (mut head, mut answer) = ([0; 8], [0; 16]);
-/// let text = b"D,2025-01-01,,,,,,,\r\nH,S,B,US,2030-06-24,600000,5840,USD,\r\n";
+/// let (mut head, mut answer) = ([0; 16], [0; 16]);
+/// let text = b"D,2025-01-01,C,,,,,,\r\nH,S,B,US,2030-06-24,600000,5840,USD,\r\n";
 /// assert_eq!(raw::margin_read(text, &mut head, &mut columns, &mut answer), 0);
-/// assert_eq!(head, 2025_01_01_u64.to_le_bytes());
+/// assert_eq!(head.as_chunks().0, [2025_01_01_u64.to_le_bytes(), 1_u64.to_le_bytes()]);
 /// assert_eq!(columns.maturity, 2030_06_24_u64.to_le_bytes());
 /// assert_eq!(columns.currency, 1_u64.to_le_bytes());
 /// assert_eq!(columns.rating, 2_u64.to_le_bytes());
@@ -212,7 +219,7 @@ pub fn margin_read(
 /// ```
 /// use margin_host::raw;
 ///
-/// let text = b"D,2025-01-01,,,,,,,\r\n\
+/// let text = b"D,2025-01-01,P,,,,,,\r\n\
 ///              H,L,B,5493001KJTIIGC8Y1R12,2030-06-24,600000,0,CAD,Y\r\n\
 ///              H,S,C,5493001KJTIIGC8Y1R12,2030-06-24,600000,0,CAD,N\r\n";
 /// let (mut leis, mut answer) = ([0; 40], [0; 16]);

@@ -1,7 +1,7 @@
 //! The file's reader with its answer as a `Result`, the LEIs of a file, and reading and checking in one call.
 
 use crate::check::{accepted, bytes_mut, halves};
-use crate::{Accepted, Book, Columns, Issuer, Lei, Proposal, Refusal, raw};
+use crate::{Accepted, Book, Columns, Head, Issuer, Lei, Proposal, Refusal, raw};
 
 /// Entries that no file exceeds.
 const MOST_HOLDINGS: usize = 256;
@@ -23,14 +23,15 @@ const MOST_LINES: usize = 512;
 /// # Examples
 ///
 /// ```
-/// use margin_host::{Date, Issuer, Line, Refusal, read};
+/// use margin_host::{AccountKind, Date, Issuer, Line, Refusal, read};
 ///
-/// let text = "D,2025-01-01,,,,,,,\r\n\
+/// let text = "D,2025-01-01,P,,,,,,\r\n\
 ///             H,L,C,ON,2030-06-24,1000,0,CAD,\r\n\
 ///             H,S,R,QC,2030-06-24,400,17520,CAD,\r\n\
 ///             P,0,1,400,,,,,\r\n";
 /// let (book, proposal) = read(text.as_bytes())?;
 /// assert_eq!(Some(book.date), Date::new(2025, 1, 1));
+/// assert_eq!(book.account, AccountKind::Participant);
 /// assert_eq!(book.holdings[1].issuer, Issuer::Quebec);
 /// assert_eq!(proposal.prices, vec![0, 17_520]);
 /// assert_eq!(proposal.lines, vec![Line { long: 0, short: 1, amount: 400 }]);
@@ -40,18 +41,17 @@ const MOST_LINES: usize = 512;
 /// # Ok::<(), Refusal>(())
 /// ```
 pub fn read(text: &[u8]) -> Result<(Book, Proposal), Refusal> {
-    let (date, columns) = read_columns(text)?;
+    let (head, columns) = read_columns(text)?;
     let corporate = |issuer: &u64| *issuer >= Issuer::FIRST_CORPORATION;
     let leis = match columns.issuer.iter().any(corporate) {
         true => read_leis(text)?,
         false => Vec::new(),
     };
-    columns.book_and_proposal(date, &leis)
+    columns.book_and_proposal(head, &leis)
 }
 
-/// Reads a file into the number of its valuation date, YYYYMMDD, and columns of numbers, whose ranges are all
-/// left to the check. A corporation has a number from 100, by first appearance in the file; [`read_leis`] has the
-/// LEIs.
+/// Reads a file into its head and columns of numbers, whose ranges are all left to the check. A corporation has a
+/// number from 100, by first appearance in the file; [`read_leis`] has the LEIs.
 ///
 /// # Errors
 ///
@@ -65,28 +65,30 @@ pub fn read(text: &[u8]) -> Result<(Book, Proposal), Refusal> {
 /// # Examples
 ///
 /// ```
-/// use margin_host::{Refusal, check_columns, read_columns};
+/// use margin_host::{Head, Refusal, check_columns, read_columns};
 ///
-/// let text = "D,2025-01-01,,,,,,,\r\nH,L,B,ON,2025-02-30,1000,0,CAD,\r\n";
-/// let (date, columns) = read_columns(text.as_bytes())?;
-/// assert_eq!((date, columns.maturity[0]), (2025_01_01, 2025_02_30));
-/// let refused = check_columns(date, &columns, &mut [0], &mut [0]);
+/// let text = "D,2025-01-01,P,,,,,,\r\nH,L,B,ON,2025-02-30,1000,0,CAD,\r\n";
+/// let (head, columns) = read_columns(text.as_bytes())?;
+/// assert_eq!(head, Head { date: 2025_01_01, letter: 0 });
+/// assert_eq!(columns.maturity, vec![2025_02_30]);
+/// let refused = check_columns(head, &columns, &mut [0], &mut [0]);
 /// assert_eq!(refused, Err(Refusal::DateInvalid { holding: 0 }));
 /// # Ok::<(), Refusal>(())
 /// ```
-pub fn read_columns(text: &[u8]) -> Result<(u64, Columns<Vec<u64>>), Refusal> {
-    let mut date = [0];
+pub fn read_columns(text: &[u8]) -> Result<(Head, Columns<Vec<u64>>), Refusal> {
+    let mut head = [0; 2];
     let mut columns = Columns::by_group(vec![0; MOST_HOLDINGS], vec![0; MOST_LINES]);
     let mut lists = columns.each_mut().map(|list| bytes_mut(list));
     let mut answer = [0; 16];
-    let number = raw::margin_read(text, bytes_mut(&mut date), &mut lists, &mut answer);
+    let number = raw::margin_read(text, bytes_mut(&mut head), &mut lists, &mut answer);
     let (first, second) = halves(&answer);
     if number == 0 {
         let counts = Columns::by_group(first, second).into_array();
         for (list, count) in columns.each_mut().into_array().into_iter().zip(counts) {
             list.truncate(count as usize);
         }
-        return Ok((date[0], columns));
+        let [date, letter] = head;
+        return Ok((Head { date, letter }, columns));
     }
     Err(refused(number, first, second))
 }
@@ -107,7 +109,7 @@ pub fn read_columns(text: &[u8]) -> Result<(u64, Columns<Vec<u64>>), Refusal> {
 /// ```
 /// use margin_host::{Refusal, read_columns, read_leis};
 ///
-/// let text = "D,2025-01-01,,,,,,,\r\n\
+/// let text = "D,2025-01-01,P,,,,,,\r\n\
 ///             H,L,B,5493001KJTIIGC8Y1R12,2030-06-24,1000,0,CAD,Y\r\n\
 ///             H,L,B,ON,2030-06-24,1000,0,CAD,\r\n\
 ///             H,S,C,7ZW8QJWVPR4P1J1KQY45,2030-06-24,1000,0,CAD,N\r\n";
@@ -159,7 +161,7 @@ fn refused(number: u64, first: u64, second: u64) -> Refusal {
 /// ```
 /// use margin_host::{Refusal, check_file};
 ///
-/// let text = "D,2025-01-01,,,,,,,\r\n\
+/// let text = "D,2025-01-01,P,,,,,,\r\n\
 ///             H,L,C,ON,2030-06-24,1000,0,CAD,\r\n\
 ///             H,S,R,QC,2030-06-24,400,17520,CAD,\r\n\
 ///             P,0,1,400,,,,,\r\n";
@@ -170,6 +172,6 @@ fn refused(number: u64, first: u64, second: u64) -> Refusal {
 /// # Ok::<(), Refusal>(())
 /// ```
 pub fn check_file(text: &[u8]) -> Result<Accepted, Refusal> {
-    let (date, columns) = read_columns(text)?;
-    accepted(date, &columns)
+    let (head, columns) = read_columns(text)?;
+    accepted(head, &columns)
 }

@@ -126,10 +126,12 @@ pub enum Refusal {
         /// The record at fault.
         record: u64,
     },
+    /// 26: an account that is neither an approved participant's nor a client's.
+    AccountUnknown,
 }
 
 impl Refusal {
-    /// The number, 1 to 25.
+    /// The number, 1 to 26.
     ///
     /// ```
     /// use margin_host::Refusal;
@@ -164,6 +166,7 @@ impl Refusal {
             Refusal::CurrencyUnknown { .. } => 23,
             Refusal::DateInvalid { .. } => 24,
             Refusal::RatingInvalid { .. } | Refusal::LeiOrRatingInvalid { .. } => 25,
+            Refusal::AccountUnknown => 26,
         }
     }
 
@@ -183,7 +186,8 @@ impl Refusal {
             | Refusal::TooManyHoldings
             | Refusal::TooManyLines
             | Refusal::TotalsDiffer
-            | Refusal::FileTooLong => 0,
+            | Refusal::FileTooLong
+            | Refusal::AccountUnknown => 0,
             Refusal::SideUnknown { holding }
             | Refusal::KindUnknown { holding }
             | Refusal::IssuerUnknown { holding }
@@ -265,6 +269,7 @@ impl Refusal {
             23 => Refusal::CurrencyUnknown { holding },
             24 => Refusal::DateInvalid { holding },
             25 => Refusal::RatingInvalid { holding },
+            26 => Refusal::AccountUnknown,
             _ => return None,
         };
         (refusal.place() == place && refusal.second() == second).then_some(refusal)
@@ -335,7 +340,7 @@ impl Refusal {
             Refusal::ListTooShort => {
                 "a list lent for the results is too short: remainder, ranking and the columns of \
                  the holdings need one entry for each holding, the columns of the lines one for \
-                 each line, the head one entry, the LEIs 20 bytes for each corporation, the answer 16 \
+                 each line, the head two entries, the LEIs 20 bytes for each corporation, the answer 16 \
                  bytes"
             }
             Refusal::TooManyHoldings => "the book has more than 256 holdings",
@@ -364,6 +369,9 @@ impl Refusal {
                 "has a rating that does not fit its issuer: it must be 0 for single A or higher or 1 for \
                  lower on a corporation, and 2 for none on a government"
             }
+            Refusal::AccountUnknown => {
+                "the account is unknown: it must be 0 for an approved participant or 1 for a client"
+            }
             Refusal::TooManyLines => "the proposal has more than 512 lines",
             Refusal::PriceTooHigh { .. } => "has a price outside 0 to 43,800",
             _ => self.fault_of_lines(),
@@ -378,9 +386,10 @@ impl Refusal {
             }
             Refusal::PairNotAllowed { .. } => {
                 "pairs two holdings that may not be paired: both must lie in one period and be in one \
-                 currency; in CAD they must be of Canada or a province and not both bonds, or of the same \
-                 corporation, exactly one a bond, and that rated single A or higher; in USD or GBP they \
-                 must be of the same government, Canada, US or GB, and exactly one a bond"
+                 currency; in CAD they must be of Canada or a province and not both bonds; for an approved \
+                 participant, but not for a client, they may also be a bond and a strip, in CAD of the same \
+                 corporation, the bond rated single A or higher, in USD or GBP of the same government, Canada, \
+                 US or GB"
             }
             Refusal::AmountZero { .. } => "has amount 0, and the least is 1 cent",
             Refusal::AmountAboveRemainder { .. } => {

@@ -2,10 +2,10 @@
 
 use margin_calculator::samples::{Random, SHAPES, best_sheet, book};
 use margin_calculator::texts::issuer_text;
-use margin_calculator::{self as calculator, NOT_RATED, Row, Sheet};
+use margin_calculator::{NOT_RATED, Row, Sheet};
 use margin_host::{
-    Accepted, Book, Columns, Currency, Date, Figures, Holding, Issuer, Kind, Lei, Line, Proposal,
-    Rating, Refusal, Side, check, check_columns,
+    Accepted, AccountKind, Book, Columns, Currency, Date, Figures, Head, Holding, Issuer, Kind,
+    Lei, Line, Proposal, Rating, Refusal, Side, check, check_columns,
 };
 
 const VALUED: Date = Date::new(2025, 1, 1).expect("a day");
@@ -23,7 +23,8 @@ const COUPON: Holding = Holding {
     rating: None,
 };
 
-/// The book and the proposal of a sheet whose sides, kinds, issuers, dates, currencies and ratings are known.
+/// The book and the proposal of a sheet whose account, sides, kinds, issuers, dates, currencies and ratings are
+/// known.
 fn named(sheet: &Sheet) -> (Book, Proposal) {
     let day = |number| Date::from_number(number).expect("a day");
     let holding = |number| {
@@ -48,7 +49,8 @@ fn named(sheet: &Sheet) -> (Book, Proposal) {
             amount,
         })
         .collect();
-    let book = Book::new(day(sheet.date), holdings);
+    let account = AccountKind::ALL[sheet.head.letter as usize];
+    let book = Book::new(day(sheet.head.date), account, holdings);
     (book, Proposal::new(sheet.price.clone(), lines))
 }
 
@@ -56,7 +58,7 @@ fn named(sheet: &Sheet) -> (Book, Proposal) {
 fn by_columns(sheet: &Sheet) -> Result<Accepted, Refusal> {
     let count = sheet.side.len();
     let (mut remainder, mut ranking) = (vec![0; count], vec![0; count]);
-    let figures = check_columns(sheet.date, &sheet.columns, &mut remainder, &mut ranking)?;
+    let figures = check_columns(sheet.head, &sheet.columns, &mut remainder, &mut ranking)?;
     Ok(Accepted {
         figures,
         remainder,
@@ -86,10 +88,13 @@ fn the_columns_are_the_numbers() {
                         currency: currency.number(),
                         rating: NOT_RATED,
                     };
-                    let book = Book::new(VALUED, [holding]);
-                    let columns = Columns::of(&book, &Proposal::new([5], []));
-                    let sheet = Sheet::of_rows(calculator::VALUED, &[row], 5);
-                    assert_eq!((book.date.number(), columns), (sheet.date, sheet.columns));
+                    for (letter, account) in (0..).zip(AccountKind::ALL) {
+                        let book = Book::new(VALUED, account, [holding]);
+                        let (date, proposal) = (2025_01_01, Proposal::new([5], []));
+                        let sheet = Sheet::of_rows(Head { date, letter }, &[row], 5);
+                        assert_eq!(Head::of(&book), sheet.head);
+                        assert_eq!(Columns::of(&book, &proposal), sheet.columns);
+                    }
                 }
             }
         }
@@ -108,6 +113,7 @@ fn random_books_by_name_and_by_number() {
                 }
                 let (book, proposal) = named(&sheet);
                 let columns = Columns::of(&book, &proposal);
+                assert_eq!(Head::of(&book), sheet.head, "{}", shape.name);
                 assert_eq!(columns, sheet.columns, "{}", shape.name);
                 assert_eq!(
                     check(&book, &proposal),
@@ -132,7 +138,8 @@ fn refusals_that_names_leave_possible() {
         amount: 1_000_000,
     };
     let refusal = |book: &[Holding], prices: &[u64], lines: &[Line]| {
-        check(&Book::new(VALUED, book), &Proposal::new(prices, lines)).expect_err("a refusal")
+        let book = Book::new(VALUED, AccountKind::Participant, book);
+        check(&book, &Proposal::new(prices, lines)).expect_err("a refusal")
     };
     let pair = [COUPON, short];
     assert_eq!(refusal(&pair, &[8_760], &[line]), Refusal::ColumnsDiffer);
@@ -202,13 +209,17 @@ fn a_bond_and_its_strip_in_a_foreign_currency() {
                 kind: Kind::Bond,
                 ..strip
             };
-            let cents = check(&Book::new(VALUED, [strip, bond]), &proposal);
-            let cents = cents.map(|accepted| accepted.figures.cents);
-            let wanted = match issuer {
-                Issuer::Canada | Issuer::UnitedStates | Issuer::UnitedKingdom => Ok(10_000),
-                _ => Err(Refusal::PairNotAllowed { line: 0 }),
-            };
-            assert_eq!(cents, wanted, "{issuer} in {currency}");
+            let government =
+                [Issuer::Canada, Issuer::UnitedStates, Issuer::UnitedKingdom].contains(&issuer);
+            for account in AccountKind::ALL {
+                let cents = check(&Book::new(VALUED, account, [strip, bond]), &proposal);
+                let cents = cents.map(|accepted| accepted.figures.cents);
+                let wanted = match account {
+                    AccountKind::Participant if government => Ok(10_000),
+                    _ => Err(Refusal::PairNotAllowed { line: 0 }),
+                };
+                assert_eq!(cents, wanted, "{issuer} in {currency}, {account}");
+            }
         }
     }
 }
@@ -238,13 +249,18 @@ fn a_bond_and_its_strip_of_a_corporation() {
                     rating: Some(bond_rating),
                     ..strip
                 };
-                let cents = check(&Book::new(VALUED, [strip, bond]), &proposal);
-                let cents = cents.map(|accepted| accepted.figures.cents);
-                let wanted = match (lei == CORPORATION, bond_rating) {
-                    (true, Rating::SingleA) => Ok(105_000),
-                    _ => Err(Refusal::PairNotAllowed { line: 0 }),
-                };
-                assert_eq!(cents, wanted, "{lei}, {strip_rating}, {bond_rating}");
+                for account in AccountKind::ALL {
+                    let cents = check(&Book::new(VALUED, account, [strip, bond]), &proposal);
+                    let cents = cents.map(|accepted| accepted.figures.cents);
+                    let wanted = match (account, lei == CORPORATION, bond_rating) {
+                        (AccountKind::Participant, true, Rating::SingleA) => Ok(105_000),
+                        _ => Err(Refusal::PairNotAllowed { line: 0 }),
+                    };
+                    assert_eq!(
+                        cents, wanted,
+                        "{lei}, {strip_rating}, {bond_rating}, {account}"
+                    );
+                }
             }
         }
     }
@@ -257,7 +273,7 @@ fn corporations_are_numbered_by_first_appearance() {
         issuer: text.parse().expect("an issuer"),
         ..COUPON
     });
-    let book = Book::new(VALUED, holdings);
+    let book = Book::new(VALUED, AccountKind::Participant, holdings);
     let columns = Columns::of(&book, &Proposal::default());
     assert_eq!(columns.issuer, [100, 7, 101, 100, 102, 0, 101]);
     let leis: Vec<String> = book.corporations().iter().map(Lei::to_string).collect();
@@ -267,8 +283,9 @@ fn corporations_are_numbered_by_first_appearance() {
 #[test]
 fn a_book_is_made_from_holdings() {
     let holdings = Side::ALL.map(|side| Holding { side, ..COUPON });
-    let book = Book::new(VALUED, holdings);
-    assert_eq!(book, Book::new(VALUED, holdings.to_vec()));
+    let book = Book::new(VALUED, AccountKind::Participant, holdings);
+    let same = Book::new(VALUED, AccountKind::Participant, holdings.to_vec());
+    assert_eq!(book, same);
     let line = Line {
         long: 0,
         short: 1,
@@ -285,12 +302,12 @@ fn a_book_is_made_from_holdings() {
 
 #[test]
 fn columns_of_any_sort_are_checked_alike() {
-    let Sheet { date, columns } = best_sheet(&book(&mut Random::new(0x0D02), &SHAPES[0], 30));
+    let Sheet { head, columns } = best_sheet(&book(&mut Random::new(0x0D02), &SHAPES[0], 30));
     let (mut remainder, mut ranking) = ([0; 30], [0; 30]);
-    let owned = check_columns(date, &columns, &mut remainder, &mut ranking);
+    let owned = check_columns(head, &columns, &mut remainder, &mut ranking);
     let slices = columns.each_ref().map(Vec::as_slice);
-    let lent = check_columns(date, &slices, &mut remainder, &mut ranking);
-    let references = check_columns(date, &columns.each_ref(), &mut remainder, &mut ranking);
+    let lent = check_columns(head, &slices, &mut remainder, &mut ranking);
+    let references = check_columns(head, &columns.each_ref(), &mut remainder, &mut ranking);
     assert!(owned.is_ok());
     assert_eq!((lent, references), (owned, owned));
 }

@@ -3,7 +3,7 @@
 mod support;
 
 use margin_calculator::samples::{ANY, best_sheet, book};
-use margin_calculator::{Row, Sheet, VALUED};
+use margin_calculator::{Row, Sheet, VALUED, participant};
 use support::Run;
 use support::faults::{Fault, HOLDINGS, NUMBERS, PAIRS, VALUATION, plant, sound};
 use support::lent::{Lent, NAMES, OF_HOLDINGS};
@@ -121,7 +121,7 @@ fn lists_of_the_largest_book() {
         currency: 0,
         rating: 2,
     };
-    let mut lent = Lent::of(&Sheet::of_rows(VALUED, &[bond; 256], 0));
+    let mut lent = Lent::of(&Sheet::of_rows(participant(VALUED), &[bond; 256], 0));
     for short in [2_047, 2_040] {
         for (remainder, ranking) in [(short, 2_048), (2_048, short), (short, short)] {
             lent.lists(remainder, ranking);
@@ -196,7 +196,7 @@ fn short_lists_come_after_the_counts() {
 fn lists_of_the_empty_book() {
     let mut run = Run::fixed("lists of the empty book");
     for length in 0..=24 {
-        let mut lent = Lent::of(&Sheet::empty(VALUED));
+        let mut lent = Lent::of(&Sheet::empty(participant(VALUED)));
         lent.lists(length, 24 - length);
         run.accepted(
             &lent,

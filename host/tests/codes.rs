@@ -1,19 +1,23 @@
-//! Sides, kinds, issuers, currencies, ratings and dates: their texts and numbers.
+//! Accounts, sides, kinds, issuers, currencies, ratings and dates: their texts and numbers.
 
 use std::fmt::{Debug, Display};
 use std::str::FromStr;
 
-use margin_calculator::{CURRENCIES, ISSUERS, KINDS, RATINGS, SIDES};
-use margin_host::{Currency, Date, InvalidDate, Issuer, Kind, Rating, Side, UnknownCode};
+use margin_calculator::{ACCOUNTS, CURRENCIES, ISSUERS, KINDS, RATINGS, SIDES};
+use margin_host::{
+    AccountKind, Currency, Date, InvalidDate, Issuer, Kind, Rating, Side, UnknownCode,
+};
 
-/// Texts that are no side, kind, issuer, currency or rating.
-const UNKNOWN: [&str; 25] = [
+/// Texts that are no account, side, kind, issuer, currency or rating.
+const UNKNOWN: [&str; 27] = [
     "",
     " ",
     "l",
     "s",
     "b",
     "c",
+    "p",
+    "PC",
     "ca",
     "Ca",
     "on",
@@ -67,6 +71,19 @@ fn there_and_back<T>(
     for text in UNKNOWN {
         assert!(text.parse::<T>().is_err(), "{text:?}");
     }
+}
+
+#[test]
+fn accounts() {
+    let texts = ["P", "C"];
+    there_and_back(
+        &AccountKind::ALL,
+        &texts,
+        AccountKind::number,
+        AccountKind::from_number,
+    );
+    let named = [AccountKind::Participant, AccountKind::Client];
+    assert_eq!(named.map(AccountKind::number), [0, 1]);
 }
 
 #[test]
@@ -131,6 +148,8 @@ fn ratings() {
 
 #[test]
 fn the_calculator_has_the_same_texts() {
+    let accounts = AccountKind::ALL.map(|account| account.to_string());
+    assert_eq!(accounts, ACCOUNTS);
     assert_eq!(Side::ALL.map(|side| side.to_string()), SIDES);
     assert_eq!(Kind::ALL.map(|kind| kind.to_string()), KINDS);
     let issuers = Issuer::GOVERNMENTS.map(|issuer| issuer.to_string());
@@ -214,6 +233,9 @@ fn an_unknown_text_in_words() {
     let currency = "EUR".parse::<Currency>().map_err(words);
     let wanted = "unknown currency \"EUR\": it must be CAD, USD or GBP".to_string();
     assert_eq!(currency, Err(wanted));
+    let account = "p".parse::<AccountKind>().map_err(words);
+    let wanted = "unknown account \"p\": it must be P or C".to_string();
+    assert_eq!(account, Err(wanted));
     let rating = "A".parse::<Rating>().map_err(words);
     let wanted = "unknown rating \"A\": it must be Y or N".to_string();
     assert_eq!(rating, Err(wanted));

@@ -6,21 +6,22 @@ use margin_calculator::samples::{
     ANY, CORPORATE, CORPORATIONS, Random, SHAPES, Shape, best_sheet, book,
 };
 use margin_calculator::texts::{dated, issuer_text, joined, rated_in, records, text_of};
-use margin_calculator::{CURRENCIES, KINDS, NOT_RATED, RATINGS, Row, Sheet, VALUED, read};
-use margin_host::Line;
+use margin_calculator::{
+    CURRENCIES, KINDS, NOT_RATED, PARTICIPANT, RATINGS, Row, Sheet, VALUED, participant, read,
+};
+use margin_host::{Head, Line};
 use support::faults::{HOLDINGS, sound};
 use support::file::{File, Files};
 use support::lent::{Left, Lent, NAMES, OF_HOLDINGS};
 use support::sheets::{
-    BOND, CA, CAD, COUPON, GB, GBP, LONG, ON, RESIDUAL, SHORT, US, USD, holding, maturities,
-    paper_pair, paper_rate, sheet,
+    BOND, CAD, COUPON, GBP, HEADS, LONG, LOWER, RESIDUAL, RatedLeg as Leg, SHORT, SINGLE_A, USD,
+    corporate_legs, government_legs, maturities, pair_under, paper_pair, paper_rate, rated_cent,
+    sheet, sheet_under,
 };
 use support::{Run, column};
 
 const FIRST: u64 = 100;
 const LAST: u64 = 355;
-const SINGLE_A: u64 = 0;
-const LOWER: u64 = 1;
 
 /// Group V as the request prints it, typed from it: the first day, the last day, and the rates of bond and strip.
 const TABLE: [(u64, u64, [u64; 2]); 6] = [
@@ -42,17 +43,6 @@ const ENDS: [u64; 12] = [
     2025_01_02, 2026_01_01, 2026_01_02, 2028_01_01, 2028_01_02, 2032_01_01, 2032_01_02, 2036_01_01,
     2036_01_02, 2044_12_31, 2045_01_01, 2125_01_01,
 ];
-
-/// A holding of one cent by its kind, issuer, maturity, currency and rating.
-type Leg = (u64, u64, u64, u64, u64);
-
-fn one_cent(side: u64, (kind, issuer, maturity, currency, rating): Leg) -> Row {
-    Row {
-        currency,
-        rating,
-        ..holding(side, kind, issuer, maturity, 1)
-    }
-}
 
 /// The papers' rate of a holding.
 fn rate((kind, issuer, maturity, _, _): Leg) -> u64 {
@@ -94,54 +84,18 @@ fn pair(long: Leg, short: Leg) -> Option<(u64, u64)> {
     allowed.then_some((rate, one + other - rate))
 }
 
-/// A long with its price and a short at price 0 with a line.
-fn two_legs(long: Leg, price: u64, short: Leg) -> Lent {
-    let legs = [(one_cent(LONG, long), price), (one_cent(SHORT, short), 0)];
-    Lent::of(&sheet(&legs, &[(0, 1, 1)]))
+/// The same under a head: a client has paragraph 2 alone.
+fn pair_in(head: Head, long: Leg, short: Leg) -> Option<(u64, u64)> {
+    let domestic = long.1 < FIRST && long.3 == CAD;
+    pair(long, short).filter(|_| head.letter == PARTICIPANT || domestic)
 }
 
-/// Two legs with a line: refused with 13, or accepted with the pair's rate and, at one unit less, uncovered.
+/// Two legs with a line, in either account: judged as the papers say. Says whether a participant has the pair.
 fn one_pair(run: &mut Run, long: Leg, short: Leg) -> bool {
-    let what = format_args!("{long:?} with {short:?}");
-    match pair(long, short) {
-        Some((rate, saving)) => {
-            run.accepted(&two_legs(long, saving, short), rate, what);
-            run.refused(&two_legs(long, saving - 1, short), (16, 0, 1), what);
-            true
-        }
-        None => {
-            run.refused(&two_legs(long, 43_800, short), (13, 0, 0), what);
-            false
-        }
+    for head in HEADS {
+        pair_under(run, head, long, short, pair_in(head, long, short));
     }
-}
-
-/// Every kind, currency and rating of some corporations, at this maturity.
-fn every_leg(corporations: &[u64], maturity: u64) -> Vec<Leg> {
-    let mut legs = Vec::new();
-    for &issuer in corporations {
-        for kind in [BOND, COUPON, RESIDUAL] {
-            for currency in [CAD, USD, GBP] {
-                legs.extend(
-                    [SINGLE_A, LOWER].map(|rating| (kind, issuer, maturity, currency, rating)),
-                );
-            }
-        }
-    }
-    legs
-}
-
-/// Every kind and currency of some governments, at this maturity.
-fn governments(maturity: u64) -> Vec<Leg> {
-    let mut legs = Vec::new();
-    for issuer in [CA, ON, US, GB] {
-        for kind in [BOND, COUPON, RESIDUAL] {
-            legs.extend(
-                [CAD, USD, GBP].map(|currency| (kind, issuer, maturity, currency, NOT_RATED)),
-            );
-        }
-    }
-    legs
+    pair(long, short).is_some()
 }
 
 #[test]
@@ -153,7 +107,7 @@ fn rates_as_the_request_prints_them() {
                 for issuer in [FIRST, FIRST + 1, LAST] {
                     for (currency, rating) in [(CAD, SINGLE_A), (USD, LOWER), (GBP, SINGLE_A)] {
                         let leg = (kind, issuer, maturity, currency, rating);
-                        let one = sheet(&[(one_cent(maturity % 2, leg), 0)], &[]);
+                        let one = sheet(&[(rated_cent(maturity % 2, leg), 0)], &[]);
                         run.accepted(&Lent::of(&one), rate, format_args!("{leg:?}"));
                     }
                 }
@@ -168,7 +122,7 @@ fn every_rate_of_every_maturity() {
     for (days, maturity) in (0..).zip(maturities()) {
         for kind in [BOND, COUPON, RESIDUAL] {
             let leg = (kind, FIRST + days % 256, maturity, days % 3, days % 2);
-            let one = sheet(&[(one_cent(days % 2, leg), 0)], &[]);
+            let one = sheet(&[(rated_cent(days % 2, leg), 0)], &[]);
             run.accepted(&Lent::of(&one), rate(leg), format_args!("{leg:?}"));
         }
     }
@@ -195,9 +149,8 @@ fn pairs_of_paragraph_3() {
                     let bond = (BOND, issuer, bond, CAD, SINGLE_A);
                     let strip = (kind, issuer, strip, CAD, rating);
                     for (long, short) in [(bond, strip), (strip, bond)] {
-                        let what = format_args!("{long:?} with {short:?}");
-                        run.accepted(&two_legs(long, saving, short), rate, what);
-                        run.refused(&two_legs(long, saving - 1, short), (16, 0, 1), what);
+                        pair_under(&mut run, HEADS[0], long, short, Some((rate, saving)));
+                        pair_under(&mut run, HEADS[1], long, short, None);
                     }
                 }
             }
@@ -212,8 +165,8 @@ fn every_pair_of_corporations_and_governments() {
     for maturities in [[2038_09_10, 2046_11_27], [2025_01_02, 2025_07_20]] {
         let mut legs = Vec::new();
         for maturity in maturities {
-            legs.extend(every_leg(&[FIRST, 101, LAST], maturity));
-            legs.extend(governments(maturity));
+            legs.extend(corporate_legs(&[FIRST, 101, LAST], maturity));
+            legs.extend(government_legs(maturity));
         }
         for &long in &legs {
             for &short in &legs {
@@ -264,7 +217,7 @@ fn a_corporation_with_every_government() {
     for issuer in 0..=12 {
         for currency in [CAD, USD, GBP] {
             for maturity in ROWS {
-                let corporate = every_leg(&[FIRST + issuer], maturity);
+                let corporate = corporate_legs(&[FIRST + issuer], maturity);
                 let of_government =
                     [BOND, COUPON].map(|kind| (kind, issuer, maturity, currency, NOT_RATED));
                 for leg in corporate {
@@ -279,24 +232,26 @@ fn a_corporation_with_every_government() {
 }
 
 #[test]
-fn the_lowest_uncovered_short_of_every_leg() {
+fn the_lowest_uncovered_short_of_corporate_legs() {
     // Every price covers everything but that of one long: the lowest short that it saves with is named.
     let mut run = Run::fixed("the lowest uncovered short");
     for maturity in ROWS {
-        let mut legs = every_leg(&[FIRST, LAST], maturity);
-        legs.splice(9..9, governments(maturity));
+        let mut legs = corporate_legs(&[FIRST, LAST], maturity);
+        legs.splice(9..9, government_legs(maturity));
         for (number, &long) in legs.iter().enumerate() {
             let mut priced: Vec<(Row, u64)> = Vec::new();
-            priced.extend(legs.iter().map(|leg| (one_cent(LONG, *leg), 43_800)));
-            priced.extend(legs.iter().map(|leg| (one_cent(SHORT, *leg), 0)));
+            priced.extend(legs.iter().map(|leg| (rated_cent(LONG, *leg), 43_800)));
+            priced.extend(legs.iter().map(|leg| (rated_cent(SHORT, *leg), 0)));
             priced[number].1 = 0;
-            let partner = legs.iter().position(|short| pair(long, *short).is_some());
-            let wanted = match partner {
-                Some(short) => (16, number as u64, (legs.len() + short) as u64),
-                None => (17, 0, 0),
-            };
-            let what = format_args!("{long:?}");
-            run.refused(&Lent::of(&sheet(&priced, &[])), wanted, what);
+            for head in HEADS {
+                let allowed = |short: &Leg| pair_in(head, long, *short).is_some();
+                let wanted = match legs.iter().position(allowed) {
+                    Some(short) => (16, number as u64, (legs.len() + short) as u64),
+                    None => (17, 0, 0),
+                };
+                let lent = Lent::of(&sheet_under(head, &priced, &[]));
+                run.refused(&lent, wanted, format_args!("{long:?}, {head:?}"));
+            }
         }
     }
 }
@@ -305,12 +260,12 @@ fn the_lowest_uncovered_short_of_every_leg() {
 fn the_least_margin_is_over_all_paragraphs() {
     let mut run = Run::fixed("all paragraphs together");
     for maturity in ROWS {
-        let mut legs = every_leg(&[FIRST, 101], maturity);
-        legs.extend(governments(maturity));
-        let longs = legs.iter().map(|leg| one_cent(LONG, *leg));
-        let shorts = legs.iter().map(|leg| one_cent(SHORT, *leg));
+        let mut legs = corporate_legs(&[FIRST, 101], maturity);
+        legs.extend(government_legs(maturity));
+        let longs = legs.iter().map(|leg| rated_cent(LONG, *leg));
+        let shorts = legs.iter().map(|leg| rated_cent(SHORT, *leg));
         let rows: Vec<Row> = longs.chain(shorts).collect();
-        let best = best_sheet(&Sheet::of_rows(VALUED, &rows, 0));
+        let best = best_sheet(&Sheet::of_rows(participant(VALUED), &rows, 0));
         let units = run.units(&best, format_args!("{maturity}"));
         let corporate = |long: &&u64| best.issuer[**long as usize] >= FIRST;
         let pairs = best.long.iter().filter(corporate).count();
@@ -333,7 +288,7 @@ fn the_least_margin_is_over_all_paragraphs() {
 /// One bond of a corporation, with one number changed.
 fn changed(name: &str, number: u64) -> Lent {
     let leg = (BOND, FIRST, 2030_06_24, CAD, SINGLE_A);
-    let mut sheet = sheet(&[(one_cent(LONG, leg), 0)], &[]);
+    let mut sheet = sheet(&[(rated_cent(LONG, leg), 0)], &[]);
     let at = NAMES.iter().position(|known| *known == name);
     column(&mut sheet, at.expect("a column"))[0] = number;
     Lent::of(&sheet)
@@ -387,7 +342,7 @@ fn ratings_that_there_are() {
         for &number in [0, 1].iter().chain(&numbers) {
             let one = sheet(
                 &[(
-                    one_cent(SHORT, (COUPON, issuer, 2030_06_24, CAD, number)),
+                    rated_cent(SHORT, (COUPON, issuer, 2030_06_24, CAD, number)),
                     0,
                 )],
                 &[],
@@ -462,15 +417,15 @@ fn as_many_corporations_as_there_may_be() {
     // The strips of 128 corporations with their bonds, in order and with the shorts turned around.
     let mut run = Run::fixed("128 corporations in pairs");
     for (turned, first) in [(false, FIRST), (true, 228)] {
-        let mut sheet = Sheet::empty(VALUED);
+        let mut sheet = Sheet::empty(participant(VALUED));
         for number in 0..128 {
             let strip = (RESIDUAL, first + number, 2046_11_27, CAD, number % 2);
-            sheet.add_holding(one_cent(LONG, strip), 29_200);
+            sheet.add_holding(rated_cent(LONG, strip), 29_200);
         }
         for number in 0..128 {
             let place = if turned { 127 - number } else { number };
             let bond = (BOND, first + place, 2038_09_10, CAD, SINGLE_A);
-            sheet.add_holding(one_cent(SHORT, bond), 0);
+            sheet.add_holding(rated_cent(SHORT, bond), 0);
         }
         for number in 0..128 {
             let place = if turned { 127 - number } else { number };
@@ -497,8 +452,8 @@ fn as_many_corporations_as_there_may_be() {
         }
     }
     // 256 corporations, each alone.
-    let rows = CORPORATIONS.map(|issuer| one_cent(LONG, (BOND, issuer, 2030_06_24, CAD, LOWER)));
-    let all = Sheet::of_rows(VALUED, &rows, 0);
+    let rows = CORPORATIONS.map(|issuer| rated_cent(LONG, (BOND, issuer, 2030_06_24, CAD, LOWER)));
+    let all = Sheet::of_rows(participant(VALUED), &rows, 0);
     run.accepted(
         &Lent::of(&all),
         256 * 10_220,
@@ -513,18 +468,18 @@ fn the_largest_totals_of_a_corporation() {
     let value = 100_000_000_000;
     let of = |side, kind| Row {
         value,
-        ..one_cent(side, (kind, LAST, 2125_01_01, CAD, SINGLE_A))
+        ..rated_cent(side, (kind, LAST, 2125_01_01, CAD, SINGLE_A))
     };
     for side in [LONG, SHORT] {
-        let strips = Sheet::of_rows(VALUED, &[of(side, RESIDUAL); 256], 0);
+        let strips = Sheet::of_rows(participant(VALUED), &[of(side, RESIDUAL); 256], 0);
         let left = run.compare(&Lent::of(&strips), format_args!("side {side}"));
         let units = 256 * value * 43_800;
         assert_eq!((left.number, left.figures()), (0, (units, units / 146_000)));
         assert!(Left::entries(&left.ranking).into_iter().eq(0..256));
-        let dear = Sheet::of_rows(VALUED, &[of(side, COUPON); 256], 43_800);
+        let dear = Sheet::of_rows(participant(VALUED), &[of(side, COUPON); 256], 43_800);
         run.refused(&Lent::of(&dear), (17, 0, 0), format_args!("side {side}"));
     }
-    let mut sheet = Sheet::of_rows(VALUED, &[of(LONG, COUPON); 128], 29_200);
+    let mut sheet = Sheet::of_rows(participant(VALUED), &[of(LONG, COUPON); 128], 29_200);
     for long in 0..128 {
         sheet.add_holding(of(SHORT, BOND), 0);
         sheet.add_line(Line {
@@ -594,27 +549,31 @@ fn every_corporation_in_a_file() {
                     let record = rated_in(currency_text, rating_text, &fields);
                     let row = Row {
                         value: 1_000,
-                        ..one_cent(SHORT, (kind, FIRST, 2030_06_24, currency, rating))
+                        ..rated_cent(SHORT, (kind, FIRST, 2030_06_24, currency, rating))
                     };
                     let file = File::exact(&dated(&[&record]), 1, 0);
-                    let sheet = Sheet::of_rows(VALUED, &[row], 7);
+                    let sheet = Sheet::of_rows(participant(VALUED), &[row], 7);
                     files.accepted(&file, &sheet, format_args!("{record}"));
                 }
             }
         }
     }
     // All numbers, in order, turned around, and each twice.
-    let one = |issuer| one_cent(LONG, (COUPON, issuer, 2030_06_24, CAD, LOWER));
+    let one = |issuer| rated_cent(LONG, (COUPON, issuer, 2030_06_24, CAD, LOWER));
     let mut rows = CORPORATIONS.map(one);
-    let ordered = Sheet::of_rows(VALUED, &rows, 0);
+    let ordered = Sheet::of_rows(participant(VALUED), &rows, 0);
     assert_eq!(ordered.renumbered(), ordered);
     read_back(&mut files, &ordered, "in order");
     rows.reverse();
-    let reversed = Sheet::of_rows(VALUED, &rows, 0);
+    let reversed = Sheet::of_rows(participant(VALUED), &rows, 0);
     assert_eq!(reversed.renumbered(), ordered);
     read_back(&mut files, &reversed, "turned around");
     let twice = std::array::from_fn::<Row, 256, _>(|at| one(FIRST + (at as u64 * 37) % 128));
-    read_back(&mut files, &Sheet::of_rows(VALUED, &twice, 0), "each twice");
+    read_back(
+        &mut files,
+        &Sheet::of_rows(participant(VALUED), &twice, 0),
+        "each twice",
+    );
 }
 
 #[test]

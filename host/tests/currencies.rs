@@ -3,7 +3,7 @@
 mod support;
 
 use margin_calculator::samples::best_sheet;
-use margin_calculator::{Row, Sheet, VALUED};
+use margin_calculator::{Row, Sheet, VALUED, participant};
 use support::faults::{HOLDINGS, sound};
 use support::lent::{Lent, NAMES, OF_HOLDINGS};
 use support::sheets::{
@@ -220,7 +220,11 @@ fn the_least_margin_is_over_both_paragraphs() {
     ] {
         // In CAD each long is paired with a short alike, at 0, or a bond with a strip and a strip with a
         // bond, and so is each government abroad; the rest stands alone.
-        let book = best_sheet(&Sheet::of_rows(VALUED, &every_holding(maturity), 0));
+        let book = best_sheet(&Sheet::of_rows(
+            participant(VALUED),
+            &every_holding(maturity),
+            0,
+        ));
         let units = run.units(&book, format_args!("{maturity}"));
         let lines: Vec<(Leg, Leg)> = paired(&book).collect();
         for currency in [CAD, USD, GBP] {

@@ -2,9 +2,9 @@
 
 mod support;
 
-use margin_calculator::Sheet;
+use margin_calculator::{Sheet, participant};
 use margin_host::Line;
-use support::faults::{Fault, HOLDINGS, NUMBERS, PAIRS, VALUATION, plant, sound};
+use support::faults::{HOLDINGS, VALUATION, comes_after, sound};
 use support::lent::{Lent, NAMES, OF_HOLDINGS};
 use support::sheets::{BOND, CA, COUPON, LONG, ON, QC, RESIDUAL, SHORT, holding};
 use support::{Run, column};
@@ -38,7 +38,7 @@ const NO_DATES: [u64; 22] = [
 /// One holding of one cent on a valuation date.
 fn one(date: u64, (kind, issuer, maturity): (u64, u64, u64)) -> Lent {
     let holding = holding(LONG, kind, issuer, maturity, 1);
-    Lent::of(&Sheet::of_rows(date, &[holding], 0))
+    Lent::of(&Sheet::of_rows(participant(date), &[holding], 0))
 }
 
 #[test]
@@ -127,7 +127,7 @@ fn pairs_on_both_sides_of_an_anniversary() {
         (2021_03_01, 2032_02_28, 2032_02_29, true),
     ] {
         let coupon = |side, maturity| holding(side, COUPON, ON, maturity, 1);
-        let mut sheet = Sheet::empty(date);
+        let mut sheet = Sheet::empty(participant(date));
         sheet.add_holding(coupon(LONG, long), 21_900);
         sheet.add_holding(coupon(SHORT, short), 0);
         sheet.add_line(Line {
@@ -149,10 +149,10 @@ fn numbers_that_are_no_date() {
     let mut run = Run::fixed("numbers that are no date");
     for number in NO_DATES {
         let mut sheet = sound();
-        sheet.date = number;
+        sheet.head.date = number;
         let what = format_args!("valued on {number}");
         run.refused(&Lent::of(&sheet), (24, 0, 0), what);
-        let empty = Sheet::empty(number);
+        let empty = Sheet::empty(participant(number));
         run.refused(&Lent::of(&empty), (24, 0, 0), what);
         for holding in 0..HOLDINGS {
             let mut sheet = sound();
@@ -162,26 +162,15 @@ fn numbers_that_are_no_date() {
         }
     }
     for date in [1900_01_01, 2000_02_29, 2024_02_29, 2299_12_31] {
-        let empty = Sheet::empty(date);
+        let empty = Sheet::empty(participant(date));
         run.accepted(&Lent::of(&empty), 0, format_args!("valued on {date}"));
     }
 }
 
 #[test]
 fn the_turn_of_the_valuation_date() {
-    // After 1, 3, 9 and 2, and before everything else.
     let mut run = Run::fixed("the turn of the valuation date");
-    for number in NUMBERS {
-        for place in 0..Fault::places(number) {
-            let fault = Fault::at(number, place, PAIRS);
-            let wanted = match number {
-                1 | 3 | 9 | 2 => (number, 0, 0),
-                _ => (24, 0, 0),
-            };
-            let faults = [fault, Fault::at(VALUATION, 0, 0)];
-            run.refused(&plant(&faults), wanted, format_args!("{fault:?}"));
-        }
-    }
+    comes_after(&mut run, VALUATION, &[1, 3, 9, 2]);
 }
 
 #[test]
@@ -238,12 +227,12 @@ fn a_book_through_its_life() {
         (2029_06_24, 8 * 365 + 12 * 365),
         (2030_06_23, 8 + 12),
     ] {
-        let book = Lent::of(&Sheet::of_rows(date, &rows, 0));
+        let book = Lent::of(&Sheet::of_rows(participant(date), &rows, 0));
         let what = format_args!("valued on {date}");
         run.accepted(&book, 1_000 * units, what);
     }
     for date in [1930_06_23, 2030_06_24, 2030_06_25, 2299_12_31] {
-        let book = Lent::of(&Sheet::of_rows(date, &rows, 0));
+        let book = Lent::of(&Sheet::of_rows(participant(date), &rows, 0));
         run.refused(&book, (7, 0, 0), format_args!("valued on {date}"));
     }
 }

@@ -6,7 +6,7 @@ use std::ops::RangeInclusive;
 use std::thread;
 
 use margin_calculator::samples::{ANY, SHAPES, Shape, best_sheet, book, holdings, split_lines};
-use margin_calculator::{Row, Sheet, VALUED, calendar};
+use margin_calculator::{Row, Sheet, VALUED, calendar, participant};
 use margin_host::{Figures, Line, check_columns};
 use support::faults::{PAIRS, sound};
 use support::lent::{Left, Lent, NAMES};
@@ -67,13 +67,19 @@ fn large_numbers_in_every_column() {
 }
 
 #[test]
-fn large_numbers_as_the_valuation_date() {
-    let mut run = Run::fixed("large numbers as the valuation date");
+fn large_numbers_in_the_head() {
+    let mut run = Run::fixed("large numbers in the head");
     for number in large().into_iter().chain([0, 1, 1899_12_31, 2300_01_01]) {
         let mut sheet = sound();
-        sheet.date = number;
+        sheet.head.date = number;
         let what = format_args!("valued on {number}");
         run.refused(&Lent::of(&sheet), (24, 0, 0), what);
+    }
+    for number in large().into_iter().chain([2, 3, VALUED]) {
+        let mut sheet = sound();
+        sheet.head.letter = number;
+        let what = format_args!("letter {number}");
+        run.refused(&Lent::of(&sheet), (26, 0, 0), what);
     }
 }
 
@@ -189,7 +195,7 @@ fn largest(run: &mut Run, shape: &Shape) -> Sheet {
             side,
             kind: 1,
             issuer: 0,
-            maturity: calendar::days_after(book.date, 100),
+            maturity: calendar::days_after(book.head.date, 100),
             value: 50_000,
             currency: 0,
             rating: 2,
@@ -221,7 +227,7 @@ fn largest_and_one_more() {
             amount: 0,
         });
         run.refused(&Lent::of(&more), (9, 0, 0), format_args!("{}", shape.name));
-        let last = holdings(&mut run.random, shape, sheet.date, 1)[0];
+        let last = holdings(&mut run.random, shape, sheet.head.date, 1)[0];
         more.add_holding(last, 0);
         run.refused(&Lent::of(&more), (3, 0, 0), format_args!("{}", shape.name));
         let mut more = sheet;
@@ -237,7 +243,7 @@ fn a_stack_of_40_kib_is_enough() {
     let units = run.units(&sheet, format_args!("on the test's own stack"));
     let call = move || {
         let (mut remainder, mut ranking) = (vec![0; 256], vec![0; 256]);
-        check_columns(sheet.date, &sheet.columns, &mut remainder, &mut ranking)
+        check_columns(sheet.head, &sheet.columns, &mut remainder, &mut ranking)
     };
     let small = thread::Builder::new().stack_size(40 * 1_024);
     let answer = small.spawn(call).expect("a thread").join();
@@ -275,19 +281,19 @@ fn the_largest_totals() {
         currency,
         rating,
     };
-    let longs = Sheet::of_rows(VALUED, &[residual(0); 256], 0);
+    let longs = Sheet::of_rows(participant(VALUED), &[residual(0); 256], 0);
     run.accepted(
         &Lent::of(&longs),
         256 * value * 21_900,
         format_args!("all long"),
     );
-    let dear = Sheet::of_rows(VALUED, &[residual(1); 256], 43_800);
+    let dear = Sheet::of_rows(participant(VALUED), &[residual(1); 256], 43_800);
     run.refused(
         &Lent::of(&dear),
         (17, 0, 0),
         format_args!("all short at the highest price"),
     );
-    let mut sheet = Sheet::of_rows(VALUED, &[residual(0); 128], 43_800);
+    let mut sheet = Sheet::of_rows(participant(VALUED), &[residual(0); 128], 43_800);
     for long in 0..128 {
         sheet.add_holding(residual(1), 0);
         sheet.add_line(Line {
@@ -314,7 +320,7 @@ fn one_uncovered_pair_among_all() {
     };
     for long in [0, 1, 64, 126, 127] {
         for short in [128, 129, 200, 254, 255] {
-            let mut sheet = Sheet::of_rows(VALUED, &[residual(0); 128], 17_520);
+            let mut sheet = Sheet::of_rows(participant(VALUED), &[residual(0); 128], 17_520);
             for number in 128..256 {
                 sheet.add_holding(residual(1), if number == short { 17_520 } else { 17_521 });
             }
@@ -349,14 +355,14 @@ fn ties_go_to_the_lower_number() {
         holding(0, 30),
     ];
     let left = run.compare(
-        &Lent::of(&Sheet::of_rows(VALUED, &book, 0)),
+        &Lent::of(&Sheet::of_rows(participant(VALUED), &book, 0)),
         format_args!("five longs"),
     );
     assert_eq!(left.number, 0);
     assert_eq!(Left::entries(&left.ranking), [2, 0, 1, 3, 4]);
     let many = [holding(1, 7); 256];
     let left = run.compare(
-        &Lent::of(&Sheet::of_rows(VALUED, &many, 0)),
+        &Lent::of(&Sheet::of_rows(participant(VALUED), &many, 0)),
         format_args!("256 alike"),
     );
     assert!(Left::entries(&left.ranking).into_iter().eq(0..256));

@@ -5,15 +5,18 @@ mod support;
 use margin_calculator::texts::{
     PRINTED, dated, holding, holding_in, joined, of_width, quoted, quoted_at,
 };
-use margin_calculator::{FIELDS, NOT_RATED, Row, Sheet, VALUED};
-use margin_host::{Columns, Line};
+use margin_calculator::{FIELDS, NOT_RATED, Row, Sheet, VALUED, participant};
+use margin_host::{Columns, Head, Line};
 use support::column;
 use support::file::{File, Files, after_date, with_field};
 use support::lent::OF_HOLDINGS;
 
 fn printed() -> Sheet {
     Sheet {
-        date: 2025_01_01,
+        head: Head {
+            date: 2025_01_01,
+            letter: 0,
+        },
         columns: Columns {
             side: vec![0, 1, 1],
             kind: vec![1, 0, 2],
@@ -41,7 +44,7 @@ fn one_holding(side: u64, kind: u64, issuer: u64, currency: u64) -> Sheet {
         currency,
         rating,
     };
-    Sheet::of_rows(VALUED, &[holding], 0)
+    Sheet::of_rows(participant(VALUED), &[holding], 0)
 }
 
 #[test]
@@ -217,7 +220,7 @@ fn numerals() {
         for text in texts {
             let of_holding = at < OF_HOLDINGS;
             let (holdings, lines) = if of_holding { (1, 0) } else { (0, 1) };
-            let mut sheet = Sheet::empty(VALUED);
+            let mut sheet = Sheet::empty(participant(VALUED));
             if of_holding {
                 sheet = one_holding(0, 1, 0, 0);
                 sheet.value[0] = 1_000_000;
@@ -290,7 +293,11 @@ fn dates() {
         for field in [text.to_string(), format!("\"{text}\"")] {
             let what = format_args!("{field}");
             let date = with_field(PRINTED[0], 1, field.as_bytes());
-            files.accepted(&File::exact(&date, 0, 0), &Sheet::empty(number), what);
+            files.accepted(
+                &File::exact(&date, 0, 0),
+                &Sheet::empty(participant(number)),
+                what,
+            );
             let mut sheet = one_holding(0, 1, 0, 0);
             (sheet.value[0], sheet.maturity[0]) = (1_000_000, number);
             let maturity = after_date(with_field(PRINTED[1], 4, field.as_bytes()));
@@ -328,8 +335,16 @@ fn fields_that_must_be_empty() {
     for at in 4..FIELDS {
         must_be_empty(&mut files, PRINTED[4], at, 1);
     }
-    for at in 2..FIELDS {
+    for at in 3..FIELDS {
         must_be_empty(&mut files, PRINTED[0], at, 0);
+    }
+}
+
+/// The text of a file that ends with a record of this number, 0 for the head alone and 1 for what comes after it.
+fn ending_with(record: Vec<u8>, number: usize) -> Vec<u8> {
+    match number {
+        0 => record,
+        _ => after_date(record),
     }
 }
 
@@ -337,11 +352,7 @@ fn fields_that_must_be_empty() {
 fn must_be_empty(files: &mut Files, record: &str, at: usize, number: usize) {
     let file = |field: &str| {
         let record = with_field(record, at, field.as_bytes());
-        let text = match number {
-            0 => record,
-            _ => after_date(record),
-        };
-        File::exact(&text, 0, number)
+        File::exact(&ending_with(record, number), 0, number)
     };
     let read = files.compare(&file("\"\""), format_args!("quotes {at}"));
     assert_eq!(read.number, 0);
@@ -356,7 +367,8 @@ fn must_be_empty(files: &mut Files, record: &str, at: usize, number: usize) {
 #[test]
 fn a_doubled_quote_is_never_a_value() {
     let mut files = Files::fixed("doubled quotes");
-    for record in [PRINTED[1], PRINTED[4]] {
+    for (record, number) in [(PRINTED[0], 0), (PRINTED[1], 1), (PRINTED[4], 1)] {
+        let place = number as u64;
         for at in 0..FIELDS {
             let field = record.split(',').nth(at).expect("all fields");
             for text in [
@@ -365,10 +377,10 @@ fn a_doubled_quote_is_never_a_value() {
                 format!("\"\"\"{field}\""),
                 format!("\"\"\"{field}\"\"\""),
             ] {
-                let text = with_field(record, at, text.as_bytes());
+                let text = ending_with(with_field(record, at, text.as_bytes()), number);
                 files.refused(
-                    &File::of(&after_date(text)),
-                    (21, 1),
+                    &File::of(&text),
+                    (21, place),
                     format_args!("{record}, field {at}"),
                 );
             }
@@ -380,10 +392,10 @@ fn a_doubled_quote_is_never_a_value() {
                 format!("\"{field}"),
                 format!("x\"{field}\""),
             ] {
-                let text = with_field(record, at, text.as_bytes());
+                let text = ending_with(with_field(record, at, text.as_bytes()), number);
                 files.refused(
-                    &File::of(&after_date(text)),
-                    (19, 1),
+                    &File::of(&text),
+                    (19, place),
                     format_args!("{record}, field {at}"),
                 );
             }

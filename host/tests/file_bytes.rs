@@ -3,13 +3,14 @@
 mod support;
 
 use margin_calculator::samples::{ANY, best_sheet, book};
-use margin_calculator::texts::{PRINTED, dated, holding, joined, line, rated, text_of};
-use margin_calculator::{Row, Sheet, VALUED};
+use margin_calculator::texts::{PRINTED, dated, dated_for, holding, joined, line, rated, text_of};
+use margin_calculator::{Row, Sheet, VALUED, participant};
 use margin_host::Line;
-use support::file::{File, Files, LISTS};
+use support::file::{File, Files, HEAD_LENGTH, LISTS};
 use support::lent::NAMES;
+use support::sheets::HEADS;
 
-/// A date, three holdings and two lines.
+/// A head, three holdings and two lines.
 fn exact() -> File {
     File::exact(&joined(&PRINTED), 3, 2)
 }
@@ -34,30 +35,37 @@ fn one_list_of_every_length() {
 
 #[test]
 fn heads_of_every_length() {
-    // The head is asked for its one entry after all records, whatever else is short.
+    // The head is asked for its two entries after all records, whatever else is short.
     let mut files = Files::fixed("heads of every length");
     let (late, empty) = ([PRINTED[0]; 2], PRINTED[..1].to_vec());
+    let [of_participant, of_client] = HEADS;
     for length in 0..=33 {
         let what = format_args!("head of {length} bytes");
         for (text, holdings, lines, wanted) in [
-            (joined(&PRINTED), 3, 2, (0, 0)),
-            (joined(&empty), 0, 0, (0, 0)),
-            (joined(&late), 0, 0, (22, 1)),
-            (Vec::new(), 0, 0, (22, 0)),
-            (joined(&PRINTED[1..]), 3, 2, (22, 0)),
+            (joined(&PRINTED), 3, 2, Ok(of_participant)),
+            (dated_for("C", &PRINTED[1..]), 3, 2, Ok(of_client)),
+            (joined(&empty), 0, 0, Ok(of_participant)),
+            (joined(&late), 0, 0, Err((22, 1))),
+            (Vec::new(), 0, 0, Err((22, 0))),
+            (joined(&PRINTED[1..]), 3, 2, Err((22, 0))),
         ] {
             let mut file = File::exact(&text, holdings, lines);
             file.head = length;
-            if wanted.0 > 0 {
-                files.refused(&file, wanted, what);
-            } else if length < 8 {
+            let head = match wanted {
+                Ok(head) => head,
+                Err(refusal) => {
+                    files.refused(&file, refusal, what);
+                    continue;
+                }
+            };
+            if length < HEAD_LENGTH {
                 files.refused(&file, (2, 0), what);
                 file.lists = [0; LISTS];
                 file.answer = 7;
                 files.refused(&file, (2, 0), what);
             } else {
                 let read = files.compare(&file, what);
-                assert_eq!((read.number, read.sheet().date), (0, 2025_01_01), "{what}");
+                assert_eq!((read.number, read.sheet().head), (0, head), "{what}");
             }
         }
     }
@@ -128,7 +136,7 @@ fn lists_of_the_empty_book() {
         file.text = joined(&PRINTED[..1]);
         file.lists = [length; LISTS];
         let what = format_args!("lists of {length} bytes");
-        files.accepted(&file, &Sheet::empty(VALUED), what);
+        files.accepted(&file, &Sheet::empty(participant(VALUED)), what);
     }
 }
 
@@ -166,7 +174,7 @@ fn lists_of_the_largest_file() {
         currency: 2,
         rating: 2,
     };
-    let mut sheet = Sheet::of_rows(VALUED, &[holding; 256], 0);
+    let mut sheet = Sheet::of_rows(participant(VALUED), &[holding; 256], 0);
     for line in 0..512 {
         sheet.add_line(Line {
             long: line,
@@ -202,7 +210,7 @@ fn lists_of_random_lengths() {
             }
         }
         if files.random.below(12) == 0 {
-            file.head = files.random.place(17);
+            file.head = files.random.place(25);
         }
         file.answer = 14 + files.random.place(3) * files.random.place(5) + files.random.place(3);
         files.compare(&file, format_args!("{size} holdings"));

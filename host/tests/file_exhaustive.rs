@@ -43,7 +43,7 @@ fn every_byte_as_a_field() {
             }
             let wanted = match (holdings, lines, at) {
                 (_, _, 0) => 1,
-                (1, _, 1) => 2,
+                (1, _, 1) | (0, 0, 2) => 2,
                 (1, _, 2) => 3,
                 (1, _, 5 | 6) | (_, 1, 1..4) => 10,
                 _ => 0,
@@ -102,6 +102,19 @@ fn every_byte_in_a_currency() {
 }
 
 #[test]
+fn every_short_letter_of_an_account() {
+    let mut files = Files::fixed("every short letter of an account");
+    for length in 0..=5 {
+        for letter in texts(b"PCpD \"", length) {
+            let head = with_field(PRINTED[0], 2, &letter);
+            files.compare(&File::exact(&head, 0, 0), format_args!("{letter:?}"));
+        }
+    }
+    assert_eq!(files.seen[0], 4, "P and C, bare and in quotes");
+    files.has_seen(&[19, 21], 500);
+}
+
+#[test]
 fn every_byte_in_a_date() {
     let mut files = Files::fixed("every byte in a date");
     for at in 0..10 {
@@ -126,7 +139,7 @@ fn every_date() {
         let maturity = PRINTED[1].replace("2030-06-24", &text);
         let text = joined(&[valued(&text), maturity]);
         let read = files.compare(&File::exact(&text, 1, 0), format_args!("{date}"));
-        assert_eq!((read.number, read.sheet().date), (0, *date));
+        assert_eq!((read.number, read.sheet().head.date), (0, *date));
         assert_eq!(read.sheet().maturity, [*date]);
     }
 }

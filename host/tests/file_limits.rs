@@ -3,7 +3,7 @@
 mod support;
 
 use margin_calculator::texts::{PRINTED, holding, joined, of_width, quoted, records};
-use margin_calculator::{FIELDS, Row, Sheet};
+use margin_calculator::{FIELDS, Row, Sheet, participant};
 use margin_host::Line;
 use support::file::{File, Files};
 
@@ -96,7 +96,7 @@ fn the_longest_file_that_is_read() {
         currency: 2,
         rating: 1,
     };
-    let mut sheet = Sheet::of_rows(9999_99_99, &[holding; 256], 999_999);
+    let mut sheet = Sheet::of_rows(participant(9999_99_99), &[holding; 256], 999_999);
     for _ in 0..512 {
         sheet.add_line(Line {
             long: 999_999,
@@ -109,7 +109,7 @@ fn the_longest_file_that_is_read() {
         .map(|record| quoted(record))
         .collect();
     let text = joined(&all);
-    assert_eq!(text.len(), 48_423);
+    assert_eq!(text.len(), 48_424);
     files.accepted(
         &File::exact(&text, 256, 512),
         &sheet,

@@ -3,17 +3,17 @@
 mod support;
 
 use margin_calculator::samples::{Random, valuation_date};
-use margin_calculator::{CURRENCIES, FIELDS, ISSUERS, KINDS, SIDES, texts};
+use margin_calculator::{ACCOUNTS, CURRENCIES, FIELDS, ISSUERS, KINDS, SIDES, texts};
 use support::file::{File, Files, LISTS, after_date};
 
 /// Fields at which something changes in the paper, and some that are none.
 #[rustfmt::skip]
-const PROBES: [&str; 78] = [
+const PROBES: [&str; 80] = [
     "", "0", "00", "007", "+1", "-1", " 1", "1 ", "1", "9", "12", "255", "256", "365", "36500", "43801",
     "2025-01-01", "2030-06-24", "2299-12-31", "2025-02-30", "0000-00-00", "9999-99-99", "20250101", "2025-1-01",
     "2025-01-1", "2025/01/01", "02025-01-01",
     "999999", "1000000", "0000000", "999999999999", "1000000000000", "18446744073709551616",
-    "D", "H", "P", "h", "p", "L", "S", "l", "B", "C", "R", "CA", "ON", "SK", "YT", "NU", "on",
+    "D", "H", "P", "h", "p", "c", "PC", "L", "S", "l", "B", "C", "R", "CA", "ON", "SK", "YT", "NU", "on",
     "US", "GB", "UK", "CAD", "USD", "GBP", "EUR", "usd", "Y", "N", "y", "YN",
     "5493001KJTIIGC8Y1R12", "5493001KJTIIGC8Y1R13", "5493001KJTIIGC8Y1R1", "5493001kjtiigc8y1r12",
     "7ZW8QJWVPR4P1J1KQY45", "00000000000000000001", "00000000000000000000", "ZZZZZZZZZZZZZZZZZZZZ",
@@ -45,8 +45,9 @@ fn date(random: &mut Random) -> String {
     texts::date_text(number)
 }
 
-fn valuation(random: &mut Random) -> Vec<String> {
+fn head(random: &mut Random) -> Vec<String> {
     let mut fields = vec!["D".to_string(), date(random)];
+    fields.push(random.pick(&ACCOUNTS).to_string());
     fields.resize(FIELDS, String::new());
     fields
 }
@@ -87,7 +88,7 @@ fn line(random: &mut Random) -> Vec<String> {
 }
 
 fn random_records(random: &mut Random, holdings: usize, lines: usize) -> Records {
-    let mut records = vec![valuation(random)];
+    let mut records = vec![head(random)];
     records.extend((0..holdings).map(|_| holding(random)));
     records.extend((0..lines).map(|_| line(random)));
     records
@@ -116,7 +117,7 @@ fn change(random: &mut Random, records: &mut Records) {
             let record = match random.below(3) {
                 0 => holding(random),
                 1 => line(random),
-                _ => valuation(random),
+                _ => head(random),
             };
             records.insert(at, record);
         }
@@ -197,7 +198,7 @@ fn lend(random: &mut Random, text: &[u8], records: &Records) -> File {
         file.lists[at] = random.place(file.lists[at] + 1);
     }
     if random.below(12) == 0 {
-        file.head = random.place(20);
+        file.head = random.place(28);
     }
     file.answer = match random.below(12) {
         0 => random.place(21),

@@ -209,7 +209,7 @@ fn the_grammar_is_judged_on_the_whole_record() {
     let mut files = Files::fixed("the whole record");
     let good = &holding(HOLDING);
     for record in [
-        "D,2025-01-01,,,,,,,,\t",
+        "D,2025-01-01,P,,,,,,,\t",
         "H,L,C,CA,1,1,0,CAD,,,\t",
         "x,\u{7F}",
         "a,b,c,\"d\"e",
@@ -259,8 +259,8 @@ fn records_of_other_widths() {
 fn eight_and_ten_fields() {
     let mut files = Files::fixed("eight and ten fields");
     for record in [
-        "D,2025-01-01,,,,,,",
-        "D,2025-01-01,,,,,,,,",
+        "D,2025-01-01,P,,,,,",
+        "D,2025-01-01,P,,,,,,,",
         "H,L,C,ON,2030-06-24,1000,8760,CAD",
         "H,L,C,ON,2030-06-24,1000,8760,CAD,,",
         "H,L,C,5493001KJTIIGC8Y1R12,2030-06-24,1000,8760,CAD",
@@ -316,12 +316,14 @@ fn a_date_in_its_place_alone() {
         (&["H,L\t", sound[0]], (19, 0)),
         (&["H,L", sound[0]], (20, 0)),
         (&["H,,,,,,,,", sound[0]], (21, 0)),
-        (&[sound[0], "D,2025-01-01,,,,,,,\t"], (19, 1)),
-        (&[sound[0], "D,2025-01-01,,,,,,"], (20, 1)),
-        (&[sound[0], "D,2025-1-1,,,,,,,"], (21, 1)),
-        (&[sound[0], "D,2025-01-01,,,,,,,0"], (21, 1)),
-        // 22 whatever the date is.
-        (&[sound[0], "D,9999-99-99,,,,,,,"], (22, 1)),
+        (&[sound[0], "D,2025-01-01,P,,,,,,\t"], (19, 1)),
+        (&[sound[0], "D,2025-01-01,P,,,,,"], (20, 1)),
+        (&[sound[0], "D,2025-1-1,P,,,,,,"], (21, 1)),
+        (&[sound[0], "D,2025-01-01,,,,,,,"], (21, 1)),
+        (&[sound[0], "D,2025-01-01,P,,,,,,0"], (21, 1)),
+        // 22 whatever the date and the account are.
+        (&[sound[0], "D,9999-99-99,P,,,,,,"], (22, 1)),
+        (&[sound[0], "D,2025-01-01,C,,,,,,"], (22, 1)),
         // A record that is out of order comes before faults of later ones.
         (&[sound[1], "\""], (22, 0)),
         (&[sound[0], sound[0], "\""], (22, 1)),

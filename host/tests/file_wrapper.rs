@@ -3,12 +3,12 @@
 use margin_calculator::cases::all;
 use margin_calculator::samples::{Random, SHAPES, best_sheet, book};
 use margin_calculator::texts::{
-    PRINTED, dated, holding, issuer_text, joined, line, of_width, rated, text_of, valued,
+    PRINTED, dated, head, holding, issuer_text, joined, line, of_width, rated, text_of, valued,
 };
 use margin_calculator::{self as calculator, FIELDS, Sheet, print};
 use margin_host::{
-    Accepted, Book, Columns, Currency, Date, Figures, Holding, Issuer, Kind, Lei, Line, Proposal,
-    Rating, Refusal, Side, check, check_file, read, read_columns, read_leis,
+    Accepted, AccountKind, Book, Columns, Currency, Date, Figures, Holding, Issuer, Kind, Lei,
+    Line, Proposal, Rating, Refusal, Side, check, check_file, read, read_columns, read_leis,
 };
 
 const VALUED: Date = Date::new(2025, 1, 1).expect("a day");
@@ -24,16 +24,13 @@ fn with(at: usize, record: &str) -> Vec<u8> {
 
 /// What a file holds, as a sheet.
 fn read_sheet(text: &[u8]) -> Result<Sheet, Refusal> {
-    read_columns(text).map(|(date, columns)| Sheet { date, columns })
+    read_columns(text).map(|(head, columns)| Sheet { head, columns })
 }
 
 #[test]
 fn the_printed_file() {
-    let Sheet {
-        date,
-        columns: sheet,
-    } = read_sheet(&joined(&PRINTED)).expect("it is read");
-    assert_eq!(date, 2025_01_01);
+    let (head, sheet) = read_columns(&joined(&PRINTED)).expect("it is read");
+    assert_eq!((head.date, head.letter), (2025_01_01, 0));
     assert_eq!(sheet.side, [0, 1, 1]);
     assert_eq!(sheet.kind, [1, 0, 2]);
     assert_eq!(sheet.issuer, [0, 0, 7]);
@@ -71,7 +68,7 @@ fn the_printed_file_by_its_names() {
         holding(Side::Short, Kind::Bond, Issuer::Canada, 600_000),
         holding(Side::Short, Kind::Residual, Issuer::Ontario, 300_000),
     ];
-    let book = Book::new(VALUED, holdings);
+    let book = Book::new(VALUED, AccountKind::Participant, holdings);
     let line = |short, amount| Line {
         long: 0,
         short,
@@ -112,14 +109,15 @@ fn both_paragraphs_by_their_names() {
         currency: Currency::Cad,
         ..coupon
     });
-    let book = Book::new(VALUED, [[coupon, bond], sterling, residuals].concat());
+    let holdings = [[coupon, bond], sterling, residuals].concat();
+    let book = Book::new(VALUED, AccountKind::Participant, holdings);
     let line = |long| Line {
         long,
         short: long + 1,
         amount: 1_000,
     };
     let proposal = Proposal::new([11_680, 0, 11_680, 0, 43_800, 0], [0, 2, 4].map(line));
-    let text = "D,2025-01-01,,,,,,,\r\n\
+    let text = "D,2025-01-01,P,,,,,,\r\n\
                 H,L,C,US,2046-11-27,1000,11680,USD,\r\n\
                 H,S,B,US,2038-09-10,1000,0,USD,\r\n\
                 H,L,C,GB,2046-11-27,1000,11680,GBP,\r\n\
@@ -137,6 +135,45 @@ fn both_paragraphs_by_their_names() {
     let dollars = text.replace("GBP,\r\nH,L,R", "USD,\r\nH,L,R");
     let refusal = Err(Refusal::PairNotAllowed { line: 1 });
     assert_eq!(check_file(dollars.as_bytes()), refusal);
+}
+
+#[test]
+fn the_same_holdings_in_both_accounts() {
+    // Ten per cent for the bond and thirty for the strip, but 20 for the two where they may be paired.
+    let text = "D,2025-01-01,C,,,,,,\r\n\
+                H,L,B,5493001KJTIIGC8Y1R12,2046-11-27,1000,0,CAD,Y\r\n\
+                H,S,R,5493001KJTIIGC8Y1R12,2046-11-27,1000,0,CAD,N\r\n";
+    let (mut book, mut proposal) = read(text.as_bytes()).expect("it is read");
+    assert_eq!(book.account, AccountKind::Client);
+    let cents = |book: &Book, proposal: &Proposal| {
+        check(book, proposal).map(|accepted| accepted.figures.cents)
+    };
+    assert_eq!(cents(&book, &proposal), Ok(400));
+    assert_eq!(check(&book, &proposal), check_file(text.as_bytes()));
+    book.account = AccountKind::Participant;
+    let uncovered = Refusal::PairNotCovered { long: 0, short: 1 };
+    assert_eq!(cents(&book, &proposal), Err(uncovered));
+    let participants = text.replace(",C,,", ",P,,");
+    assert_eq!(check_file(participants.as_bytes()), Err(uncovered));
+    proposal.prices[1] = 29_200;
+    proposal.lines = vec![Line {
+        long: 0,
+        short: 1,
+        amount: 1_000,
+    }];
+    assert_eq!(cents(&book, &proposal), Ok(200));
+    book.account = AccountKind::Client;
+    let refusal = Refusal::PairNotAllowed { line: 0 };
+    assert_eq!(cents(&book, &proposal), Err(refusal));
+}
+
+#[test]
+fn an_account_that_is_none() {
+    let refusal = Err(Refusal::FieldNotOfItsSort { record: 0 });
+    for account in ["", "p", "PC", "0"] {
+        let text = with(0, &head("2025-01-01", account));
+        assert_eq!(read(&text), refusal, "{account:?}");
+    }
 }
 
 #[test]
@@ -172,10 +209,14 @@ fn corporations_by_their_leis() {
         short: 3,
         amount: 1_000,
     };
-    let book = Book::new(VALUED, [strip, quebec, other, bond]);
+    let book = Book::new(
+        VALUED,
+        AccountKind::Participant,
+        [strip, quebec, other, bond],
+    );
     assert_eq!(book.corporations(), [second, first]);
     let proposal = Proposal::new([29_200, 0, 0, 0], [line]);
-    let text = "D,2025-01-01,,,,,,,\r\n\
+    let text = "D,2025-01-01,P,,,,,,\r\n\
                 H,L,C,7ZW8QJWVPR4P1J1KQY45,2046-11-27,1000,29200,CAD,N\r\n\
                 H,S,B,QC,2046-11-27,1000,0,CAD,\r\n\
                 H,S,B,5493001KJTIIGC8Y1R12,2046-11-27,1000,0,CAD,Y\r\n\
@@ -222,7 +263,7 @@ fn files_without_a_holding() {
     assert_eq!(read(b""), Err(refusal));
     assert_eq!(check_file(b""), Err(refusal));
     let date = joined(&PRINTED[..1]);
-    let book = Book::new(VALUED, []);
+    let book = Book::new(VALUED, AccountKind::Participant, []);
     assert_eq!(read(&date), Ok((book, Proposal::default())));
     assert_eq!(check_file(&date), Ok(Accepted::default()));
 }
@@ -234,7 +275,10 @@ fn dates_that_are_none() {
     let date = with(0, &valued("2025-02-29"));
     assert_eq!(read(&date), Err(invalid(0)));
     assert_eq!(check_file(&date), Err(invalid(0)));
-    assert_eq!(read_sheet(&date).map(|sheet| sheet.date), Ok(2025_02_29));
+    assert_eq!(
+        read_sheet(&date).map(|sheet| sheet.head.date),
+        Ok(2025_02_29)
+    );
     let mut records = PRINTED.map(str::to_string);
     records[1] = holding("L,C,CA,2030-06-24,0,0");
     for record in &mut records[2..4] {

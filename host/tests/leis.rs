@@ -279,7 +279,7 @@ fn refusals_are_the_readers() {
     }
     // Ranges are the check's: a file that it refuses is read, and has its LEIs.
     let unreal = joined(&[
-        "D,2025-02-29,,,,,,,",
+        "D,2025-02-29,P,,,,,,",
         &good.replace(",1,0", ",0,99999"),
         &one,
     ]);

@@ -227,8 +227,12 @@ fn a_faulty_book_has_no_best() {
         Err(Refusal::ColumnsDiffer)
     );
     assert_eq!(
-        one(|sheet| sheet.date = 2025_02_29),
+        one(|sheet| sheet.head.date = 2025_02_29),
         Err(Refusal::DateInvalid { holding: 0 })
+    );
+    assert_eq!(
+        one(|sheet| sheet.head.letter = 2),
+        Err(Refusal::AccountUnknown)
     );
     assert_eq!(
         one(|sheet| sheet.currency.clear()),
@@ -251,7 +255,7 @@ fn a_faulty_book_has_no_best() {
         Err(Refusal::DateInvalid { holding })
     );
     assert_eq!(
-        one(|sheet| sheet.maturity[4] = sheet.date),
+        one(|sheet| sheet.maturity[4] = sheet.head.date),
         Err(Refusal::MaturityOutOfRange { holding })
     );
     assert_eq!(

@@ -3,7 +3,7 @@
 
 mod support;
 
-use margin_calculator::{Position, Sheet, VALUED, Valuation};
+use margin_calculator::{Account, Position, Sheet, VALUED, participant};
 use margin_host::Line;
 use support::Run;
 use support::lent::{Left, Lent};
@@ -77,13 +77,13 @@ fn rates_at_the_edges() {
 
 #[test]
 fn every_rate_of_the_calculator() {
-    let valuation = Valuation::on(VALUED).expect("a date");
+    let account = Account::of(participant(VALUED)).expect("an account");
     for maturity in maturities() {
         for kind in [BOND, COUPON, RESIDUAL] {
             for issuer in 0..=12 {
                 let rate = paper_rate(kind, issuer, maturity);
                 let holding = holding(LONG, kind, issuer, maturity, 1);
-                let position = Position::of(&valuation, &holding);
+                let position = Position::of(&account, &holding);
                 assert_eq!(position.rate, rate, "{kind}, {issuer}, {maturity}");
                 assert_eq!(rate % 2, 0, "a half sum is exact: {maturity}");
             }

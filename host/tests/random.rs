@@ -3,7 +3,8 @@
 mod support;
 
 use margin_calculator::samples::{Random, SHAPES, best_sheet, book};
-use margin_calculator::{Sheet, VALUED};
+use margin_calculator::{Sheet, VALUED, participant};
+use margin_host::Head;
 use support::lent::{Lent, NAMES, OF_HOLDINGS};
 use support::{Run, column};
 
@@ -54,11 +55,14 @@ const PROBES: [u64; 42] = [
 ];
 
 fn change(random: &mut Random, sheet: &mut Sheet) {
-    if random.below(20) == 0 {
-        sheet.date = match random.below(3) {
+    if random.below(10) == 0 {
+        let Head { date, letter } = &mut sheet.head;
+        let number = if random.below(2) == 0 { date } else { letter };
+        *number = match random.below(4) {
             0 => random.pick(&PROBES),
-            1 => sheet.date.wrapping_add(1),
-            _ => sheet.date.wrapping_sub(1),
+            1 => number.wrapping_add(1),
+            2 => number.wrapping_sub(1),
+            _ => *number ^ 1,
         };
         return;
     }
@@ -80,7 +84,7 @@ fn change(random: &mut Random, sheet: &mut Sheet) {
 #[test]
 fn best_proposals_with_random_changes() {
     let mut run = Run::new("random changes", 0x0701);
-    let mut seen = [0; 26];
+    let mut seen = [0; 27];
     for round in 0..2_000 {
         let shape = run.random.pick(&SHAPES);
         let size = 1 + run.random.place(if round % 20 == 0 { 120 } else { 16 });
@@ -97,7 +101,7 @@ fn best_proposals_with_random_changes() {
     }
     for number in (4..=17)
         .filter(|number| *number != 9)
-        .chain([0, 23, 24, 25])
+        .chain([0, 23, 24, 25, 26])
     {
         assert!(seen[number] > 0, "no book with {number} among {seen:?}");
     }
@@ -107,7 +111,11 @@ fn best_proposals_with_random_changes() {
 fn random_lengths_and_numbers() {
     let mut run = Run::new("random lengths and numbers", 0x0702);
     for _ in 0..3_000 {
-        let mut lent = Lent::of(&Sheet::empty(VALUED));
+        let letter = run.random.below(3);
+        let mut lent = Lent::of(&Sheet::empty(Head {
+            date: VALUED,
+            letter,
+        }));
         let lengths = [run.random.place(7), run.random.place(5)].map(|count| 8 * count);
         let uneven = run.random.below(4) == 0;
         for (at, column) in lent.columns.iter_mut().enumerate() {
@@ -135,7 +143,7 @@ fn random_lengths_and_numbers() {
 fn random_bytes() {
     let mut run = Run::new("random bytes", 0x0703);
     for _ in 0..1_000 {
-        let mut lent = Lent::of(&Sheet::empty(VALUED));
+        let mut lent = Lent::of(&Sheet::empty(participant(VALUED)));
         let lengths = [8 * run.random.place(4), 8 * run.random.place(4)];
         for (at, column) in lent.columns.iter_mut().enumerate() {
             let length = lengths[usize::from(at >= OF_HOLDINGS)];

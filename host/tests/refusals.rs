@@ -95,7 +95,7 @@ fn of_two_faults_the_earlier_in_the_papers_order_wins() {
             }
         }
     }
-    assert_eq!(pairs, 21 * 20 / 2);
+    assert_eq!(pairs, 22 * 21 / 2);
 }
 
 #[test]
@@ -181,6 +181,12 @@ fn the_order_is_the_papers() {
         ([(2, 0), (VALUATION, 0)], 0),
         ([(4, 0), (VALUATION, 0)], 1),
         ([(24, 3), (VALUATION, 0)], 1),
+        ([(26, 0), (VALUATION, 0)], 1),
+        ([(2, 0), (26, 0)], 0),
+        ([(26, 0), (4, 0)], 0),
+        ([(26, 0), (24, 0)], 0),
+        ([(26, 0), (13, 0)], 0),
+        ([(26, 0), (16, 0)], 0),
         ([(10, HOLDINGS - 1), (11, 0)], 0),
         ([(15, 1), (11, 2)], 0),
         ([(12, 2), (11, 2)], 1),

@@ -13,7 +13,7 @@ use support::lent::{Left, Lent};
 fn answer(sheet: &Sheet) -> Result<Figures, Refusal> {
     let count = sheet.side.len();
     check_columns(
-        sheet.date,
+        sheet.head,
         &sheet.columns,
         &mut vec![0; count],
         &mut vec![0; count],
@@ -31,7 +31,7 @@ fn with(change: impl FnOnce(&mut Sheet)) -> Result<Figures, Refusal> {
 fn accepted_with_lists() {
     let sheet = sound();
     let (mut remainder, mut ranking) = ([7; 16], [8; 16]);
-    let figures = check_columns(sheet.date, &sheet.columns, &mut remainder, &mut ranking);
+    let figures = check_columns(sheet.head, &sheet.columns, &mut remainder, &mut ranking);
     assert_eq!(
         figures,
         Ok(Figures {
@@ -54,7 +54,7 @@ fn a_refusal_keeps_the_lists() {
     let mut sheet = sound();
     sheet.price[LONE_LONG as usize] = 1;
     let (mut remainder, mut ranking) = ([7; 15], [8; 15]);
-    let refusal = check_columns(sheet.date, &sheet.columns, &mut remainder, &mut ranking);
+    let refusal = check_columns(sheet.head, &sheet.columns, &mut remainder, &mut ranking);
     assert_eq!(refusal, Err(Refusal::TotalsDiffer));
     assert_eq!((remainder, ranking), ([7; 15], [8; 15]));
 }
@@ -75,7 +75,7 @@ fn every_refusal_of_a_length() {
     let sheet = sound();
     for (remainder, ranking) in [(13, 14), (14, 13), (0, 14), (14, 0)] {
         let (mut remainder, mut ranking) = (vec![1; remainder], vec![2; ranking]);
-        let short = check_columns(sheet.date, &sheet.columns, &mut remainder, &mut ranking);
+        let short = check_columns(sheet.head, &sheet.columns, &mut remainder, &mut ranking);
         assert_eq!(short, Err(Refusal::ListTooShort));
     }
     let many = book(&mut Random::new(0x0600), &SHAPES[0], 257);
@@ -119,7 +119,14 @@ fn every_refusal_of_a_holding() {
 #[test]
 fn the_refusal_of_the_valuation_date() {
     let refusal = Err(Refusal::DateInvalid { holding: 0 });
-    assert_eq!(with(|sheet| sheet.date = 2025_02_29), refusal);
+    assert_eq!(with(|sheet| sheet.head.date = 2025_02_29), refusal);
+}
+
+#[test]
+fn the_refusal_of_the_account() {
+    let refusal = Err(Refusal::AccountUnknown);
+    assert_eq!(with(|sheet| sheet.head.letter = 2), refusal);
+    assert_eq!(with(|sheet| sheet.head.letter = u64::MAX), refusal);
 }
 
 #[test]
@@ -163,7 +170,7 @@ fn the_wrapper_is_the_raw_call() {
             }
             let left = run.compare(&Lent::of(&sheet), format_args!("{}", shape.name));
             let (mut remainder, mut ranking) = (vec![0; size], vec![0; size]);
-            let answer = check_columns(sheet.date, &sheet.columns, &mut remainder, &mut ranking);
+            let answer = check_columns(sheet.head, &sheet.columns, &mut remainder, &mut ranking);
             match answer {
                 Ok(figures) => {
                     assert_eq!((0, figures.units, figures.cents), parts(&left), "{sheet:?}");
@@ -190,7 +197,7 @@ fn parts_and_back() {
         for place in [0, 1, 255, u64::MAX] {
             for second in [0, 1, 255, u64::MAX] {
                 let has_place = matches!(number, 4..=8 | 10..=16 | 19..=25);
-                let known = (1..=25).contains(&number)
+                let known = (1..=26).contains(&number)
                     && (has_place || place == 0)
                     && (number == 16 || second == 0);
                 let refusal = Refusal::from_parts(number, place, second);
@@ -217,7 +224,7 @@ fn parts_and_back() {
 }
 
 /// Number, place and second place, and what it says.
-const SENTENCES: [((u64, u64, u64), &str); 26] = [
+const SENTENCES: [((u64, u64, u64), &str); 27] = [
     (
         (1, 0, 0),
         "the columns of the holdings, price, currency and rating among them, must all have the \
@@ -227,7 +234,7 @@ const SENTENCES: [((u64, u64, u64), &str); 26] = [
         (2, 0, 0),
         "a list lent for the results is too short: remainder, ranking and the columns of \
          the holdings need one entry for each holding, the columns of the lines one for \
-         each line, the head one entry, the LEIs 20 bytes for each corporation, the answer \
+         each line, the head two entries, the LEIs 20 bytes for each corporation, the answer \
          16 bytes",
     ),
     ((3, 0, 0), "the book has more than 256 holdings"),
@@ -275,9 +282,9 @@ const SENTENCES: [((u64, u64, u64), &str); 26] = [
         (13, 5, 0),
         "line 5, counting from 0, pairs two holdings that may not be paired: both must lie \
          in one period and be in one currency; in CAD they must be of Canada or a province \
-         and not both bonds, or of the same corporation, exactly one a bond, and that rated \
-         single A or higher; in USD or GBP they must be of the same government, Canada, US \
-         or GB, and exactly one a bond",
+         and not both bonds; for an approved participant, but not for a client, they may also \
+         be a bond and a strip, in CAD of the same corporation, the bond rated single A or \
+         higher, in USD or GBP of the same government, Canada, US or GB",
     ),
     (
         (14, 6, 0),
@@ -338,6 +345,10 @@ const SENTENCES: [((u64, u64, u64), &str); 26] = [
          for single A or higher or 1 for lower on a corporation, and 2 for none on a \
          government",
     ),
+    (
+        (26, 0, 0),
+        "the account is unknown: it must be 0 for an approved participant or 1 for a client",
+    ),
 ];
 
 #[test]
@@ -357,7 +368,7 @@ fn every_refusal_in_words() {
 
 #[test]
 fn the_words_fit_after_a_colon() {
-    for number in 1..=25 {
+    for number in 1..=26 {
         let has_place = matches!(number, 4..=8 | 10..=16 | 19..=25);
         let (place, second) = (
             if has_place { 4_711 } else { 0 },

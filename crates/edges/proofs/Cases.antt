@@ -1,5 +1,5 @@
--- A worked case, and the kinds of them: from raw numbers, from lines, from the bytes of a file to the bytes that are printed. A case is valued on
--- 2025-01-01, or on the date that is given with it. Assumes nothing.
+-- A worked case, and the kinds of them: from raw numbers, from lines, from the bytes of a file to the bytes that are printed. A case is a participant's
+-- valued on 2025-01-01, or on the date or by the head that is given with it. Assumes nothing.
 use mathlib.Core.Path.{_≡_}
 use mathlib.Core.Bool.{Bool, false, cond, not}
 use mathlib.Core.List.{List, [], _∷_, _++_, map, flatMap}
@@ -45,28 +45,35 @@ pub record Case : Type 0 where
 abbrev pub Agrees : Case → Type 0
 Agrees c = c .computed ≡ c .stated
 
--- the names of the cases that do not hold
-unfoldable pub failing : List Case → List String
-failing [] = []
-failing (c ∷ cs) = cond (same (c .computed) (c .stated)) (failing cs) (c .name ∷ failing cs)
+-- the names of the cases that do not hold. Where there are any, the prover's message has them if a group's name has 4 to 17 letters: it computes a type only
+-- if its text is of some length, which is why this name is as long as it is
+unfoldable pub namesOfWrongCases : List Case → List String
+namesOfWrongCases [] = []
+namesOfWrongCases (c ∷ cs) = cond (same (c .computed) (c .stated)) (namesOfWrongCases cs) (c .name ∷ namesOfWrongCases cs)
 
--- the head with a valuation date, and that of document 01's cases
-abbrev pub head : ℕ → Head
-head date = record { date = date }
+-- the head with a valuation date and a letter; a participant's and a client's; and the date of document 01's cases
+abbrev pub head : ℕ → ℕ → Head
+head date letter = record { date = date; letter = letter }
+
+abbrev pub participant : ℕ → Head
+participant date = head date 0
+
+abbrev pub client : ℕ → Head
+client date = head date 1
 
 abbrev pub new-year : ℕ
 new-year = 20250101
 
--- a row by itself on a valuation date: its first fault, or 0 and its rate
-unfoldable pub alone : ℕ → Row → List ℕ
-alone date r =
-    let a = accountOf (head date) in
+-- a row by itself under a head: its first fault, or 0 and its rate
+unfoldable pub alone : Head → Row → List ℕ
+alone h r =
+    let a = accountOf h in
     cond (eqb (faultOf a r) 0) (0 ∷ rateOf a (holdingOf r) ∷ []) (faultOf a r ∷ [])
 
 -- a row as the long and a row as the short: the first fault of either, or 13, or 0 with the pair's rate and the saving rate
-unfoldable pub together : ℕ → Row → Row → List ℕ
-together date l s =
-    let a = accountOf (head date) in
+unfoldable pub together : Head → Row → Row → List ℕ
+together h l s =
+    let a = accountOf h in
     let found = pairOf (legOf a (holdingOf l)) (legOf a (holdingOf s)) in
     firstOf
     ((not (eqb (faultOf a l) 0), faultOf a l ∷ [])
@@ -77,16 +84,16 @@ together date l s =
 
 -- a book with its prices and lines, and whether 1 and 2 hold of what is lent: the answer, and after an accepted one the remainders and the
 -- ranking
-unfoldable pub judged : ℕ → Bool → Bool → List Row → List ℕ → List Line → List ℕ
-judged date one two rows prices lines =
-    let s : Submission = record { head = head date; rows = rows; prices = prices; lines = lines } in
+unfoldable pub judged : Head → Bool → Bool → List Row → List ℕ → List Line → List ℕ
+judged h one two rows prices lines =
+    let s : Submission = record { head = h; rows = rows; prices = prices; lines = lines } in
     let a = outcome one two s in
     answerNumbers a ++ cond (eqb (a .number) 0) (remaindersOf (priced s) lines ++ ranked (priced s) lines) []
 
 -- what lines make of a book, accepted or not: units and cents, and of holding 0 the remainder and its units
 unfoldable pub worked : List Row → List Line → List ℕ
 worked rows lines =
-    let b = bookOf (accountOf (head new-year)) rows [] in
+    let b = bookOf (accountOf (participant new-year)) rows [] in
     unitsOf b lines ∷ centsOf (unitsOf b lines) ∷ remainder b lines 0 ∷ margin b lines 0 ∷ []
 
 -- long, short, amount
@@ -107,21 +114,24 @@ abbrev flag : Bool → ℕ
 flag b = cond b 1 0
 
 abbrev pub rate : String → Row → ℕ → Case
-rate name r n = record { name = name; computed = alone new-year r; stated = 0 ∷ n ∷ [] }
+rate name r n = record { name = name; computed = alone (participant new-year) r; stated = 0 ∷ n ∷ [] }
 
 -- the rates of several rows
+abbrev pub rates-by : Head → String → List Row → List ℕ → Case
+rates-by h name rows expected = record { name = name; computed = flatMap (alone h) rows; stated = flatMap (λ n. 0 ∷ n ∷ []) expected }
+
 abbrev pub rates-on : ℕ → String → List Row → List ℕ → Case
-rates-on date name rows expected = record { name = name; computed = flatMap (alone date) rows; stated = flatMap (λ n. 0 ∷ n ∷ []) expected }
+rates-on date = rates-by (participant date)
 
 abbrev pub rates : String → List Row → List ℕ → Case
 rates = rates-on new-year
 
 abbrev pub fault : String → Row → ℕ → Case
-fault name r n = record { name = name; computed = alone new-year r; stated = n ∷ [] }
+fault name r n = record { name = name; computed = alone (participant new-year) r; stated = n ∷ [] }
 
 -- the faults of several rows
 abbrev pub faults-on : ℕ → String → List Row → List ℕ → Case
-faults-on date name rows expected = record { name = name; computed = flatMap (alone date) rows; stated = expected }
+faults-on date name rows expected = record { name = name; computed = flatMap (alone (participant date)) rows; stated = expected }
 
 abbrev pub faults : String → List Row → List ℕ → Case
 faults = faults-on new-year
@@ -130,47 +140,66 @@ faults = faults-on new-year
 abbrev pub kept : String → List Row → Case
 kept name rows = record { name = name; computed = flatMap (λ r. numbersOf (rowOf (holdingOf r))) rows; stated = flatMap numbersOf rows }
 
--- the faults of several valuation dates, 0 for none
+-- the faults of several heads, 0 for none; and of several valuation dates
+abbrev pub heads : String → List Head → List ℕ → Case
+heads name hs expected = record { name = name; computed = map headFault hs; stated = expected }
+
 abbrev pub dates : String → List ℕ → List ℕ → Case
-dates name ds expected = record { name = name; computed = map (λ date. headFault (head date)) ds; stated = expected }
+dates name ds expected = heads name (map participant ds) expected
 
 abbrev pub pair : String → Row → Row → ℕ → ℕ → Case
-pair name l s n saving = record { name = name; computed = together new-year l s; stated = 0 ∷ n ∷ saving ∷ [] }
+pair name l s n saving = record { name = name; computed = together (participant new-year) l s; stated = 0 ∷ n ∷ saving ∷ [] }
 
 abbrev pub no-pair : String → Row → Row → ℕ → Case
-no-pair name l s n = record { name = name; computed = together new-year l s; stated = n ∷ [] }
+no-pair name l s n = record { name = name; computed = together (participant new-year) l s; stated = n ∷ [] }
 
 -- several pairs of one rate and one saving rate, and several that are not allowed: by themselves, and as a line of no amount and of one above 100 cents
-abbrev pub pairs-on : ℕ → String → List (Row × Row) → ℕ → ℕ → Case
-pairs-on date name rows n saving = record {
+abbrev pub pairs-by : Head → String → List (Row × Row) → ℕ → ℕ → Case
+pairs-by h name rows n saving = record {
   name = name;
-  computed = flatMap (λ p. together date (p .0) (p .1)) rows;
+  computed = flatMap (λ p. together h (p .0) (p .1)) rows;
   stated = flatMap (λ p. 0 ∷ n ∷ saving ∷ []) rows;
 }
+
+abbrev pub pairs-on : ℕ → String → List (Row × Row) → ℕ → ℕ → Case
+pairs-on date = pairs-by (participant date)
 
 abbrev pub pairs : String → List (Row × Row) → ℕ → ℕ → Case
 pairs = pairs-on new-year
 
-abbrev pub no-pairs-on : ℕ → String → List (Row × Row) → Case
-no-pairs-on date name rows =
-    let lined : Row × Row → ℕ → List ℕ = λ p amount. judged date false false (p .0 ∷ p .1 ∷ []) (0 ∷ 0 ∷ []) (line 0 1 amount ∷ []) in
+abbrev pub no-pairs-by : Head → String → List (Row × Row) → Case
+no-pairs-by h name rows =
+    let lined : Row × Row → ℕ → List ℕ = λ p amount. judged h false false (p .0 ∷ p .1 ∷ []) (0 ∷ 0 ∷ []) (line 0 1 amount ∷ []) in
     record {
       name = name;
-      computed = flatMap (λ p. together date (p .0) (p .1) ++ lined p 0 ++ lined p 101) rows;
+      computed = flatMap (λ p. together h (p .0) (p .1) ++ lined p 0 ++ lined p 101) rows;
       stated = flatMap (λ _. 13 ∷ 13 ∷ 0 ∷ 0 ∷ 13 ∷ 0 ∷ 0 ∷ []) rows;
     }
+
+abbrev pub no-pairs-on : ℕ → String → List (Row × Row) → Case
+no-pairs-on date = no-pairs-by (participant date)
 
 abbrev pub no-pairs : String → List (Row × Row) → Case
 no-pairs = no-pairs-on new-year
 
+abbrev pub proposal-by : Head → String → List Row → List ℕ → List Line → List ℕ → Case
+proposal-by h name rows prices lines expected = record { name = name; computed = judged h false false rows prices lines; stated = expected }
+
+-- several proposals, each a book, its prices and its lines
+abbrev pub proposals-by : Head → String → List (List Row × List ℕ × List Line) → List ℕ → Case
+proposals-by h name ps expected = record { name = name; computed = flatMap (λ p. judged h false false (p .0) (p .1) (p .2)) ps; stated = expected }
+
 abbrev pub proposal-on : ℕ → String → List Row → List ℕ → List Line → List ℕ → Case
-proposal-on date name rows prices lines expected = record { name = name; computed = judged date false false rows prices lines; stated = expected }
+proposal-on date = proposal-by (participant date)
 
 abbrev pub proposal : String → List Row → List ℕ → List Line → List ℕ → Case
 proposal = proposal-on new-year
 
+abbrev pub lent-by : Head → String → Bool → Bool → List Row → List Line → List ℕ → Case
+lent-by h name one two rows lines expected = record { name = name; computed = judged h one two rows [] lines; stated = expected }
+
 abbrev pub lent-on : ℕ → String → Bool → Bool → List Row → List Line → List ℕ → Case
-lent-on date name one two rows lines expected = record { name = name; computed = judged date one two rows [] lines; stated = expected }
+lent-on date = lent-by (participant date)
 
 abbrev pub lent : String → Bool → Bool → List Row → List Line → List ℕ → Case
 lent = lent-on new-year
@@ -185,9 +214,13 @@ prints name text expected = record { name = name; computed = printed text; state
 abbrev pub record-at : String → List Meaning → ℕ → List ℕ → Case
 record-at name parsed n expected = record { name = name; computed = answerNumbers (firstOf (atRecord parsed n) (makeAnswer 0 0 0)); stated = expected }
 
--- the valuation date of what parsed records submit
-abbrev pub submitted : String → List Meaning → ℕ → Case
-submitted name parsed date = record { name = name; computed = submissionOf parsed .head .date ∷ []; stated = date ∷ [] }
+-- the valuation date and the letter of what parsed records submit
+abbrev pub submitted : String → List Meaning → ℕ → ℕ → Case
+submitted name parsed date letter = record {
+  name = name;
+  computed = submissionOf parsed .head .date ∷ submissionOf parsed .head .letter ∷ [];
+  stated = date ∷ letter ∷ [];
+}
 
 -- the numbers of texts of a sort, of records' letters, and whether bytes are TEXTDATA and may stand in quotes as they are
 abbrev pub code : String → Sort → List String → List ℕ → Case
@@ -277,10 +310,13 @@ abbrev blank : List ℕ → Columns
 blank z = makeColumns (map zeros (take 7 z)) (zeros (getD z 7 0)) (map zeros (take 3 (drop 8 z)))
 
 -- the one number that the check gives to each of several lengths of what a host lends: of eleven columns, the two lists and the answer
-abbrev pub lengths-on : ℕ → String → List (List ℕ) → ℕ → Case
-lengths-on date name zs n =
-    let found : List ℕ → ℕ = λ z. outcomeOf (head date) (blank z) (makeLent (zeros (getD z 11 0)) (zeros (getD z 12 0)) (zeros (getD z 13 0))) .number in
+abbrev pub lengths-by : Head → String → List (List ℕ) → ℕ → Case
+lengths-by h name zs n =
+    let found : List ℕ → ℕ = λ z. outcomeOf h (blank z) (makeLent (zeros (getD z 11 0)) (zeros (getD z 12 0)) (zeros (getD z 13 0))) .number in
     record { name = name; computed = map found zs; stated = map (λ _. n) zs }
+
+abbrev pub lengths-on : ℕ → String → List (List ℕ) → ℕ → Case
+lengths-on date = lengths-by (participant date)
 
 abbrev pub lengths : String → List (List ℕ) → ℕ → Case
 lengths = lengths-on new-year
@@ -294,13 +330,13 @@ old =
 abbrev held : Columns → List ℕ
 held c = flatMap decode (c .holdings ++ (c .price ∷ c .lines))
 
--- what is submitted, written into such columns: what they then hold, each number by its place and by its name, with the valuation date 12
+-- what is submitted, written into such columns: what they then hold, each number by its place and by its name, with the valuation date 12 and the letter 14
 abbrev pub columns : String → List Row → List ℕ → List Line → List ℕ → Case
 columns name rows prices lines expected =
-    let c = filled (record { head = head new-year; rows = rows; prices = prices; lines = lines }) old in
+    let c = filled (record { head = participant new-year; rows = rows; prices = prices; lines = lines }) old in
     let numbers : Submission → List ℕ = λ s. flatMap (λ r. r .side ∷ r .kind ∷ r .issuer ∷ r .maturity ∷ r .value ∷ r .currency ∷ r .rating ∷ []) (s .rows) in
-    let named : Submission → List ℕ = λ s. numbers s ++ s .prices ++ flatMap (λ l. l .long ∷ l .short ∷ l .amount ∷ []) (s .lines) ++ (s .head .date ∷ []) in
-    record { name = name; computed = held c ++ named (submission (head 12) c); stated = expected }
+    let named : Submission → List ℕ = λ s. numbers s ++ s .prices ++ flatMap (λ l. l .long ∷ l .short ∷ l .amount ∷ []) (s .lines) ++ (s .head .date ∷ s .head .letter ∷ []) in
+    record { name = name; computed = held c ++ named (submission (head 12 14) c); stated = expected }
 
 -- what a text leaves in a head's list and in such columns, with an answer slice of so many bytes
 abbrev pub received : String → List ℕ → List ℕ → ℕ → List ℕ → Case
@@ -330,10 +366,13 @@ answers name sizes text list slice expected = record {
   stated = flatMap (λ _. expected) sizes;
 }
 
--- a D with its date, and the D of document 01's cases; an H of a currency and a rating, one of a currency, one in CAD, and a corporation's in CAD by its rating; and a P, by
+-- a D with its date and its letter, a participant's, and that of document 01's cases; an H of a currency and a rating, one of a currency, one in CAD, and a corporation's in CAD by its rating; and a P, by
 -- the other fields that are filled: the empty ones follow, and CRLF
+abbrev pub D-by : String → String → List ℕ
+D-by date letter = ascii "D," ++ ascii date ++ ascii "," ++ ascii letter ++ ascii ",,,,,,\r\n"
+
 abbrev pub D-of : String → List ℕ
-D-of date = ascii "D," ++ ascii date ++ ascii ",,,,,,,\r\n"
+D-of date = D-by date "P"
 
 abbrev pub D : List ℕ
 D = D-of "2025-01-01"
@@ -441,6 +480,6 @@ file-lines amount = line 0 1 amount ∷ line 0 2 300000 ∷ []
 abbrev pub days : String → List (ℕ × ℕ) → List ℕ → Case
 days name terms expected = record {
   name = name;
-  computed = flatMap (λ t. alone (t .0) (row L B CA (t .1) 100)) terms;
+  computed = flatMap (λ t. alone (participant (t .0)) (row L B CA (t .1) 100)) terms;
   stated = flatMap (λ n. 0 ∷ 4 * n ∷ []) expected;
 }

@@ -131,14 +131,14 @@ twoCorporations =
     ∷ []
 
 -- a corporation and a government, each way round
-unfoldable pub corporationAndCanada : List Case
-corporationAndCanada =
+unfoldable pub notWithCanada : List Case
+notWithCanada =
     no-pairs "a corporation and Canada, a bond and a strip" (across K1 Y CA none)
     ∷ no-pairs "a corporation and Canada, two strips" ((long C K1 CAD Y, short R CA CAD none) ∷ (long C CA CAD none, short R K1 CAD Y) ∷ [])
     ∷ []
 
-unfoldable pub corporationAndProvince : List Case
-corporationAndProvince =
+unfoldable pub notWithProvince : List Case
+notWithProvince =
     no-pairs "a corporation and a province, a bond and a strip" (across K1 Y ON none)
     ∷ no-pairs "a corporation and a province, two strips" ((long C K1 CAD Y, short R ON CAD none) ∷ (long C ON CAD none, short R K1 CAD Y) ∷ [])
     ∷ []
@@ -319,7 +319,7 @@ recordValues =
     ∷ meanings "an H of a government" (map (λ issuer. "H" ∷ bond issuer "") ("CA" ∷ "SK" ∷ "US" ∷ "GB" ∷ []))
     (flatMap (λ i. 1 ∷ 0 ∷ 0 ∷ i ∷ 20300624 ∷ 100 ∷ 0 ∷ 0 ∷ 2 ∷ 0 ∷ 0 ∷ []) (0 ∷ 10 ∷ 11 ∷ 12 ∷ []))
     ∷ meanings "a D, and a P whose amount is 100 cents"
-    (("D" ∷ "2025-01-01" ∷ replicate 7 "") ∷ ("P" ∷ "0" ∷ "1" ∷ "100" ∷ replicate 5 "") ∷ [])
+    (("D" ∷ "2025-01-01" ∷ "P" ∷ replicate 6 "") ∷ ("P" ∷ "0" ∷ "1" ∷ "100" ∷ replicate 5 "") ∷ [])
     (0 ∷ 20250101 ∷ 0 ∷ 0 ∷ 0 ∷ 0 ∷ 0 ∷ 0 ∷ 0 ∷ 0 ∷ 0 ∷ 2 ∷ 0 ∷ 1 ∷ 100 ∷ 0 ∷ 0 ∷ 0 ∷ 0 ∷ 0 ∷ 0 ∷ 0 ∷ [])
     ∷ []
 
@@ -338,7 +338,7 @@ misratedRecords =
     ∷ holdingRecords "21 before 25 for a government's rating: in each other field" (map (λ j. set (bond "CA" "Y") j "x") (0 ∷ 1 ∷ 2 ∷ 3 ∷ 4 ∷ 5 ∷ 6 ∷ [])) 21
     ∷ holdingRecords "20 before 25" ((bond "5493001KJTIIGC8Y1R13" "Y" ++ ("" ∷ [])) ∷ take 7 (bond "5493001KJTIIGC8Y1R13" "Y") ∷ []) 20
     ∷ records "a D or a P with its ninth field filled"
-    (map (map ascii) (("D" ∷ "2025-01-01" ∷ "" ∷ "" ∷ "" ∷ "" ∷ "" ∷ "" ∷ "Y" ∷ []) ∷ ("P" ∷ "0" ∷ "1" ∷ "1" ∷ "" ∷ "" ∷ "" ∷ "" ∷ "N" ∷ []) ∷ [])) 21
+    (map (map ascii) (("D" ∷ "2025-01-01" ∷ "P" ∷ "" ∷ "" ∷ "" ∷ "" ∷ "" ∷ "Y" ∷ []) ∷ ("P" ∷ "0" ∷ "1" ∷ "1" ∷ "" ∷ "" ∷ "" ∷ "" ∷ "N" ∷ []) ∷ [])) 21
     ∷ []
 
 -- numbers from 100 by first appearance
@@ -349,8 +349,8 @@ firstAppearance =
     (0 ∷ 2 ∷ 100 ∷ 0 ∷ 101 ∷ 0 ∷ 12 ∷ 2 ∷ 100 ∷ 0 ∷ 102 ∷ 0 ∷ 101 ∷ 0 ∷ 102 ∷ 0 ∷ [])
     ∷ parsedIssuers "LEIs alike in one half" (corporate 7 8 ∷ corporate 7 9 ∷ corporate 9 8 ∷ corporate 8 7 ∷ corporate 0 1 ∷ corporate 7 8 ∷ [])
     (100 ∷ 0 ∷ 101 ∷ 0 ∷ 102 ∷ 0 ∷ 103 ∷ 0 ∷ 104 ∷ 0 ∷ 100 ∷ 0 ∷ [])
-    ∷ record-at "25 of a 257th holding" (good 0 (new-year ∷ []) ∷ replicate 256 (corporate 7 8) ++ (refused 25 ∷ [])) 257 (25 ∷ 257 ∷ 0 ∷ [])
-    ∷ record-at "a 257th holding of a corporation" (good 0 (new-year ∷ []) ∷ replicate 257 (corporate 7 8)) 257 (3 ∷ 0 ∷ 0 ∷ [])
+    ∷ record-at "25 of a 257th holding" (good 0 (new-year ∷ 0 ∷ []) ∷ replicate 256 (corporate 7 8) ++ (refused 25 ∷ [])) 257 (25 ∷ 257 ∷ 0 ∷ [])
+    ∷ record-at "a 257th holding of a corporation" (good 0 (new-year ∷ 0 ∷ []) ∷ replicate 257 (corporate 7 8)) 257 (3 ∷ 0 ∷ 0 ∷ [])
     ∷ []
 
 unfoldable pub mostCorporations : List Case
@@ -387,13 +387,13 @@ noCorporation =
 -- what the exported reader leaves of a corporation in the columns
 unfoldable pub corporateColumns : List Case
 corporateColumns =
-    received "a corporation's number and rating" (D ++ H-rated "N" "S,R,5493001KJTIIGC8Y1R12,2025-01-02,5,6" ++ P "8,9,10") (replicate 8 9) 16
-    ((245 ∷ 253 ∷ 52 ∷ 1 ∷ 0 ∷ 0 ∷ 0 ∷ 0 ∷ []) ++ flatMap (λ n. n ∷ 11 ∷ []) (1 ∷ 2 ∷ 100 ∷ 20250102 ∷ 5 ∷ 0 ∷ 1 ∷ 6 ∷ 8 ∷ 9 ∷ 10 ∷ []))
+    received "a corporation's number and rating" (D ++ H-rated "N" "S,R,5493001KJTIIGC8Y1R12,2025-01-02,5,6" ++ P "8,9,10") (replicate 16 9) 16
+    ((245 ∷ 253 ∷ 52 ∷ 1 ∷ replicate 12 0) ++ flatMap (λ n. n ∷ 11 ∷ []) (1 ∷ 2 ∷ 100 ∷ 20250102 ∷ 5 ∷ 0 ∷ 1 ∷ 6 ∷ 8 ∷ 9 ∷ 10 ∷ []))
     ∷ []
 
 -- files, from their bytes to the bytes that are printed: a corporate pair, and a line that is none
-unfoldable pub smallCorporateFile : List Case
-smallCorporateFile =
+unfoldable pub corporatePairFile : List Case
+corporatePairFile =
     prints
     "a file with a corporate pair"
     (D ++ H-rated "Y" "L,B,5493001KJTIIGC8Y1R12,2025-01-02,1,4380" ++ H-rated "N" "S,C,\"5493001KJTIIGC8Y1R12\",2025-01-02,1,0" ++ P "0,1,1")

@@ -167,10 +167,10 @@ dateTexts =
     ("2025-2-03" ∷ "25-02-03" ∷ "2025/02/03" ∷ "20250203" ∷ "" ∷ " 2025-02-03" ∷ "2025-02-03 " ∷ "2025-02-0a" ∷ "2O25-02-03" ∷ "2025-02-3" ∷ "2025-02-003" ∷ "2025-2-003"
     ∷ "12025-02-03" ∷ "2025-02-03-" ∷ "+025-02-03" ∷ "-025-02-03" ∷ "2025--2-03" ∷ "2025-02:03" ∷ "2025-0:-03" ∷ "2025-02-0/" ∷ "03-02-2025" ∷ "2025-02" ∷ "2000" ∷ [])
     []
-    -- after D comes a date, and nothing else
-    ∷ records "a D with another field filled" (map (λ j. set (ascii "D" ∷ ascii "2025-01-01" ∷ replicate 7 []) j (ascii "0")) (2 ∷ 3 ∷ 4 ∷ 5 ∷ 6 ∷ 7 ∷ 8 ∷ [])) 21
+    -- after D come a date and a letter, and nothing else
+    ∷ records "a D with another field filled" (map (λ j. set (ascii "D" ∷ ascii "2025-01-01" ∷ ascii "P" ∷ replicate 6 []) j (ascii "0")) (3 ∷ 4 ∷ 5 ∷ 6 ∷ 7 ∷ 8 ∷ [])) 21
     ∷ records "a D with its date in the third field, or with an H's fields"
-    ((ascii "D" ∷ [] ∷ ascii "2025-01-01" ∷ replicate 6 []) ∷ map ascii ("D" ∷ "L" ∷ "B" ∷ "CA" ∷ "2025-01-02" ∷ "1" ∷ "0" ∷ "CAD" ∷ "" ∷ []) ∷ []) 21
+    ((ascii "D" ∷ ascii "P" ∷ ascii "2025-01-01" ∷ replicate 6 []) ∷ map ascii ("D" ∷ "L" ∷ "B" ∷ "CA" ∷ "2025-01-02" ∷ "1" ∷ "0" ∷ "CAD" ∷ "" ∷ []) ∷ []) 21
     ∷ records "an H whose maturity is a number of days, or empty"
     (map (λ maturity. map ascii ("H" ∷ "L" ∷ "B" ∷ "CA" ∷ maturity ∷ "1" ∷ "0" ∷ "CAD" ∷ "" ∷ [])) ("2000" ∷ "" ∷ [])) 21
     ∷ []
@@ -186,13 +186,13 @@ valuationRecord =
     ∷ prints "D after H" (D ++ H "L,B,CA,2025-01-02,1,0" ++ D) "X,22,2,0\r\n"
     ∷ prints "D after P" (D ++ P "0,0,1" ++ D) "X,22,2,0\r\n"
     ∷ prints "a first record outside the grammar" (unended D ++ ascii "\n") "X,19,0,0\r\n"
-    ∷ prints "a first record of eight fields" (ascii "D,2025-01-01,,,,,,\r\n") "X,20,0,0\r\n"
+    ∷ prints "a first record of eight fields" (ascii "D,2025-01-01,P,,,,,\r\n") "X,20,0,0\r\n"
     ∷ prints "an H first with a bad field" (H "L,B,CA,2025-01-02,01,0") "X,21,0,0\r\n"
     ∷ prints "a date of another form" (D-of "2025-1-01") "X,21,0,0\r\n"
     ∷ prints "a date of another form in a second D" (D ++ D-of "2025-1-01") "X,21,1,0\r\n"
-    ∷ prints "a seventh field of D that is filled" (ascii "D,2025-01-01,,,,,0,,\r\n") "X,21,0,0\r\n"
+    ∷ prints "a seventh field of D that is filled" (ascii "D,2025-01-01,P,,,,0,,\r\n") "X,21,0,0\r\n"
     ∷ prints "D in quotes, without CRLF" (unended (D-of "\"2025-01-01\"")) "M,0,0\r\n"
-    ∷ submitted "of two D the first" (good 0 (20240229 ∷ []) ∷ good 0 (20260101 ∷ []) ∷ []) 20240229
+    ∷ submitted "of two D the first" (good 0 (20240229 ∷ 1 ∷ []) ∷ good 0 (20260101 ∷ 0 ∷ []) ∷ []) 20240229 1
     ∷ []
 
 -- files, from their bytes to the bytes that are printed: dates that are read, and judged by the check
@@ -220,29 +220,30 @@ entered = flatMap (λ n. n ∷ 11 ∷ []) (1 ∷ 2 ∷ 3 ∷ 20250102 ∷ 5 ∷ 
 abbrev untouched : List ℕ
 untouched = flatMap (λ n. n ∷ 11 ∷ []) (replicate 11 0)
 
--- the reader's head list: one entry, 2 where there is none, after all records
+-- the reader's head list: two entries, 2 where it has fewer, after all records
 unfoldable pub headAnswers : List Case
 headAnswers =
     answers "the empty file, and nothing is lent" ([] ∷ []) [] 0 0 (22 ∷ 0 ∷ 0 ∷ [])
     ∷ answers "a second D, and nothing is lent" ([] ∷ []) (D ++ D) 0 0 (22 ∷ 1 ∷ 0 ∷ [])
     ∷ answers "D alone, and no head's list" ([] ∷ []) D 0 16 (2 ∷ 0 ∷ 0 ∷ [])
-    ∷ answers "D alone, and a head's list of 7 bytes" ([] ∷ []) D 7 16 (2 ∷ 0 ∷ 0 ∷ [])
-    ∷ answers "D alone, and a head's list of 8 bytes" ([] ∷ []) D 8 16 (0 ∷ 0 ∷ 0 ∷ [])
-    ∷ answers "D alone, and a head's list of 21 bytes" ([] ∷ []) D 21 16 (0 ∷ 0 ∷ 0 ∷ [])
+    ∷ answers "D alone, and a head's list of 8 bytes" ([] ∷ []) D 8 16 (2 ∷ 0 ∷ 0 ∷ [])
+    ∷ answers "D alone, and a head's list of 15 bytes" ([] ∷ []) D 15 16 (2 ∷ 0 ∷ 0 ∷ [])
+    ∷ answers "D alone, and a head's list of 16 bytes" ([] ∷ []) D 16 16 (0 ∷ 0 ∷ 0 ∷ [])
+    ∷ answers "D alone, and a head's list of 29 bytes" ([] ∷ []) D 29 16 (0 ∷ 0 ∷ 0 ∷ [])
     ∷ []
 
--- the valuation date goes into it; a longer list keeps the rest
+-- the valuation date goes into it, and after it the letter; a longer list keeps the rest
 unfoldable pub headList : List Case
 headList =
-    received "one entry" text (replicate 8 9) 16 ((245 ∷ 253 ∷ 52 ∷ 1 ∷ 0 ∷ 0 ∷ 0 ∷ 0 ∷ []) ++ entered)
-    ∷ received "a longer list keeps the rest" text (replicate 21 9) 16 ((245 ∷ 253 ∷ 52 ∷ 1 ∷ 0 ∷ 0 ∷ 0 ∷ 0 ∷ []) ++ replicate 13 9 ++ entered)
-    ∷ received "an unreal date is read" (D-of "2025-02-30") (replicate 8 9) 16 ((118 ∷ 254 ∷ 52 ∷ 1 ∷ 0 ∷ 0 ∷ 0 ∷ 0 ∷ []) ++ untouched)
+    received "two entries" text (replicate 16 9) 16 ((245 ∷ 253 ∷ 52 ∷ 1 ∷ replicate 12 0) ++ entered)
+    ∷ received "a longer list keeps the rest" text (replicate 29 9) 16 ((245 ∷ 253 ∷ 52 ∷ 1 ∷ replicate 12 0) ++ replicate 13 9 ++ entered)
+    ∷ received "an unreal date is read" (D-of "2025-02-30") (replicate 16 9) 16 ((118 ∷ 254 ∷ 52 ∷ 1 ∷ replicate 12 0) ++ untouched)
     ∷ []
 
 -- and a refusal leaves it as it was
 unfoldable pub headKept : List Case
 headKept =
-    received "a list too short is left" text (replicate 7 9) 16 (replicate 7 9 ++ untouched)
-    ∷ received "an answer slice too short" text (replicate 8 9) 15 (replicate 8 9 ++ untouched)
-    ∷ received "a refusal at the last record" (text ++ D) (replicate 8 9) 16 (replicate 8 9 ++ untouched)
+    received "a list too short is left" text (replicate 15 9) 16 (replicate 15 9 ++ untouched)
+    ∷ received "an answer slice too short" text (replicate 16 9) 15 (replicate 16 9 ++ untouched)
+    ∷ received "a refusal at the last record" (text ++ D) (replicate 16 9) 16 (replicate 16 9 ++ untouched)
     ∷ []

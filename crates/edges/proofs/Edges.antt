@@ -13,11 +13,11 @@ use Rattle.words.specs.Words.{number, littleEndian, wordAt, entries, decode, en
 use Rattle.dates.specs.Calendar.{isLeap, leapDay, monthLengths, monthLength, isReal, isDate, yearStart, monthStart, dayNumber, daysBetween, isLeapDay, anniversary}
 use Rattle.dates.specs.Text.{digitsOf, dateText, textNumber, readDate}
 use Rattle.holding.specs.Holding as row
-use Rattle.holding.specs.Holding.{headNumbers, headFaults, headFault, accountOf, outOfTerm, identityFaults, termFaults, worthFaults, moneyFaults, rowFaults, faultOf, holdingOf}
+use Rattle.holding.specs.Holding.{headNumbers, headFaults, headFault, letterOf, accountOf, outOfTerm, identityFaults, termFaults, worthFaults, moneyFaults, rowFaults, faultOf, holdingOf}
 use Rattle.holding.specs.Holding.{isCorporation, isIssuer, isRated, sideOf, kindOf, issuerOf, currencyOf, ratingOf, rowOf}
 use Rattle.rates.specs.Rate.{longerThan, atLeast, periodOf, percents, flatRate, bondRate, stripRate, kindRate, rateAt, rateOf}
 use Rattle.article.specs.Pair.{legOf, isLong, isShort, isBond, isStrip, isCanada, isProvince, isUs, isGb, inCad, inUsd, inGbp, kindsPair, sameClass, mixedClass, classRule}
-use Rattle.article.specs.Pair.{isCorporate, bondRating, sameCorporation, corporateRule, cadRule}
+use Rattle.article.specs.Pair.{isParticipant, areParticipants, isCorporate, bondRating, sameCorporation, corporateRule, cadRule}
 use Rattle.article.specs.Pair.{domesticRule, oneBond, sameGovernment, foreignRule, bothCad, sameForeign, ruleOf, ruleRate, allowed, pairRateOf, savingRateOf, pairOf}
 use Rattle.pairing.specs.Pairing as theory
 use Rattle.pairing.specs.Pairing.{used, saving, pairUnits, pricedTotal}
@@ -44,7 +44,7 @@ use Rattle.report.specs.Report.{afterComma, lineOf, answerNumbers, refusalLine,
 use Rattle.received.specs.Reading.{heldLists, readingAnswer, filling, heading}
 use Rattle.received.specs.Naming.{leiTexts as namedTexts, leisTooShort, namingAnswer, naming}
 use Rattle.printing.specs.Printed.{fileAnswer, printed}
-use Rattle.edges.proofs.Cases.{Case, Agrees, failing, alone, together, judged, worked}
+use Rattle.edges.proofs.Cases.{Case, Agrees, namesOfWrongCases, alone, together, judged, worked}
 use Rattle.edges.proofs.Starred.{starred, starredFile}
 use Rattle.edges.proofs.Others.{single, thirdPrice, firstPrice, firstAmount, tooLong, acceptedFiles, rankedFile, files, recordPlaces, holdingNumerals, lineNumerals, recordFaults}
 use Rattle.edges.proofs.Others.{lending, reading, readingShort, tooMany, texts, fileProposals, shortcuts, proposals, lineRefusals, refusals}
@@ -52,19 +52,38 @@ use Rattle.edges.proofs.Foreign.{governments, longBonds, longStrips, no
 use Rattle.edges.proofs.Foreign.{foreignBooks, foreignFile, sterlingFile, unpairedFiles, eighthField, sevenFields}
 use Rattle.edges.proofs.Dated.{actualDays, wholeYears, anniversaries, twentyYears, periodEnds, otherEnds, maturities, valuations, dateTexts, valuationRecord, datedFiles}
 use Rattle.edges.proofs.Dated.{datedFigures, headAnswers, headList, headKept}
-use Rattle.edges.proofs.Corporate.{groupFive, hedges, longerHedges, capped, belowCap, hedgeEnds, ratedLower, sameKinds, twoCorporations, corporationAndCanada}
-use Rattle.edges.proofs.Corporate.{corporationAndProvince, corporationAbroad, corporationInUsd, corporationInGbp, corporatePeriods, ratingFaults, ratingPlaces}
+use Rattle.edges.proofs.Corporate.{groupFive, hedges, longerHedges, capped, belowCap, hedgeEnds, ratedLower, sameKinds, twoCorporations, notWithCanada}
+use Rattle.edges.proofs.Corporate.{notWithProvince, corporationAbroad, corporationInUsd, corporationInGbp, corporatePeriods, ratingFaults, ratingPlaces}
 use Rattle.edges.proofs.Corporate.{threeParagraphs, withoutParagraph3, hedgedBooks, corporateUnpaired, leis, leiTexts, recordValues, misratedRecords}
-use Rattle.edges.proofs.Corporate.{firstAppearance, mostCorporations, numberedFile, alikeInHalf, noCorporation, corporateColumns, smallCorporateFile}
+use Rattle.edges.proofs.Corporate.{firstAppearance, mostCorporations, numberedFile, alikeInHalf, noCorporation, corporateColumns, corporatePairFile}
 use Rattle.edges.proofs.Corporate.{twoIssuersFile, ratedLowerFile, corporateFile, ninthField, beforeOrder, smallLetters, nineFields, namedLeis, namedLonger}
 use Rattle.edges.proofs.Corporate.{namedShort, namedOthers}
+use Rattle.edges.proofs.Clients.{accountLetters, beforeHoldings, beforeLines, afterSizes, clientRates, usInUsd, usInGbp, canadaInUsd, gbInGbp, corporations}
+use Rattle.edges.proofs.Clients.{participantBonds, clientBonds, participantStrips, clientStrips, participantMixed, clientMixed, participantDenied}
+use Rattle.edges.proofs.Clients.{clientDenied, otherDenied, booksInUsd, booksOfCompany, booksInCad, clientLeast, clientNotLeast, dearerPrices}
+use Rattle.edges.proofs.Clients.{participantLeast, atClientPrices, lowestUncovered, accountTexts, accountRecord, accountOrder, headTwo, headTwoKept}
+use Rattle.edges.proofs.Clients.{clientWorked, clientFile, clientLine, participantFile, clientHedge, clientCorporation}
 
--- the table: document 01's cases, the starred first, then those of document 02 a), of b) and of d). Most groups are as small as the prover computes when it names
--- a case that fails; of the others it names the group
+-- the table: document 01's cases, the starred first, then those of document 02 a), of b), of d) and of e). Most groups are as small as the prover computes
+-- when it names a case that fails; of the others it names the group
+abbrev pub clientTexts : List (List Case)
+clientTexts =
+    accountTexts ∷ accountRecord ∷ accountOrder ∷ headTwo ∷ headTwoKept ∷ clientWorked ∷ clientFile ∷ clientLine ∷ participantFile ∷ clientHedge
+    ∷ clientCorporation ∷ []
+
+abbrev pub clientBooks : List (List Case)
+clientBooks =
+    booksInUsd ∷ booksOfCompany ∷ booksInCad ∷ clientLeast ∷ clientNotLeast ∷ dearerPrices ∷ participantLeast ∷ atClientPrices ∷ lowestUncovered ∷ clientTexts
+
+abbrev pub accounts : List (List Case)
+accounts =
+    accountLetters ∷ beforeHoldings ∷ beforeLines ∷ afterSizes ∷ clientRates ∷ usInUsd ∷ usInGbp ∷ canadaInUsd ∷ gbInGbp ∷ corporations ∷ participantBonds
+    ∷ clientBonds ∷ participantStrips ∷ clientStrips ∷ participantMixed ∷ clientMixed ∷ participantDenied ∷ clientDenied ∷ otherDenied ∷ clientBooks
+
 abbrev pub corporateTexts : List (List Case)
 corporateTexts =
-    smallCorporateFile ∷ twoIssuersFile ∷ ratedLowerFile ∷ corporateFile ∷ ninthField ∷ beforeOrder ∷ smallLetters ∷ nineFields ∷ namedLeis
-    ∷ namedLonger ∷ namedShort ∷ namedOthers ∷ []
+    corporatePairFile ∷ twoIssuersFile ∷ ratedLowerFile ∷ corporateFile ∷ ninthField ∷ beforeOrder ∷ smallLetters ∷ nineFields ∷ namedLeis
+    ∷ namedLonger ∷ namedShort ∷ namedOthers ∷ accounts
 
 abbrev pub identifiers : List (List Case)
 identifiers =
@@ -77,8 +96,8 @@ corporateBooks =
 
 abbrev pub corporatePairs : List (List Case)
 corporatePairs =
-    groupFive ∷ hedges ∷ longerHedges ∷ capped ∷ belowCap ∷ hedgeEnds ∷ ratedLower ∷ sameKinds ∷ twoCorporations ∷ corporationAndCanada
-    ∷ corporationAndProvince ∷ corporationAbroad ∷ corporationInUsd ∷ corporationInGbp ∷ corporatePeriods ∷ corporateBooks
+    groupFive ∷ hedges ∷ longerHedges ∷ capped ∷ belowCap ∷ hedgeEnds ∷ ratedLower ∷ sameKinds ∷ twoCorporations ∷ notWithCanada
+    ∷ notWithProvince ∷ corporationAbroad ∷ corporationInUsd ∷ corporationInGbp ∷ corporatePeriods ∷ corporateBooks
 
 abbrev pub dates : List (List Case)
 dates =
@@ -98,7 +117,7 @@ table =
 
 -- no case of any group fails; where this is refused, the message names those that do
 abbrev NoneFails : List (List Case) → Type 0
-NoneFails groups = Each (λ cs. failing cs ≡ []) groups
+NoneFails groups = Each (λ cs. namesOfWrongCases cs ≡ []) groups
 
 none-fails : NoneFails table
 unfolding
@@ -106,27 +125,34 @@ unfolding
     lending reading readingShort tooMany texts fileProposals shortcuts proposals lineRefusals refusals governments longBonds longStrips notParagraph4
     twoCurrencies foreignProvinces foreignDebt bothParagraphs paragraph2Alone foreignBooks foreignFile sterlingFile unpairedFiles eighthField sevenFields
     actualDays wholeYears anniversaries twentyYears periodEnds otherEnds maturities valuations dateTexts valuationRecord datedFiles datedFigures headAnswers
-    headList headKept failing alone together judged worked within firstOf some count same insert ordered sumTo sumOf only listTo turns inTurn front holdingSizes
-    lineSizes listsOf writtenLists two entriesOf unequal differ tooShort outcomeIn outcomeOf countIn numbersAt rowsIn linesIn submission column filledFrom
-    filled row.numbersOf lineNumbers answered readAnswer heldLists readingAnswer filling heading isLeap leapDay monthLengths monthLength isReal isDate yearStart
-    monthStart dayNumber daysBetween isLeapDay anniversary digitsOf dateText textNumber readDate headNumbers headFaults headFault accountOf outOfTerm
-    identityFaults termFaults worthFaults moneyFaults rowFaults faultOf holdingOf sideOf kindOf issuerOf currencyOf rowOf longerThan atLeast periodOf percents
-    flatRate bondRate stripRate kindRate rateAt rateOf legOf isLong isShort isBond isStrip isCanada isProvince isUs isGb inCad inUsd inGbp kindsPair sameClass
-    mixedClass classRule domesticRule oneBond sameGovernment foreignRule bothCad sameForeign ruleOf ruleRate allowed pairRateOf savingRateOf pairOf used
-    theory.savingRate saving pairUnits pricedTotal ranksBefore rankingOf bookOf termsOf priced remainder margin unitsOf remaindersOf ranked centsOf atPlace
-    holdingFaults pairFaults lineFaults atHolding bookFaults atLine linesFaults uncovered atPair atLong uncoveredPairs totalsDiffer totalsFaults sizeFaults
-    faults accepted outcome lead digits valueFrom numeralOf placeFrom placeOf isText isQuotable part textFrom textEnd closeFrom closeAt followedBy followed
-    begins opens enclosed fieldAt fieldsFrom recordAt recordsFrom recordsAt recordsOf valueOf valuesOf parsedOf parse parsedIn valuesBy submissionOf atRecord
-    fileFaults fileFault afterComma lineOf answerNumbers refusalLine marginLine remainderLine printedLines bookLine printedOf fileAnswer printed flatMap number
-    littleEndian wordAt entries decode encode isCorporation isIssuer isRated ratingOf isCorporate bondRating sameCorporation corporateRule cadRule isDigit
-    isCapital isCharacter inForm lei.valueOf lei.digitsOf lei.number lei.remainder halfOf leiOf judgedOf characterOf characters leiText sameLei firstPlace enter
-    misrated issuerNumber knownAfter numberedFrom leisFrom holdingsOf leisOf answerTo namedTexts leisTooShort namingAnswer naming groupFive hedges longerHedges
-    capped belowCap hedgeEnds ratedLower sameKinds twoCorporations corporationAndCanada corporationAndProvince corporationAbroad corporationInUsd
-    corporationInGbp corporatePeriods ratingFaults ratingPlaces threeParagraphs withoutParagraph3 hedgedBooks corporateUnpaired leis leiTexts recordValues
-    misratedRecords firstAppearance mostCorporations numberedFile alikeInHalf noCorporation corporateColumns smallCorporateFile twoIssuersFile ratedLowerFile
-    corporateFile ninthField beforeOrder smallLetters nineFields namedLeis namedLonger namedShort namedOthers
+    headList headKept namesOfWrongCases alone together judged worked within firstOf some count same insert ordered sumTo sumOf only listTo turns inTurn front
+    holdingSizes lineSizes listsOf writtenLists two entriesOf unequal differ tooShort outcomeIn outcomeOf countIn numbersAt rowsIn linesIn submission column
+    filledFrom filled row.numbersOf lineNumbers answered readAnswer heldLists readingAnswer filling heading isLeap leapDay monthLengths monthLength isReal
+    isDate yearStart monthStart dayNumber daysBetween isLeapDay anniversary digitsOf dateText textNumber readDate headNumbers headFaults headFault letterOf
+    accountOf outOfTerm identityFaults termFaults worthFaults moneyFaults rowFaults faultOf holdingOf sideOf kindOf issuerOf currencyOf rowOf longerThan atLeast
+    periodOf percents flatRate bondRate stripRate kindRate rateAt rateOf legOf isLong isShort isBond isStrip isCanada isProvince isUs isGb inCad inUsd inGbp
+    kindsPair sameClass mixedClass classRule domesticRule oneBond sameGovernment foreignRule bothCad sameForeign ruleOf ruleRate allowed pairRateOf savingRateOf
+    pairOf used theory.savingRate saving pairUnits pricedTotal ranksBefore rankingOf bookOf termsOf priced remainder margin unitsOf remaindersOf ranked centsOf
+    atPlace holdingFaults pairFaults lineFaults atHolding bookFaults atLine linesFaults uncovered atPair atLong uncoveredPairs totalsDiffer totalsFaults
+    sizeFaults faults accepted outcome lead digits valueFrom numeralOf placeFrom placeOf isText isQuotable part textFrom textEnd closeFrom closeAt followedBy
+    followed begins opens enclosed fieldAt fieldsFrom recordAt recordsFrom recordsAt recordsOf valueOf valuesOf parsedOf parse parsedIn valuesBy submissionOf
+    atRecord fileFaults fileFault afterComma lineOf answerNumbers refusalLine marginLine remainderLine printedLines bookLine printedOf fileAnswer printed
+    flatMap number littleEndian wordAt entries decode encode isCorporation isIssuer isRated ratingOf isParticipant areParticipants isCorporate bondRating
+    sameCorporation corporateRule cadRule isDigit isCapital isCharacter inForm lei.valueOf lei.digitsOf lei.number lei.remainder halfOf leiOf judgedOf
+    characterOf characters leiText sameLei firstPlace enter misrated issuerNumber knownAfter numberedFrom leisFrom holdingsOf leisOf answerTo namedTexts
+    leisTooShort namingAnswer naming groupFive hedges longerHedges capped belowCap hedgeEnds ratedLower sameKinds twoCorporations notWithCanada notWithProvince
+    corporationAbroad corporationInUsd corporationInGbp corporatePeriods ratingFaults ratingPlaces threeParagraphs withoutParagraph3 hedgedBooks
+    corporateUnpaired leis leiTexts recordValues misratedRecords firstAppearance mostCorporations numberedFile alikeInHalf noCorporation corporateColumns
+    corporatePairFile twoIssuersFile ratedLowerFile corporateFile ninthField beforeOrder smallLetters nineFields namedLeis namedLonger namedShort namedOthers
+    accountLetters beforeHoldings beforeLines afterSizes clientRates usInUsd usInGbp canadaInUsd gbInGbp corporations participantBonds clientBonds
+    participantStrips clientStrips participantMixed clientMixed participantDenied clientDenied otherDenied booksInUsd booksOfCompany booksInCad clientLeast
+    clientNotLeast dearerPrices participantLeast atClientPrices lowestUncovered accountTexts accountRecord accountOrder headTwo headTwoKept clientWorked
+    clientFile clientLine participantFile clientHedge clientCorporation
 none-fails =
-    let f : NoneFails corporateTexts = (refl, (refl, (refl, (refl, (refl, (refl, (refl, (refl, (refl, (refl, (refl, (refl, tt)))))))))))) in
+    let i : NoneFails clientTexts = (refl, (refl, (refl, (refl, (refl, (refl, (refl, (refl, (refl, (refl, (refl, tt))))))))))) in
+    let h : NoneFails clientBooks = (refl, (refl, (refl, (refl, (refl, (refl, (refl, (refl, (refl, i))))))))) in
+    let g : NoneFails accounts = (refl, (refl, (refl, (refl, (refl, (refl, (refl, (refl, (refl, (refl, (refl, (refl, (refl, (refl, (refl, (refl, (refl, (refl, (refl, h))))))))))))))))))) in
+    let f : NoneFails corporateTexts = (refl, (refl, (refl, (refl, (refl, (refl, (refl, (refl, (refl, (refl, (refl, (refl, g)))))))))))) in
     let e : NoneFails identifiers = (refl, (refl, (refl, (refl, (refl, (refl, (refl, (refl, (refl, (refl, f)))))))))) in
     let d : NoneFails corporateBooks = (refl, (refl, (refl, (refl, (refl, (refl, e)))))) in
     let c : NoneFails corporatePairs = (refl, (refl, (refl, (refl, (refl, (refl, (refl, (refl, (refl, (refl, (refl, (refl, (refl, (refl, (refl, d))))))))))))))) in
@@ -135,14 +161,15 @@ none-fails =
     (refl, (refl, (refl, (refl, (refl, (refl, (refl, (refl, (refl, (refl, (refl, (refl, (refl, (refl, (refl, (refl, (refl, (refl, (refl, (refl, (refl, (refl, (refl, (refl, a))))))))))))))))))))))))
 
 -- cases of which none fails agree
-none-each : (cs : List Case) → failing cs ≡ [] → Each Agrees cs
-unfolding failing
+none-each : (cs : List Case) → namesOfWrongCases cs ≡ [] → Each Agrees cs
+unfolding namesOfWrongCases
 none-each [] e = tt
 none-each (c ∷ cs) e = by (none-each cs) (same (c .computed) (c .stated)) refl e
   where
-    by : (failing cs ≡ [] → Each Agrees cs) → (t : Bool) → same (c .computed) (c .stated) ≡ t → cond t (failing cs) (c .name ∷ failing cs) ≡ [] → Agrees c × Each Agrees cs
+    by : (namesOfWrongCases cs ≡ [] → Each Agrees cs) → (t : Bool) → same (c .computed) (c .stated) ≡ t → cond t (namesOfWrongCases cs) (c .name ∷ namesOfWrongCases cs) ≡ []
+        → Agrees c × Each Agrees cs
     by rest true h f = (same-true (c .computed) (c .stated) h, rest f)
     by rest false h f = absurd (omega (arith, ap (λ (l : List String). length l) f))
 
 pub edges : Each (Each Agrees) table
-edges = each-so (λ cs. failing cs ≡ []) (Each Agrees) none-each table none-fails
+edges = each-so (λ cs. namesOfWrongCases cs ≡ []) (Each Agrees) none-each table none-fails

@@ -4,4 +4,5 @@ pub mod Others
 pub mod Foreign
 pub mod Dated
 pub mod Corporate
+pub mod Clients
 pub mod Edges

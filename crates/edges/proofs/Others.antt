@@ -1,5 +1,5 @@
 -- Document 01, "Edges" without a star, "Shortcuts that cost margin or hide it", each refusal with its place, and each letter, code and byte of
--- the file, with what document 02 a) and b) add to them. Assumes nothing.
+-- the file, with what document 02 a), b), d) and e) add to them. Assumes nothing.
 use mathlib.Core.Bool.{true, false}
 use mathlib.Core.List.{List, [], _∷_, _++_, map, flatMap}
 use Prim.Native.Nat.{ℕ}
@@ -7,7 +7,7 @@ use lib.ListN.{take, drop, set, replicate}
 use Rattle.lists.specs.Tables.{ascii}
 use Rattle.holding.specs.declared.Row.{Row}
 use Rattle.layout.specs.declared.Sort.the-variants.{Side, Kind, Issuer, Currency}
-use Rattle.layout.specs.Layout.{Meaning, good, letters, sides, kinds, issuers, currencies, ratings}
+use Rattle.layout.specs.Layout.{Meaning, good, letters, accounts, sides, kinds, issuers, currencies, ratings}
 use Rattle.edges.proofs.Cases.{Case, rate, fault, faults, pair, no-pair, proposal, lent, figures, prints, record-at, code, lists, fields}
 use Rattle.edges.proofs.Cases.{letter, byte, decodes, encodes, lengths, columns, slice, answers, emptyFields, D, H, P, unended}
 use Rattle.edges.proofs.Cases.{new-year, line, row, of, rated, L, S, B, C, R, CA, ON, QC, CAD, file, file-lines}
@@ -29,7 +29,7 @@ bonds = row L B CA 20250102 2 ∷ row S B CA 20250102 2 ∷ []
 
 -- a D, an H and a P as parsed
 abbrev valuation : Meaning
-valuation = good 0 (new-year ∷ [])
+valuation = good 0 (new-year ∷ 0 ∷ [])
 
 abbrev holding : Meaning
 holding = good 1 (L ∷ B ∷ CA ∷ 20250102 ∷ 1 ∷ 0 ∷ CAD ∷ 2 ∷ 0 ∷ 0 ∷ [])
@@ -213,7 +213,7 @@ lending =
     ∷ lengths "one remainder, one rank, or an answer of 15 bytes" (set right 11 15 ∷ set right 12 15 ∷ set right 13 15 ∷ []) 2
     ∷ columns "the columns, each number by its name" (rated 13 (of 6 (row 1 2 3 4 5)) ∷ []) (7 ∷ []) (line 8 9 10 ∷ [])
     (flatMap (λ n. n ∷ 11 ∷ []) (1 ∷ 2 ∷ 3 ∷ 4 ∷ 5 ∷ 6 ∷ 13 ∷ 7 ∷ 8 ∷ 9 ∷ 10 ∷ [])
-    ++ (1 ∷ 2 ∷ 3 ∷ 4 ∷ 5 ∷ 6 ∷ 13 ∷ 11 ∷ 11 ∷ 11 ∷ 11 ∷ 11 ∷ 11 ∷ 11 ∷ 7 ∷ 11 ∷ 8 ∷ 9 ∷ 10 ∷ 11 ∷ 11 ∷ 11 ∷ 12 ∷ []))
+    ++ (1 ∷ 2 ∷ 3 ∷ 4 ∷ 5 ∷ 6 ∷ 13 ∷ 11 ∷ 11 ∷ 11 ∷ 11 ∷ 11 ∷ 11 ∷ 11 ∷ 7 ∷ 11 ∷ 8 ∷ 9 ∷ 10 ∷ 11 ∷ 11 ∷ 11 ∷ 12 ∷ 14 ∷ []))
     ∷ slice "15 bytes stay as they were" (replicate 15 9) (replicate 15 9)
     ∷ slice "20 bytes keep the last four" (replicate 20 9) (1 ∷ 0 ∷ 0 ∷ 0 ∷ 0 ∷ 0 ∷ 0 ∷ 0 ∷ 2 ∷ 0 ∷ 0 ∷ 0 ∷ 0 ∷ 0 ∷ 0 ∷ 0 ∷ 9 ∷ 9 ∷ 9 ∷ 9 ∷ [])
     ∷ []
@@ -221,17 +221,17 @@ lending =
 -- what the reader answers to a text and to what is lent: the counts
 unfoldable pub reading : List Case
 reading =
-    answers "read: two holdings, one line" (right ∷ []) (D ++ H "L,B,CA,2025-01-02,1,0" ++ H "L,B,CA,2025-01-02,1,0" ++ P "0,0,1") 8 16 (0 ∷ 2 ∷ 1 ∷ [])
-    ∷ answers "read: one holding, two lines" (moreLines ∷ []) (D ++ H "L,B,CA,2025-01-02,1,0" ++ P "0,0,1" ++ P "0,0,1") 8 16 (0 ∷ 1 ∷ 2 ∷ [])
-    ∷ answers "read: D alone into empty columns" ([] ∷ []) D 8 16 (0 ∷ 0 ∷ 0 ∷ [])
+    answers "read: two holdings, one line" (right ∷ []) (D ++ H "L,B,CA,2025-01-02,1,0" ++ H "L,B,CA,2025-01-02,1,0" ++ P "0,0,1") 16 16 (0 ∷ 2 ∷ 1 ∷ [])
+    ∷ answers "read: one holding, two lines" (moreLines ∷ []) (D ++ H "L,B,CA,2025-01-02,1,0" ++ P "0,0,1" ++ P "0,0,1") 16 16 (0 ∷ 1 ∷ 2 ∷ [])
+    ∷ answers "read: D alone into empty columns" ([] ∷ []) D 16 16 (0 ∷ 0 ∷ 0 ∷ [])
     ∷ []
 
 -- or 2 after all records
 unfoldable pub readingShort : List Case
 readingShort =
     answers "read, and one column too short" (map (λ j. set right j 15) (0 ∷ 1 ∷ 2 ∷ 3 ∷ 4 ∷ 5 ∷ 6 ∷ 7 ∷ []) ++ map (λ j. set right j 7) (8 ∷ 9 ∷ 10 ∷ []))
-    (D ++ H "L,B,CA,2025-01-02,1,0" ++ H "L,B,CA,2025-01-02,1,0" ++ P "0,0,1") 8 16 (2 ∷ 0 ∷ 0 ∷ [])
-    ∷ answers "read, and an answer of 15 bytes" (right ∷ []) (D ++ H "L,B,CA,2025-01-02,1,0") 8 15 (2 ∷ 0 ∷ 0 ∷ [])
+    (D ++ H "L,B,CA,2025-01-02,1,0" ++ H "L,B,CA,2025-01-02,1,0" ++ P "0,0,1") 16 16 (2 ∷ 0 ∷ 0 ∷ [])
+    ∷ answers "read, and an answer of 15 bytes" (right ∷ []) (D ++ H "L,B,CA,2025-01-02,1,0") 16 15 (2 ∷ 0 ∷ 0 ∷ [])
     ∷ answers "a bad record before a list and an answer too short" ([] ∷ []) (D ++ H "L,B,CA,2025-01-02,1,0" ++ H "L,B,CA,2025-01-02,01,0") 0 15 (21 ∷ 2 ∷ 0 ∷ [])
     ∷ []
 
@@ -249,7 +249,8 @@ tooMany =
 -- the letters and codes of the file, each with its number, and texts that are none; TEXTDATA at its ends; numbers as bytes
 unfoldable pub texts : List Case
 texts =
-    lists "how many letters, sides, kinds, issuers, currencies and ratings" (letters ∷ sides ∷ kinds ∷ issuers ∷ currencies ∷ ratings ∷ []) (3 ∷ 2 ∷ 3 ∷ 13 ∷ 3 ∷ 3 ∷ [])
+    lists "how many letters, accounts, sides, kinds, issuers, currencies and ratings" (letters ∷ accounts ∷ sides ∷ kinds ∷ issuers ∷ currencies ∷ ratings ∷ [])
+    (3 ∷ 2 ∷ 2 ∷ 3 ∷ 13 ∷ 3 ∷ 3 ∷ [])
     ∷ fields "a letter with other than eight fields after it" ("D" ∷ "H" ∷ "P" ∷ []) (0 ∷ 1 ∷ 2 ∷ 3 ∷ 4 ∷ 5 ∷ 6 ∷ 7 ∷ 9 ∷ 10 ∷ 20 ∷ []) 20
     ∷ fields "a letter with eight empty fields after it" ("D" ∷ "H" ∷ "P" ∷ []) (8 ∷ []) 21
     ∷ letter "the letters" ("D" ∷ "H" ∷ "P" ∷ []) (0 ∷ 1 ∷ 2 ∷ [])

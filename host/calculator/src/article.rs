@@ -1,10 +1,12 @@
-//! Article 7204, Groups I, II, V and XI paragraphs 1 to 4: terms, rates and pairs.
+//! Article 7204, Groups I, II, V and XI paragraphs 1 to 4: terms, rates and pairs, and who may have these.
 
 use std::ops::RangeInclusive;
 
+use margin_host::{Head, Refusal};
+
 use crate::dates::{anniversary, day_count, is_date};
 use crate::fraction::Fraction;
-use crate::{FIRST_CORPORATION, Row};
+use crate::{CLIENT, FIRST_CORPORATION, PARTICIPANT, Row};
 
 /// The years of each period but the fifth, which has no end.
 const PERIOD_ENDS: [u64; 4] = [1, 3, 7, 11];
@@ -100,7 +102,7 @@ pub enum Market {
     /// higher. Corporations are numbered from 0.
     Corporate(u8),
     /// No paragraph: a province or a corporation in a foreign currency, another government in Canadian dollars,
-    /// a corporation's bond of a lower rating.
+    /// a corporation's bond of a lower rating; and in a client's account all that is not domestic.
     Unpaired,
 }
 
@@ -108,9 +110,20 @@ impl Market {
     /// How many governments in foreign currencies there are.
     pub const FOREIGN: usize = GOVERNMENTS.len() * FOREIGN_CURRENCIES.len();
 
-    /// The market of a holding whose numbers are in their ranges.
+    /// The market of a holding whose numbers are in their ranges, in this account.
     #[inline]
-    fn of(holding: &Row) -> Market {
+    fn of(account: &Account, holding: &Row) -> Market {
+        let market = Market::by_paragraph(holding);
+        if account.participant || market == Market::Domestic {
+            market
+        } else {
+            Market::Unpaired
+        }
+    }
+
+    /// The market of a holding by the paragraph that it comes under, whoever has it.
+    #[inline]
+    fn by_paragraph(holding: &Row) -> Market {
         let Some(corporation) = holding.issuer.checked_sub(FIRST_CORPORATION) else {
             return MARKETS[holding.currency as usize][holding.issuer as usize];
         };
@@ -123,9 +136,9 @@ impl Market {
     }
 }
 
-/// A valuation date, with the anniversaries that a maturity is compared with.
+/// An account on its valuation date: the anniversaries that a maturity is compared with, and whose it is.
 #[derive(Clone, Copy, Debug)]
-pub struct Valuation {
+pub struct Account {
     date: u64,
     day_count: u64,
     /// The last day of each period but the fifth.
@@ -134,18 +147,32 @@ pub struct Valuation {
     long_term: u64,
     /// The last maturity of a holding.
     longest_term: u64,
+    /// Whether it is an approved participant's, to whom the article gives paragraphs 3 and 4. It gives paragraph 2
+    /// to clients as well.
+    participant: bool,
 }
 
-impl Valuation {
-    /// A valuation on this date, if it is one.
-    #[must_use]
-    pub fn on(date: u64) -> Option<Valuation> {
-        is_date(date).then(|| Valuation {
+impl Account {
+    /// The account with this head.
+    ///
+    /// # Errors
+    ///
+    /// 24 for a valuation date that is none, or else 26 for a letter that is neither.
+    pub fn of(head: Head) -> Result<Account, Refusal> {
+        let Head { date, letter } = head;
+        if !is_date(date) {
+            return Err(Refusal::DateInvalid { holding: 0 });
+        }
+        if letter != PARTICIPANT && letter != CLIENT {
+            return Err(Refusal::AccountUnknown);
+        }
+        Ok(Account {
             date,
             day_count: day_count(date),
             period_ends: PERIOD_ENDS.map(|years| anniversary(date, years)),
             long_term: anniversary(date, LONG_TERM),
             longest_term: anniversary(date, LONGEST_TERM),
+            participant: letter == PARTICIPANT,
         })
     }
 
@@ -167,7 +194,7 @@ pub struct Position {
     pub class: Class,
     /// Whether it is a bond or debenture, not a strip.
     pub bond: bool,
-    /// Among whom it is paired.
+    /// Among whom it is paired in its account.
     pub market: Market,
 }
 
@@ -175,8 +202,8 @@ impl Position {
     /// The position of a holding whose numbers are in their ranges.
     #[must_use]
     #[inline]
-    pub fn of(valuation: &Valuation, holding: &Row) -> Position {
-        let period = valuation
+    pub fn of(account: &Account, holding: &Row) -> Position {
+        let period = account
             .period_ends
             .iter()
             .filter(|end| holding.maturity > **end)
@@ -189,7 +216,7 @@ impl Position {
             Class::Corporation
         };
         let bond = holding.kind == 0;
-        let multiple = match (bond, holding.maturity >= valuation.long_term) {
+        let multiple = match (bond, holding.maturity >= account.long_term) {
             (true, _) => 0,
             (false, false) => 1,
             (false, true) => 2,
@@ -197,14 +224,14 @@ impl Position {
         let units = UNITS[class as usize][multiple][period];
         Position {
             rate: if period == 0 && class != Class::Corporation {
-                units * (day_count(holding.maturity) - valuation.day_count)
+                units * (day_count(holding.maturity) - account.day_count)
             } else {
                 units
             },
             period: period as u8,
             class,
             bond,
-            market: Market::of(holding),
+            market: Market::of(account, holding),
         }
     }
 }
@@ -251,11 +278,13 @@ pub(crate) fn corporate_pair_rate(one: u64, other: u64) -> u64 {
 
 #[cfg(test)]
 mod tests {
-    use super::{Position, Valuation, pair_rate, saving_rate};
-    use crate::{NOT_RATED, Row, VALUED};
+    use margin_host::{Head, Refusal};
 
-    /// A position valued on a date, by the numbers of its kind, issuer, maturity, currency and rating.
-    fn valued(date: u64, [kind, issuer, maturity, currency, rating]: [u64; 5]) -> Position {
+    use super::{Account, Market, Position, pair_rate, saving_rate};
+    use crate::{NOT_RATED, Row, VALUED, client, participant};
+
+    /// A position under a head, by the numbers of its kind, issuer, maturity, currency and rating.
+    fn valued(head: Head, [kind, issuer, maturity, currency, rating]: [u64; 5]) -> Position {
         let (side, value) = (0, 1);
         let holding = Row {
             side,
@@ -266,16 +295,22 @@ mod tests {
             currency,
             rating,
         };
-        Position::of(&Valuation::on(date).expect("a date"), &holding)
+        Position::of(&Account::of(head).expect("an account"), &holding)
     }
 
     fn position_on(date: u64, currency: u64, kind: u64, issuer: u64, maturity: u64) -> Position {
-        valued(date, [kind, issuer, maturity, currency, NOT_RATED])
+        valued(
+            participant(date),
+            [kind, issuer, maturity, currency, NOT_RATED],
+        )
     }
 
     /// A position of a corporation, by the number of its currency and of its rating.
     fn corporate(currency: u64, rating: u64, kind: u64, issuer: u64, maturity: u64) -> Position {
-        valued(VALUED, [kind, issuer, maturity, currency, rating])
+        valued(
+            participant(VALUED),
+            [kind, issuer, maturity, currency, rating],
+        )
     }
 
     fn position_in(currency: u64, kind: u64, issuer: u64, maturity: u64) -> Position {
@@ -316,13 +351,25 @@ mod tests {
     }
 
     #[test]
-    fn what_a_valuation_holds() {
-        let held = |date, maturity| Valuation::on(date).is_some_and(|on| on.holds(maturity));
+    fn what_an_account_holds() {
+        let held = |date, maturity| Account::of(client(date)).is_ok_and(|on| on.holds(maturity));
         assert!(!held(2025_01_01, 2025_01_01) && held(2025_01_01, 2025_01_02));
         assert!(held(2025_01_01, 2125_01_01) && !held(2025_01_01, 2125_01_02));
         assert!(held(2000_02_29, 2100_02_28) && !held(2000_02_29, 2100_03_01));
         assert!(held(2250_06_15, 2299_12_31));
-        assert!(Valuation::on(2025_02_29).is_none());
+    }
+
+    #[test]
+    fn heads_without_an_account() {
+        let refused = |date, letter| Account::of(Head { date, letter }).err();
+        for letter in [0, 1] {
+            assert_eq!(refused(VALUED, letter), None);
+        }
+        for letter in [2, 255, 1 << 32, u64::MAX] {
+            assert_eq!(refused(VALUED, letter), Some(Refusal::AccountUnknown));
+            let undated = Some(Refusal::DateInvalid { holding: 0 });
+            assert_eq!(refused(2025_02_29, letter), undated);
+        }
     }
 
     #[test]
@@ -423,5 +470,30 @@ mod tests {
         }
         let dollars = [0, 1].map(|kind| corporate(1, 0, kind, 100, 2046_11_27));
         assert_eq!(pair_rate(&dollars[0], &dollars[1]), None);
+    }
+
+    #[test]
+    fn a_client_has_paragraph_2_alone() {
+        // Currency, issuer and rating of a bond and a strip that a participant may pair.
+        for (currency, issuer, rating) in [
+            (0, 0, NOT_RATED),
+            (0, 7, NOT_RATED),
+            (0, 100, 0),
+            (1, 0, NOT_RATED),
+            (1, 11, NOT_RATED),
+            (2, 12, NOT_RATED),
+        ] {
+            let of = |head, kind| valued(head, [kind, issuer, 2030_06_24, currency, rating]);
+            let pair = |head| pair_rate(&of(head, 0), &of(head, 1));
+            let theirs = pair(participant(VALUED));
+            let domestic = of(client(VALUED), 0).market == Market::Domestic;
+            assert!(theirs.is_some(), "{currency} {issuer}");
+            assert_eq!(domestic, currency == 0 && issuer <= 10);
+            assert_eq!(pair(client(VALUED)), theirs.filter(|_| domestic));
+            for kind in [0, 1, 2] {
+                let rate = |head| of(head, kind).rate;
+                assert_eq!(rate(client(VALUED)), rate(participant(VALUED)));
+            }
+        }
     }
 }

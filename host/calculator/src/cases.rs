@@ -6,6 +6,7 @@
 
 use crate::print;
 
+mod accounts;
 mod books;
 mod corporate;
 mod dates;
@@ -36,6 +37,7 @@ pub fn all() -> Vec<Case> {
     foreign::add(&mut list);
     corporate::add(&mut list);
     dates::add(&mut list);
+    accounts::add(&mut list);
     judged::add(&mut list);
     grammar::add(&mut list);
     fields::add(&mut list);

@@ -134,8 +134,10 @@ fn grouped(entries: &[Entry]) -> impl Iterator<Item = (usize, &Entry, usize)> {
 
 #[cfg(test)]
 mod tests {
+    use margin_host::Head;
+
     use super::{Short, group, needed};
-    use crate::{Position, Row, VALUED, Valuation, saving_rate};
+    use crate::{Account, Position, Row, VALUED, client, participant, saving_rate};
 
     /// Issuers, each with a rating.
     const ISSUERS: [(u64, u64); 10] = [
@@ -151,8 +153,8 @@ mod tests {
         (355, 0),
     ];
 
-    fn positions() -> Vec<Position> {
-        let valuation = Valuation::on(VALUED).expect("a date");
+    fn positions(head: Head) -> Vec<Position> {
+        let account = Account::of(head).expect("an account");
         let mut positions = Vec::new();
         for maturity in [
             2025_01_02, 2025_01_03, 2025_12_31, 2026_01_01, 2026_01_02, 2028_01_01, 2032_01_01,
@@ -171,7 +173,7 @@ mod tests {
                             currency,
                             rating,
                         };
-                        positions.push(Position::of(&valuation, &holding));
+                        positions.push(Position::of(&account, &holding));
                     }
                 }
             }
@@ -181,16 +183,18 @@ mod tests {
 
     #[test]
     fn needed_of_a_group_is_the_saving_rate() {
-        for long in positions() {
-            let partners = group(&long, !long.bond);
-            for short in positions() {
-                let together = partners.is_some() && partners == group(&short, short.bond);
-                let needed = if together {
-                    needed(&long, &Short::of(0, &short, 0))
-                } else {
-                    0
-                };
-                assert_eq!(needed, saving_rate(&long, &short).unwrap_or(0));
+        for positions in [participant, client].map(|head| positions(head(VALUED))) {
+            for long in &positions {
+                let partners = group(long, !long.bond);
+                for short in &positions {
+                    let together = partners.is_some() && partners == group(short, short.bond);
+                    let needed = if together {
+                        needed(long, &Short::of(0, short, 0))
+                    } else {
+                        0
+                    };
+                    assert_eq!(needed, saving_rate(long, short).unwrap_or(0));
+                }
             }
         }
     }

@@ -7,4 +7,4 @@ mod records;
 
 pub use lent::{margin_leis, margin_read};
 pub use printer::print;
-pub use reader::{CURRENCIES, FIELDS, ISSUERS, KINDS, MOST_BYTES, RATINGS, SIDES, read};
+pub use reader::{ACCOUNTS, CURRENCIES, FIELDS, ISSUERS, KINDS, MOST_BYTES, RATINGS, SIDES, read};

@@ -24,15 +24,17 @@ pub mod samples;
 mod sheet;
 pub mod texts;
 
-pub use article::{Class, Market, Position, Valuation, pair_rate, saving_rate};
+pub use article::{Account, Class, Market, Position, pair_rate, saving_rate};
 pub use file::{
-    CURRENCIES, FIELDS, ISSUERS, KINDS, MOST_BYTES, RATINGS, SIDES, margin_leis, margin_read,
-    print, read,
+    ACCOUNTS, CURRENCIES, FIELDS, ISSUERS, KINDS, MOST_BYTES, RATINGS, SIDES, margin_leis,
+    margin_read, print, read,
 };
 pub use lei::{PUBLISHED, with_check_digits};
 pub use optimise::{Best, optimise};
 pub use plain::margin_check;
-pub use sheet::{FIRST_CORPORATION, NOT_RATED, Row, Sheet, VALUED};
+pub use sheet::{
+    CLIENT, FIRST_CORPORATION, NOT_RATED, PARTICIPANT, Row, Sheet, VALUED, client, participant,
+};
 
 /// The Rust examples of the README.
 #[cfg(doctest)]

@@ -7,8 +7,8 @@
 use margin_host::{Line, Refusal};
 
 use crate::Sheet;
-use crate::article::{Position, saving_rate};
-use crate::plain::{MOST_HOLDINGS, in_range, valuation};
+use crate::article::{Account, Position, saving_rate};
+use crate::plain::{MOST_HOLDINGS, in_range};
 
 mod forest;
 mod path;
@@ -154,7 +154,7 @@ fn savings(positions: &[Position], longs: &Side, shorts: &Side) -> Vec<Option<u6
     savings
 }
 
-/// The position of each holding, or the refusal of the book: 1, 3, 4 to 8, 23, 24 or 25.
+/// The position of each holding, or the refusal of the book: 1, 3, 4 to 8 or 23 to 26.
 fn positions(book: &Sheet) -> Result<Vec<Position>, Refusal> {
     let count = book.side.len();
     let columns = [
@@ -171,11 +171,11 @@ fn positions(book: &Sheet) -> Result<Vec<Position>, Refusal> {
     if count > MOST_HOLDINGS {
         return Err(Refusal::TooManyHoldings);
     }
-    let valuation = valuation(book.date)?;
+    let account = Account::of(book.head)?;
     let position = |number: usize| {
         let holding = book.row(number);
-        in_range(&valuation, number as u64, &holding, 0)?;
-        Ok(Position::of(&valuation, &holding))
+        in_range(&account, number as u64, &holding, 0)?;
+        Ok(Position::of(&account, &holding))
     };
     (0..count).map(position).collect()
 }

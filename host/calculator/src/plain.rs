@@ -2,9 +2,9 @@
 
 use std::cmp::Reverse;
 
-use margin_host::{Columns, Figures, Refusal};
+use margin_host::{Columns, Figures, Head, Refusal};
 
-use crate::article::{Position, Valuation, pair_rate};
+use crate::article::{Account, Position, pair_rate};
 use crate::cover::cover;
 use crate::dates::is_date;
 use crate::{FIRST_CORPORATION, NOT_RATED, Row};
@@ -38,12 +38,14 @@ struct Paired {
 #[must_use]
 pub fn margin_check(
     date: u64,
+    letter: u64,
     columns: &Columns<&[u8]>,
     remainder: &mut [u8],
     ranking: &mut [u8],
     answer: &mut [u8],
 ) -> u64 {
-    let (number, first, second) = match judge(date, columns, remainder, ranking, answer.len()) {
+    let head = Head { date, letter };
+    let (number, first, second) = match judge(head, columns, remainder, ranking, answer.len()) {
         Ok(figures) => (0, figures.units, figures.cents),
         Err(refusal) => (refusal.number(), refusal.place(), refusal.second()),
     };
@@ -55,15 +57,15 @@ pub fn margin_check(
 }
 
 fn judge(
-    date: u64,
+    head: Head,
     columns: &Columns<&[u8]>,
     remainder: &mut [u8],
     ranking: &mut [u8],
     answer: usize,
 ) -> Result<Figures, Refusal> {
     lengths(columns, remainder.len(), ranking.len(), answer)?;
-    let valuation = valuation(date)?;
-    let mut entries = holdings(&valuation, columns)?;
+    let account = Account::of(head)?;
+    let mut entries = holdings(&account, columns)?;
     let paired = lines(columns, &mut entries)?;
     cover(&entries)?;
     let priced: u64 = entries.iter().map(|entry| entry.price * entry.value).sum();
@@ -107,13 +109,8 @@ fn lengths(
     }
 }
 
-/// Refusal 24 of the valuation date.
-pub(crate) fn valuation(date: u64) -> Result<Valuation, Refusal> {
-    Valuation::on(date).ok_or(Refusal::DateInvalid { holding: 0 })
-}
-
 /// Refusals 4 to 6, 24, 7, 8, 23, 25 and 10 of each holding in turn.
-fn holdings(valuation: &Valuation, columns: &Columns<&[u8]>) -> Result<Vec<Entry>, Refusal> {
+fn holdings(account: &Account, columns: &Columns<&[u8]>) -> Result<Vec<Entry>, Refusal> {
     let sides = numbers(columns.side);
     let mut entries = Vec::with_capacity(sides.len());
     let others = numbers(columns.kind)
@@ -135,9 +132,9 @@ fn holdings(valuation: &Valuation, columns: &Columns<&[u8]>) -> Result<Vec<Entry
             currency,
             rating,
         };
-        in_range(valuation, number as u64, &holding, price)?;
+        in_range(account, number as u64, &holding, price)?;
         entries.push(Entry {
-            position: Position::of(valuation, &holding),
+            position: Position::of(account, &holding),
             price,
             short: side == 1,
             value,
@@ -150,7 +147,7 @@ fn holdings(valuation: &Valuation, columns: &Columns<&[u8]>) -> Result<Vec<Entry
 /// Refusals 4 to 6, 24, 7, 8, 23, 25 and 10 of one holding, in this order.
 #[inline]
 pub(crate) fn in_range(
-    valuation: &Valuation,
+    account: &Account,
     number: u64,
     holding: &Row,
     price: u64,
@@ -164,7 +161,7 @@ pub(crate) fn in_range(
         Refusal::IssuerUnknown { holding: number }
     } else if !is_date(holding.maturity) {
         Refusal::DateInvalid { holding: number }
-    } else if !valuation.holds(holding.maturity) {
+    } else if !account.holds(holding.maturity) {
         Refusal::MaturityOutOfRange { holding: number }
     } else if !(1..=HIGHEST_VALUE).contains(&holding.value) {
         Refusal::ValueOutOfRange { holding: number }

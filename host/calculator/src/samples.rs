@@ -1,8 +1,10 @@
 //! Books made from a seed, for the tests, the cases and the benchmark.
 
-use margin_host::Line;
+use margin_host::{Head, Line};
 
-use crate::{FIRST_CORPORATION, NOT_RATED, Row, Sheet, VALUED, calendar, optimise};
+use crate::{
+    CLIENT, FIRST_CORPORATION, NOT_RATED, PARTICIPANT, Row, Sheet, VALUED, calendar, optimise,
+};
 
 /// `SplitMix64`: the same numbers from the same seed everywhere.
 #[derive(Clone, Debug)]
@@ -78,11 +80,13 @@ pub const PERIODS: [Term; 6] = [
     ((20, 0), (100, 0)),
 ];
 
-/// What the holdings of a book are drawn from.
+/// What the account and the holdings of a book are drawn from.
 #[derive(Clone, Copy, Debug)]
 pub struct Shape {
     /// A name for messages.
     pub name: &'static str,
+    /// The letters of accounts.
+    pub letters: &'static [u64],
     /// The sides.
     pub sides: &'static [u64],
     /// The kinds.
@@ -104,6 +108,7 @@ pub struct Shape {
 /// A shape with everything in it, what is paired by any paragraph and what is not; the others narrow it.
 pub const ANY: Shape = Shape {
     name: "any issuer and currency",
+    letters: &[PARTICIPANT, PARTICIPANT, PARTICIPANT, CLIENT],
     sides: &[0, 1],
     kinds: &[0, 1, 2],
     issuers: &[0, 0, 1, 7, 10, 11, 12, 100, 100, 100, 101, 102, 103],
@@ -112,6 +117,13 @@ pub const ANY: Shape = Shape {
     currencies: &[0, 0, 0, 0, 1, 1, 2],
     ratings: &[0, 0, 1],
     different: usize::MAX,
+};
+
+/// What a client may pair, and what a participant alone may.
+pub const CLIENTS: Shape = Shape {
+    name: "a client's of any issuer and currency",
+    letters: &[CLIENT],
+    ..ANY
 };
 
 /// What paragraphs 2 and 4 pair, and what of governments is not paired.
@@ -173,7 +185,7 @@ const ENDS: &[Term] = &[
 ];
 
 /// Books of many kinds.
-pub const SHAPES: [Shape; 40] = [
+pub const SHAPES: [Shape; 45] = [
     DOMESTIC,
     Shape {
         name: "ends of periods",
@@ -380,6 +392,32 @@ pub const SHAPES: [Shape; 40] = [
         terms: &[FIFTH],
         ..CORPORATE
     },
+    CLIENTS,
+    Shape {
+        name: "a client's, fifth period",
+        terms: &[FIFTH],
+        ..CLIENTS
+    },
+    Shape {
+        name: "a client's, highest value",
+        values: &[(HIGHEST_VALUE, HIGHEST_VALUE)],
+        terms: ENDS,
+        ..CLIENTS
+    },
+    Shape {
+        name: "a client's, Canada in any currency",
+        issuers: &[0],
+        currencies: &[0, 1, 2],
+        terms: &[PERIODS[0]],
+        ..CLIENTS
+    },
+    Shape {
+        name: "a client's, a corporation and governments in CAD",
+        issuers: &[0, 7, 9, 100, 100, 100],
+        currencies: &[0],
+        terms: &[PERIODS[2], PERIODS[3]],
+        ..CLIENTS
+    },
 ];
 
 /// Draws a valuation date: document 01's, a leap day or any other, so early that each has its 100th
@@ -408,7 +446,12 @@ fn maturity(random: &mut Random, date: u64, terms: &[Term]) -> u64 {
 /// Draws a book without lines, each holding at price 0.
 pub fn book(random: &mut Random, shape: &Shape, size: usize) -> Sheet {
     let date = valuation_date(random);
-    Sheet::of_rows(date, &holdings(random, shape, date, size), 0)
+    let letter = random.pick(shape.letters);
+    Sheet::of_rows(
+        Head { date, letter },
+        &holdings(random, shape, date, size),
+        0,
+    )
 }
 
 /// Draws the holdings of a book on a valuation date.
@@ -446,7 +489,7 @@ fn holding(random: &mut Random, shape: &Shape, date: u64) -> Row {
 ///
 /// # Panics
 ///
-/// If the valuation date or a holding is outside its ranges, or there are more than 256.
+/// If the head or a holding is outside its ranges, or there are more than 256.
 #[must_use]
 pub fn best_sheet(book: &Sheet) -> Sheet {
     let mut sheet = book.clone();

@@ -1,14 +1,18 @@
-//! A book on its valuation date and a proposal in plain numbers, which may be outside their ranges.
+//! A book under its head and a proposal in plain numbers, which may be outside their ranges.
 
 use std::collections::HashMap;
 use std::ops::{Deref, DerefMut};
 
-use margin_host::{Columns, Line};
+use margin_host::{Columns, Head, Line};
 
-use crate::{Position, Valuation};
+use crate::{Account, Position};
 
 /// The valuation date of document 01's worked cases.
 pub const VALUED: u64 = 2025_01_01;
+/// The number of the letter `P`, an approved participant's.
+pub const PARTICIPANT: u64 = 0;
+/// The number of the letter `C`, a client's.
+pub const CLIENT: u64 = 1;
 /// The issuer number of a book's first corporation.
 pub const FIRST_CORPORATION: u64 = 100;
 /// The rating number of a government.
@@ -33,11 +37,29 @@ pub struct Row {
     pub rating: u64,
 }
 
-/// A valuation date, and the columns of a book and of a proposal on it, which are reached as its own.
+/// The head of an approved participant's book on this valuation date.
+#[must_use]
+pub const fn participant(date: u64) -> Head {
+    Head {
+        date,
+        letter: PARTICIPANT,
+    }
+}
+
+/// The head of a client's book on this valuation date.
+#[must_use]
+pub const fn client(date: u64) -> Head {
+    Head {
+        date,
+        letter: CLIENT,
+    }
+}
+
+/// A head, and the columns of a book and of a proposal on it, which are reached as its own.
 #[derive(Clone, Debug, PartialEq, Eq)]
 pub struct Sheet {
-    /// The valuation date, YYYYMMDD.
-    pub date: u64,
+    /// The valuation date and the account's letter.
+    pub head: Head,
     /// The columns.
     pub columns: Columns<Vec<u64>>,
 }
@@ -57,19 +79,19 @@ impl DerefMut for Sheet {
 }
 
 impl Sheet {
-    /// The empty book on this date, without lines.
+    /// The empty book under this head, without lines.
     #[must_use]
-    pub fn empty(date: u64) -> Sheet {
+    pub fn empty(head: Head) -> Sheet {
         Sheet {
-            date,
+            head,
             columns: Columns::default(),
         }
     }
 
-    /// A sheet of these holdings on this date, each at this price, without lines.
+    /// A sheet of these holdings under this head, each at this price, without lines.
     #[must_use]
-    pub fn of_rows(date: u64, rows: &[Row], price: u64) -> Sheet {
-        let mut sheet = Sheet::empty(date);
+    pub fn of_rows(head: Head, rows: &[Row], price: u64) -> Sheet {
+        let mut sheet = Sheet::empty(head);
         for row in rows {
             sheet.add_holding(*row, price);
         }
@@ -98,11 +120,11 @@ impl Sheet {
     ///
     /// # Panics
     ///
-    /// If a column has no such entry, or the valuation date is none.
+    /// If a column has no such entry, or the head is outside its ranges.
     #[must_use]
     pub fn position(&self, number: usize) -> Position {
-        let valuation = Valuation::on(self.date).expect("a valuation date");
-        Position::of(&valuation, &self.row(number))
+        let account = Account::of(self.head).expect("a date and a letter");
+        Position::of(&account, &self.row(number))
     }
 
     /// Adds a holding and its price.

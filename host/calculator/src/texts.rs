@@ -5,13 +5,14 @@
 
 use crate::samples::Random;
 use crate::{
-    CURRENCIES, FIELDS, FIRST_CORPORATION, ISSUERS, KINDS, RATINGS, SIDES, Sheet, VALUED,
+    ACCOUNTS, CURRENCIES, FIELDS, FIRST_CORPORATION, ISSUERS, KINDS, RATINGS, SIDES, Sheet, VALUED,
     with_check_digits,
 };
 
-/// The records of the file that document 01 prints: the valuation date, three holdings and two lines.
+/// The records of the file that document 01 prints, an approved participant's: the head, three holdings and two
+/// lines.
 pub const PRINTED: [&str; 6] = [
-    "D,2025-01-01,,,,,,,",
+    "D,2025-01-01,P,,,,,,",
     "H,L,C,CA,2030-06-24,1000000,0,CAD,",
     "H,S,B,CA,2030-06-24,600000,5840,CAD,",
     "H,S,R,ON,2030-06-24,300000,6570,CAD,",
@@ -19,8 +20,8 @@ pub const PRINTED: [&str; 6] = [
     "P,0,2,300000,,,,,",
 ];
 
-/// Fields of a valuation date that are filled, its letter among them; the others are empty.
-const FILLED_OF_DATE: usize = 2;
+/// Fields of a head that are filled, its letter among them; the others are empty.
+const FILLED_OF_HEAD: usize = 3;
 /// Fields of a holding that are filled, its letter among them and, of a corporation, its rating; the others are
 /// empty.
 const FILLED_OF_HOLDING: usize = 9;
@@ -34,10 +35,16 @@ pub fn date_text(number: u64) -> String {
     format!("{year:04}-{month:02}-{day:02}")
 }
 
-/// The record of a valuation date with this text.
+/// The head of an approved participant's book on the valuation date with this text.
 #[must_use]
 pub fn valued(date: &str) -> String {
-    format!("D,{date}{}", ",".repeat(FIELDS - FILLED_OF_DATE))
+    head(date, "P")
+}
+
+/// The head of a book on the valuation date with this text, in the account with this letter.
+#[must_use]
+pub fn head(date: &str, account: &str) -> String {
+    format!("D,{date},{account}{}", ",".repeat(FIELDS - FILLED_OF_HEAD))
 }
 
 /// The record of a government's holding in CAD with these fields after its letter and before its currency.
@@ -89,8 +96,8 @@ pub fn line(fields: &str) -> String {
     format!("P,{fields}{}", ",".repeat(FIELDS - FILLED_OF_LINE))
 }
 
-/// The file of governments' holdings in CAD and lines with these fields after their letters, valued on document
-/// 01's date.
+/// The file of governments' holdings in CAD and lines with these fields after their letters, an approved
+/// participant's valued on document 01's date.
 #[must_use]
 pub fn file(holdings: &[&str], lines: &[&str]) -> Vec<u8> {
     let mut records: Vec<String> = holdings.iter().map(|fields| holding(fields)).collect();
@@ -98,10 +105,16 @@ pub fn file(holdings: &[&str], lines: &[&str]) -> Vec<u8> {
     dated(&records)
 }
 
-/// The file of these records after document 01's valuation date.
+/// The file of these records after the head of an approved participant's book on document 01's valuation date.
 pub fn dated<T: AsRef<str>>(records: &[T]) -> Vec<u8> {
-    let date = valued(&date_text(VALUED));
-    [joined(&[date]), joined(records)].concat()
+    dated_for("P", records)
+}
+
+/// The file of these records after the head of a book on document 01's valuation date, in the account with this
+/// letter.
+pub fn dated_for<T: AsRef<str>>(account: &str, records: &[T]) -> Vec<u8> {
+    let head = head(&date_text(VALUED), account);
+    [joined(&[head]), joined(records)].concat()
 }
 
 /// The last record of a file of equal lines: as the others, and with a fault for each refusal of a record, each
@@ -123,7 +136,7 @@ pub fn last_lines() -> [(&'static str, String, u64); 6] {
     ]
 }
 
-/// The file of document 01's valuation date and so many lines, equal but for the last.
+/// The file of a head on document 01's valuation date and so many lines, equal but for the last.
 ///
 /// # Panics
 ///
@@ -177,15 +190,16 @@ pub fn quoted_at(record: &str, places: &[usize]) -> String {
     fields.join(",")
 }
 
-/// The records of a sheet: the valuation date, holdings, lines.
+/// The records of a sheet: head, holdings, lines.
 ///
 /// # Panics
 ///
-/// If a side, kind, issuer, currency or rating is unknown, or the columns differ in length.
+/// If an account, side, kind, issuer, currency or rating is unknown, or the columns differ in length.
 #[must_use]
 pub fn records(sheet: &Sheet) -> Vec<String> {
     let mut records = Vec::with_capacity(1 + sheet.side.len() + sheet.long.len());
-    records.push(valued(&date_text(sheet.date)));
+    let account = ACCOUNTS[sheet.head.letter as usize];
+    records.push(head(&date_text(sheet.head.date), account));
     for (number, price) in sheet.price.iter().enumerate() {
         let row = sheet.row(number);
         let side = SIDES[row.side as usize];

@@ -1,8 +1,9 @@
 //! Faults to plant in a proposal that is accepted, and the paper's order between them.
 
-use margin_calculator::{NOT_RATED, Row, Sheet, VALUED};
+use margin_calculator::{NOT_RATED, Row, Sheet, VALUED, participant};
 use margin_host::Line;
 
+use super::Run;
 use super::lent::Lent;
 
 /// The longs with lines of the sound sheet are 0 to 5, the shorts 6 to 11.
@@ -14,8 +15,8 @@ pub const HOLDINGS: u64 = 14;
 /// Stands for 24 of the valuation date among the numbers of faults.
 pub const VALUATION: u64 = 1_024;
 /// The numbers that the check can give.
-pub const NUMBERS: [u64; 21] = [
-    1, 2, 3, 4, 5, 6, 7, 8, 9, 10, 11, 12, 13, 14, 15, 16, 17, 23, 24, 25, VALUATION,
+pub const NUMBERS: [u64; 22] = [
+    1, 2, 3, 4, 5, 6, 7, 8, 9, 10, 11, 12, 13, 14, 15, 16, 17, 23, 24, 25, 26, VALUATION,
 ];
 /// The numbers of a holding's faults, in their order.
 const OF_A_HOLDING: [u64; 9] = [4, 5, 6, 24, 7, 8, 23, 25, 10];
@@ -54,7 +55,7 @@ impl Fault {
         }
     }
 
-    /// The papers' order: 1, 3, 9, 2; 24 of the valuation date; each holding in turn; each line in turn; 16;
+    /// The papers' order: 1, 3, 9, 2; 24 of the valuation date; 26; each holding in turn; each line in turn; 16;
     /// 17.
     pub fn turn(&self) -> (u64, u64, u64) {
         let group = match self.number {
@@ -63,10 +64,11 @@ impl Fault {
             9 => 2,
             2 => 3,
             VALUATION => 4,
-            4..=8 | 10 | 23..=25 => 5,
-            11..=15 => 6,
-            16 => 7,
-            _ => 8,
+            26 => 5,
+            4..=8 | 10 | 23..=25 => 6,
+            11..=15 => 7,
+            16 => 8,
+            _ => 9,
         };
         let of_a_holding = OF_A_HOLDING
             .iter()
@@ -106,7 +108,7 @@ pub fn sound() -> Sheet {
         currency: 0,
         rating: NOT_RATED,
     };
-    let mut sheet = Sheet::empty(VALUED);
+    let mut sheet = Sheet::empty(participant(VALUED));
     for side in [0, 1] {
         for _ in 0..PAIRS {
             sheet.add_holding(coupon(side), RATE);
@@ -177,7 +179,8 @@ fn plant_in_sheet(sheet: &mut Sheet, fault: &Fault, all: &[Fault]) {
             }
         }
         25 => sheet.rating[at] = [0, 1, 3, u64::MAX][at % 4],
-        VALUATION => sheet.date = 2025_02_29,
+        26 => sheet.head.letter = 2,
+        VALUATION => sheet.head.date = 2025_02_29,
         // The leg that a wrong side on the same line leaves free.
         11 if all.contains(&Fault::at(12, fault.place, 0)) => sheet.long[at] = 1_000,
         11 => sheet.short[at] = 1_000,
@@ -188,6 +191,23 @@ fn plant_in_sheet(sheet: &mut Sheet, fault: &Fault, all: &[Fault]) {
         16 => uncover(sheet, at, fault.second as usize),
         17 => sheet.price[LONE_LONG as usize] = 1,
         _ => {}
+    }
+}
+
+/// Demands that a fault of the head is named with each other one, but for those of these numbers.
+pub fn comes_after(run: &mut Run, own: u64, earlier: &[u64]) {
+    let own = Fault::at(own, 0, 0);
+    for number in NUMBERS {
+        for place in 0..Fault::places(number) {
+            let fault = Fault::at(number, place, PAIRS);
+            let first = if earlier.contains(&number) {
+                fault
+            } else {
+                own
+            };
+            let what = format_args!("{fault:?}");
+            run.refused(&plant(&[fault, own]), first.answer(), what);
+        }
     }
 }
 

@@ -7,7 +7,7 @@ use std::ops::Range;
 use margin_calculator::samples::Random;
 use margin_calculator::texts::PRINTED;
 use margin_calculator::{Sheet, margin_leis, margin_read};
-use margin_host::{Columns, raw};
+use margin_host::{Columns, Head, raw};
 
 use super::lent::{NAMES, OF_HOLDINGS, pattern};
 
@@ -17,6 +17,8 @@ const GUARD: usize = 13;
 const ROOM_OF_LEIS: usize = 20 * 256 + 1;
 /// The lists that a reader fills.
 pub const LISTS: usize = NAMES.len();
+/// The bytes of the head: the valuation date and the account's letter.
+pub const HEAD_LENGTH: usize = 16;
 /// The head comes after the text, then the lists and then the answer.
 const HEAD: usize = 1;
 const FIRST_LIST: usize = 2;
@@ -58,7 +60,7 @@ impl File {
         let entries = |at| if at < OF_HOLDINGS { holdings } else { lines };
         File {
             text: text.to_vec(),
-            head: 8,
+            head: HEAD_LENGTH,
             lists: std::array::from_fn(|at| 8 * entries(at)),
             answer: 16,
         }
@@ -123,8 +125,9 @@ impl Read {
     /// What was read, from the front of the head and of the lists.
     pub fn sheet(&self) -> Sheet {
         let (holdings, lines) = self.figures().expect("a file that is read has an answer");
-        let date = self.head().first_chunk().expect("and a head");
-        let mut sheet = Sheet::empty(u64::from_le_bytes(*date));
+        let head = self.head().as_chunks().0;
+        let [date, letter] = [head[0], head[1]].map(u64::from_le_bytes);
+        let mut sheet = Sheet::empty(Head { date, letter });
         for (at, list) in sheet.each_mut().into_array().into_iter().enumerate() {
             let count = if at < OF_HOLDINGS { holdings } else { lines } as usize;
             let entries = self.list(at).as_chunks::<8>().0;
@@ -144,7 +147,7 @@ impl Read {
         if let Some((holdings, lines)) = self.figures() {
             written.push((ANSWER, 16));
             if self.number == 0 {
-                written.push((HEAD, 8));
+                written.push((HEAD, HEAD_LENGTH));
                 let lists = File::exact(&[], holdings as usize, lines as usize).lists;
                 written.extend(
                     lists
@@ -206,7 +209,7 @@ impl Files {
             "the answer: {}",
             story()
         );
-        assert!(ours.head() == calculated.head(), "the date: {}", story());
+        assert!(ours.head() == calculated.head(), "the head: {}", story());
         for (at, name) in NAMES.iter().enumerate() {
             assert!(ours.list(at) == calculated.list(at), "{name}: {}", story());
         }

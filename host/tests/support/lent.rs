@@ -3,7 +3,7 @@
 use std::fmt;
 
 use margin_calculator::Sheet;
-use margin_host::Columns;
+use margin_host::{Columns, Head};
 
 /// Bytes on each side of a list that nobody may write.
 const GUARD: usize = 24;
@@ -18,7 +18,7 @@ pub const OF_HOLDINGS: usize = 8;
 /// The bytes that a call gets. The lists are filled with a pattern.
 #[derive(Clone)]
 pub struct Lent {
-    pub date: u64,
+    pub head: Head,
     pub columns: [Vec<u8>; NAMES.len()],
     pub remainder: Vec<u8>,
     pub ranking: Vec<u8>,
@@ -36,7 +36,7 @@ pub struct Left {
     pub answer: Vec<u8>,
 }
 
-type Call = fn(u64, &Columns<&[u8]>, &mut [u8], &mut [u8], &mut [u8]) -> u64;
+type Call = fn(u64, u64, &Columns<&[u8]>, &mut [u8], &mut [u8], &mut [u8]) -> u64;
 
 impl Lent {
     /// The columns of a sheet, with lists that are as long as they must be.
@@ -44,7 +44,7 @@ impl Lent {
         let columns = sheet.bytes().into_array();
         let bytes = columns[0].len();
         Lent {
-            date: sheet.date,
+            head: sheet.head,
             columns,
             remainder: pattern(bytes, 0x51),
             ranking: pattern(bytes, 0xA3),
@@ -74,7 +74,8 @@ impl Lent {
             let end = list.len() - GUARD;
             &mut list[GUARD + shift..end]
         });
-        let number = call(self.date, &lent, remainder, ranking, answer);
+        let Head { date, letter } = self.head;
+        let number = call(date, letter, &lent, remainder, ranking, answer);
         let [remainder, ranking, answer] =
             lists.each_ref().map(|list| inside(list, shift).to_vec());
         let beside = [&remainder, &ranking, &answer].map(|list| guarded(list, shift));
@@ -121,7 +122,7 @@ impl Left {
 
 impl fmt::Debug for Lent {
     fn fmt(&self, f: &mut fmt::Formatter<'_>) -> fmt::Result {
-        writeln!(f, "valued on {}", self.date)?;
+        writeln!(f, "{:?}", self.head)?;
         for (name, column) in NAMES.iter().zip(&self.columns) {
             let rest = &column[column.len() / 8 * 8..];
             writeln!(f, "{name}: {:?} and bytes {rest:?}", Left::entries(column))?;

@@ -1,8 +1,8 @@
-//! Sheets in the papers' numbers, and the papers' rates and pairs, typed from them. All are valued on
-//! 2025-01-01.
+//! Sheets in the papers' numbers, and the papers' rates and pairs, typed from them. All are valued on 2025-01-01,
+//! and approved participants' where no head is given.
 
-use margin_calculator::{NOT_RATED, Row, Sheet, VALUED, calendar};
-use margin_host::Line;
+use margin_calculator::{NOT_RATED, Row, Sheet, VALUED, calendar, client, participant};
+use margin_host::{Head, Line};
 
 use super::Run;
 use super::lent::Lent;
@@ -20,6 +20,11 @@ pub const GB: u64 = 12;
 pub const CAD: u64 = 0;
 pub const USD: u64 = 1;
 pub const GBP: u64 = 2;
+pub const SINGLE_A: u64 = 0;
+pub const LOWER: u64 = 1;
+
+/// An approved participant's account and a client's.
+pub const HEADS: [Head; 2] = [participant(VALUED), client(VALUED)];
 
 /// A government's holding in CAD.
 pub fn holding(side: u64, kind: u64, issuer: u64, maturity: u64, value: u64) -> Row {
@@ -36,7 +41,12 @@ pub fn holding(side: u64, kind: u64, issuer: u64, maturity: u64, value: u64) -> 
 
 /// A sheet of holdings, each with its price, and of lines.
 pub fn sheet(holdings: &[(Row, u64)], lines: &[(u64, u64, u64)]) -> Sheet {
-    let mut sheet = Sheet::empty(VALUED);
+    sheet_under(participant(VALUED), holdings, lines)
+}
+
+/// The same under this head.
+pub fn sheet_under(head: Head, holdings: &[(Row, u64)], lines: &[(u64, u64, u64)]) -> Sheet {
+    let mut sheet = Sheet::empty(head);
     for (holding, price) in holdings {
         sheet.add_holding(*holding, *price);
     }
@@ -53,18 +63,83 @@ pub fn sheet(holdings: &[(Row, u64)], lines: &[(u64, u64, u64)]) -> Sheet {
 /// A leg of a pair: kind, issuer, maturity and currency.
 pub type Leg = (u64, u64, u64, u64);
 
+/// The same with a rating.
+pub type RatedLeg = (u64, u64, u64, u64, u64);
+
+/// A government's leg, which has no rating.
+pub fn unrated((kind, issuer, maturity, currency): Leg) -> RatedLeg {
+    (kind, issuer, maturity, currency, NOT_RATED)
+}
+
+/// The holding of one cent that a government's leg is.
+pub fn one_cent(side: u64, leg: Leg) -> Row {
+    rated_cent(side, unrated(leg))
+}
+
 /// The holding of one cent that a leg is.
-pub fn one_cent(side: u64, (kind, issuer, maturity, currency): Leg) -> Row {
+pub fn rated_cent(side: u64, (kind, issuer, maturity, currency, rating): RatedLeg) -> Row {
     Row {
         currency,
+        rating,
         ..holding(side, kind, issuer, maturity, 1)
     }
 }
 
-/// A long with its price and a short at price 0, of one cent each, with a line.
+/// Governments' legs: a long with its price and a short at price 0, of one cent each, with a line.
 pub fn two_legs(long: Leg, price: u64, short: Leg) -> Lent {
-    let legs = [(one_cent(LONG, long), price), (one_cent(SHORT, short), 0)];
-    Lent::of(&sheet(&legs, &[(0, 1, 1)]))
+    rated_legs(participant(VALUED), unrated(long), price, unrated(short))
+}
+
+/// Under a head a long with its price and a short at price 0, of one cent each, with a line.
+pub fn rated_legs(head: Head, long: RatedLeg, price: u64, short: RatedLeg) -> Lent {
+    legs_under(head, long, price, short, &[(0, 1, 1)])
+}
+
+/// The same without a line.
+pub fn unpaired_legs(head: Head, long: RatedLeg, price: u64, short: RatedLeg) -> Lent {
+    legs_under(head, long, price, short, &[])
+}
+
+fn legs_under(
+    head: Head,
+    long: RatedLeg,
+    price: u64,
+    short: RatedLeg,
+    lines: &[(u64, u64, u64)],
+) -> Lent {
+    let legs = [
+        (rated_cent(LONG, long), price),
+        (rated_cent(SHORT, short), 0),
+    ];
+    Lent::of(&sheet_under(head, &legs, lines))
+}
+
+/// Every kind, currency and rating of some corporations, at this maturity.
+pub fn corporate_legs(corporations: &[u64], maturity: u64) -> Vec<RatedLeg> {
+    let mut legs = Vec::new();
+    for &issuer in corporations {
+        for kind in [BOND, COUPON, RESIDUAL] {
+            for currency in [CAD, USD, GBP] {
+                legs.extend(
+                    [SINGLE_A, LOWER].map(|rating| (kind, issuer, maturity, currency, rating)),
+                );
+            }
+        }
+    }
+    legs
+}
+
+/// Every kind and currency of some governments, at this maturity.
+pub fn government_legs(maturity: u64) -> Vec<RatedLeg> {
+    let mut legs = Vec::new();
+    for issuer in [CA, ON, US, GB] {
+        for kind in [BOND, COUPON, RESIDUAL] {
+            legs.extend(
+                [CAD, USD, GBP].map(|currency| (kind, issuer, maturity, currency, NOT_RATED)),
+            );
+        }
+    }
+    legs
 }
 
 /// The paper's table, typed from it: the first day, the last day, and the rates of Canada bond, Canada
@@ -128,15 +203,32 @@ pub fn paper_pair(long: Leg, short: Leg) -> Option<(u64, u64)> {
     rate.map(|rate| (rate, one + other - rate))
 }
 
-/// A long and a short of one cent with a line: refused with 13, or accepted with the pair's rate and, at one
-/// unit less, uncovered.
+/// A long and a short of governments, of one cent each, with a line, in either account: judged as the papers say, by
+/// which a client has what is in CAD alone.
 pub fn one_pair(run: &mut Run, long: Leg, short: Leg) {
-    let what = format_args!("{long:?} with {short:?}");
-    match paper_pair(long, short) {
+    let wanted = paper_pair(long, short);
+    let in_cad = wanted.filter(|_| long.3 == CAD);
+    for (head, wanted) in HEADS.into_iter().zip([wanted, in_cad]) {
+        pair_under(run, head, unrated(long), unrated(short), wanted);
+    }
+}
+
+/// Under a head a long and a short of one cent with a line: refused with 13, or accepted with the pair's rate and, at
+/// one unit less than it saves, uncovered.
+pub fn pair_under(
+    run: &mut Run,
+    head: Head,
+    long: RatedLeg,
+    short: RatedLeg,
+    wanted: Option<(u64, u64)>,
+) {
+    let what = format_args!("{long:?} with {short:?}, {head:?}");
+    let legs = |price| rated_legs(head, long, price, short);
+    match wanted {
         Some((rate, saving)) => {
-            run.accepted(&two_legs(long, saving, short), rate, what);
-            run.refused(&two_legs(long, saving - 1, short), (16, 0, 1), what);
+            run.accepted(&legs(saving), rate, what);
+            run.refused(&legs(saving - 1), (16, 0, 1), what);
         }
-        None => run.refused(&two_legs(long, 43_800, short), (13, 0, 0), what),
+        None => run.refused(&legs(43_800), (13, 0, 0), what),
     }
 }

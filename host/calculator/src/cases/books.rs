@@ -1,12 +1,12 @@
 //! Books of many shapes and sizes with best proposals, proposals next to them, and ties in the ranking.
 
 use super::{Files, List};
-use crate::Sheet;
 use crate::samples::{
-    ANY, CORPORATE, CORPORATIONS, DOMESTIC, GOVERNMENTS, Random, SHAPES, Shape, best_sheet, book,
-    split_lines,
+    ANY, CLIENTS, CORPORATE, CORPORATIONS, DOMESTIC, GOVERNMENTS, Random, SHAPES, Shape,
+    best_sheet, book, split_lines,
 };
 use crate::texts::{dated, file, holding, joined, quoted, records, text_of};
+use crate::{ACCOUNTS, Sheet};
 
 const SEED: u64 = 0x0C01;
 
@@ -69,14 +69,28 @@ pub(super) fn add(list: &mut List) {
         ("in any currency", GOVERNMENTS),
         ("of any issuer and currency", ANY),
         ("of many corporations", MANY_CORPORATIONS),
+        ("of a client", CLIENTS),
     ] {
         let sheet = best_sheet(&book(&mut random, &shape, 256));
         let title = format!("best proposal of 256 holdings {what}");
         list.add(title, text_of(&sheet), "");
     }
+    both_accounts(list, &mut random);
     full(list, &mut random);
     next_to_best(list, &mut random);
     ties(list);
+}
+
+/// The same holdings in a participant's account and in a client's.
+fn both_accounts(list: &mut List, random: &mut Random) {
+    for shape in [ANY, GOVERNMENTS, CORPORATE, DOMESTIC] {
+        let mut sheet = book(random, &shape, 30);
+        for (letter, account) in (0..).zip(ACCOUNTS) {
+            sheet.head.letter = letter;
+            let title = format!("best proposal for {account}: {}", shape.name);
+            list.add(title, text_of(&best_sheet(&sheet)), "");
+        }
+    }
 }
 
 /// As many holdings and lines as there may be, every field in quotes.

@@ -329,7 +329,7 @@ fn ratings(list: &mut List) {
         let title = format!("21: '{rating}' as the rating of a government");
         list.add(title, of("CA", rating), "X,21,1,0");
     }
-    for (at, what) in [(0, "the valuation date"), (9, "a line")] {
+    for (at, what) in [(0, "the head"), (9, "a line")] {
         for rating in ["Y", "N"] {
             let title = format!("21: {rating} as the last field of {what}");
             let file = with_fields(&[(at, FIELDS - 1, rating)]);

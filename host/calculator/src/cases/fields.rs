@@ -89,8 +89,8 @@ fn currencies(list: &mut List) {
 }
 
 fn empty_fields(list: &mut List) {
-    for field in 2..FIELDS {
-        let title = format!("21: field {field} of the valuation date is filled");
+    for field in 3..FIELDS {
+        let title = format!("21: field {field} of the head is filled");
         list.add(title, with_fields(&[(0, field, "0")]), "X,21,0,0");
     }
     for field in 4..FIELDS {

@@ -42,12 +42,12 @@ pub(super) fn add(list: &mut List) {
     alone(list);
     line_ends(list);
     let sound = records();
-    let date = quoted_at(&sound[0], &[1, 3, 7, 8]);
+    let head = quoted_at(&sound[0], &[1, 2, 3, 7, 8]);
     let some = quoted_at(&sound[1], &[0, 2, 4, 6, 7, 8]);
     let empty = quoted_at(&sound[9], &[1, 4, 6, 7, 8]);
     list.add(
         "some fields in quotes",
-        with(&[(0, date), (1, some), (9, empty)]),
+        with(&[(0, head), (1, some), (9, empty)]),
         FIRST,
     );
     for (title, record, number) in at_record_4() {

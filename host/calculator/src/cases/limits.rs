@@ -73,7 +73,7 @@ fn orders() -> [Order; 14] {
     ]
 }
 
-/// No file of 65,536 bytes is accepted: what is read has at most 48,423.
+/// No file of 65,536 bytes is accepted: what is read has at most 48,424.
 fn lengths(list: &mut List) {
     let (sound, price) = (joined(&records()), holding("L,C,CA,2025-01-02,1,#"));
     let (before, after) = price.split_once('#').expect("the mark of the digits");

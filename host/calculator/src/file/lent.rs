@@ -15,18 +15,18 @@ pub fn margin_read(
     answer: &mut [u8],
 ) -> u64 {
     let fitting = read(text).and_then(|sheet| {
-        let fits = head.len() >= 8 && fits(&sheet, columns) && answer.len() >= 16;
+        let fits = head.len() >= 16 && fits(&sheet, columns) && answer.len() >= 16;
         fits.then_some(sheet).ok_or(Refusal::ListTooShort)
     });
     let (number, first, second) = match &fitting {
         Ok(sheet) => {
-            head[..8].copy_from_slice(&sheet.date.to_le_bytes());
+            write_two(head, sheet.head.date, sheet.head.letter);
             write_columns(sheet, columns);
             (0, sheet.side.len() as u64, sheet.long.len() as u64)
         }
         Err(refusal) => (refusal.number(), refusal.place(), 0),
     };
-    write_answer(answer, first, second);
+    write_two(answer, first, second);
     number
 }
 
@@ -47,13 +47,13 @@ pub fn margin_leis(text: &[u8], leis: &mut [u8], answer: &mut [u8]) -> u64 {
         }
         Err(refusal) => (refusal.number(), refusal.place()),
     };
-    write_answer(answer, first, 0);
+    write_two(answer, first, 0);
     number
 }
 
-/// An answer that is too short for both numbers is kept.
-fn write_answer(answer: &mut [u8], first: u64, second: u64) {
-    if let ([low, high, ..], _) = answer.as_chunks_mut::<8>() {
+/// Writes two numbers at the front of a list. One that is too short for both is kept.
+fn write_two(list: &mut [u8], first: u64, second: u64) {
+    if let ([low, high, ..], _) = list.as_chunks_mut::<8>() {
         *low = first.to_le_bytes();
         *high = second.to_le_bytes();
     }

@@ -1,6 +1,6 @@
 //! What the program `margin` prints for a file.
 
-use margin_host::Refusal;
+use margin_host::{Head, Refusal};
 
 use super::reader::read;
 use crate::{Sheet, margin_check};
@@ -23,8 +23,15 @@ fn report(sheet: &Sheet) -> Result<Vec<String>, Refusal> {
     let (mut remainder, mut ranking, mut answer) = (vec![0; bytes], vec![0; bytes], [0; 16]);
     let columns = sheet.bytes();
     let columns = columns.each_ref().map(Vec::as_slice);
-    let date = sheet.date;
-    let number = margin_check(date, &columns, &mut remainder, &mut ranking, &mut answer);
+    let Head { date, letter } = sheet.head;
+    let number = margin_check(
+        date,
+        letter,
+        &columns,
+        &mut remainder,
+        &mut ranking,
+        &mut answer,
+    );
     let [first, second] = [0, 1].map(|at| entry(&answer, at));
     if number != 0 {
         let refusal = Refusal::from_parts(number, first, second);
@@ -70,6 +77,10 @@ mod tests {
         assert_eq!(print_with("P,0,2", "P,0,\"2"), b"X,19,5,0\r\n");
         assert_eq!(print_with("2025-01-01", "2025-02-29"), b"X,24,0,0\r\n");
         assert_eq!(print_with("2025-01-01", "2030-06-24"), b"X,7,0,0\r\n");
+        assert_eq!(
+            print_with("D,2025-01-01,P", "D,2025-01-01,"),
+            b"X,21,0,0\r\n"
+        );
         assert_eq!(print(&[b','; 65_537]), b"X,18,0,0\r\n");
     }
 

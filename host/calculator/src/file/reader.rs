@@ -2,7 +2,7 @@
 
 use std::collections::HashMap;
 
-use margin_host::{Line, Refusal};
+use margin_host::{Head, Line, Refusal};
 
 use super::records::{IllFormed, Records};
 use crate::lei::{Lei, in_form, is_good};
@@ -13,6 +13,8 @@ use crate::{FIRST_CORPORATION, NOT_RATED, Row, Sheet};
 pub const MOST_BYTES: usize = 65_536;
 /// The fields of every record.
 pub const FIELDS: usize = 9;
+/// An approved participant's account and a client's, in the order of their numbers.
+pub const ACCOUNTS: [&str; 2] = ["P", "C"];
 /// Long and short, in the order of their numbers.
 pub const SIDES: [&str; 2] = ["L", "S"];
 /// Bond, stripped coupon and residual, in the order of their numbers.
@@ -31,8 +33,8 @@ const DIGITS: usize = 6;
 
 /// The contents of a record.
 enum Contents {
-    /// The valuation date.
-    Date(u64),
+    /// The valuation date and the account's letter.
+    Head(Head),
     /// A holding and its price; of a corporation its LEI, which has no number yet.
     Holding(Row, u64, Option<Lei>),
     Line(Line),
@@ -45,7 +47,7 @@ impl Contents {
         match self {
             Contents::Holding(row, _, Some(lei)) => is_good(lei) && row.rating != NOT_RATED,
             Contents::Holding(row, _, None) => row.rating == NOT_RATED,
-            Contents::Date(_) | Contents::Line(_) => true,
+            Contents::Head(_) | Contents::Line(_) => true,
         }
     }
 }
@@ -86,7 +88,8 @@ pub(super) fn read_with_leis(text: &[u8]) -> Result<(Sheet, Vec<Lei>), Refusal> 
     if text.is_empty() {
         return Err(Refusal::RecordOutOfOrder { record: 0 });
     }
-    let mut sheet = Sheet::empty(0);
+    // The first record says whose sheet it is, and of which date.
+    let mut sheet = Sheet::empty(Head { date: 0, letter: 0 });
     let mut corporations = Corporations::default();
     let mut records = Records::of(text);
     let mut record = 0;
@@ -100,7 +103,7 @@ pub(super) fn read_with_leis(text: &[u8]) -> Result<(Sheet, Vec<Lei>), Refusal> 
             return Err(Refusal::LeiOrRatingInvalid { record });
         }
         let in_order = match contents {
-            Contents::Date(_) => record == 0,
+            Contents::Head(_) => record == 0,
             Contents::Holding(..) => record > 0 && sheet.long.is_empty(),
             Contents::Line(_) => record > 0,
         };
@@ -114,7 +117,7 @@ pub(super) fn read_with_leis(text: &[u8]) -> Result<(Sheet, Vec<Lei>), Refusal> 
             Contents::Line(_) if sheet.long.len() == MOST_LINES => {
                 return Err(Refusal::TooManyLines);
             }
-            Contents::Date(date) => sheet.date = date,
+            Contents::Head(head) => sheet.head = head,
             Contents::Holding(mut holding, price, lei) => {
                 if let Some(lei) = lei {
                     holding.issuer = corporations.number(lei);
@@ -130,7 +133,10 @@ pub(super) fn read_with_leis(text: &[u8]) -> Result<(Sheet, Vec<Lei>), Refusal> 
 
 fn contents(fields: [&[u8]; FIELDS]) -> Option<Contents> {
     match fields {
-        [b"D", day, b"", b"", b"", b"", b"", b"", b""] => Some(Contents::Date(date(day)?)),
+        [b"D", day, letter, b"", b"", b"", b"", b"", b""] => Some(Contents::Head(Head {
+            date: date(day)?,
+            letter: place_among(&ACCOUNTS, letter)?,
+        })),
         [
             b"H",
             side,

@@ -6,13 +6,13 @@ use margin_calculator::samples::{
     ANY, CORPORATE, DOMESTIC, FOREIGN, GOVERNMENTS, PERIODS, Random, Shape, best_sheet, holdings,
     split_lines,
 };
-use margin_calculator::{FIRST_CORPORATION, Row, Sheet, VALUED, margin_check};
-use margin_host::{Columns, raw};
+use margin_calculator::{FIRST_CORPORATION, Row, Sheet, VALUED, client, margin_check, participant};
+use margin_host::{Columns, Head, raw};
 
 use crate::SEED;
 use crate::timing::{BATCHES, rates};
 
-type Call = fn(u64, &Columns<&[u8]>, &mut [u8], &mut [u8], &mut [u8]) -> u64;
+type Call = fn(u64, u64, &Columns<&[u8]>, &mut [u8], &mut [u8], &mut [u8]) -> u64;
 
 /// Holdings in CAD in the first period alone, where days are counted.
 const FIRST_PERIOD: Shape = Shape {
@@ -42,6 +42,9 @@ pub fn run() {
     println!(
         "corporations: 4, and a fourth of the holdings, in CAD. Any currency, any issuer: also what no paragraph pairs."
     );
+    println!(
+        "A client's: the holdings of any issuer in a client's account; all other accounts are approved participants'."
+    );
     println!("Valued on 2025-01-01. Outputs are not cleared before a call.");
     println!("Median of {BATCHES} alternating batches; calls a second, and their ratio.");
     println!();
@@ -62,7 +65,9 @@ pub fn run() {
         }
     }
     print_line("any currency", &sheet_of(&book_of(256, &GOVERNMENTS)), 0);
-    print_line("any issuer", &sheet_of(&book_of(256, &ANY)), 0);
+    let any_issuer = book_of(256, &ANY);
+    print_line("any issuer", &sheet_of(&any_issuer), 0);
+    print_line("a client's", &sheet_under(client(VALUED), &any_issuer), 0);
     print_line("uncovered late", &uncovered_late(), 16);
     print_line("nothing paired", &nothing_paired(), 0);
 }
@@ -77,9 +82,14 @@ fn print_line(book: &str, sheet: &Sheet, number: u64) {
     );
 }
 
-/// A best proposal, its lines split until there are twice as many as holdings.
+/// A best proposal of a participant, its lines split until there are twice as many as holdings.
 pub fn sheet_of(book: &[Row]) -> Sheet {
-    let mut sheet = best_sheet(&Sheet::of_rows(VALUED, book, 0));
+    sheet_under(participant(VALUED), book)
+}
+
+/// A best proposal under a head, its lines split until there are twice as many as holdings.
+fn sheet_under(head: Head, book: &[Row]) -> Sheet {
+    let mut sheet = best_sheet(&Sheet::of_rows(head, book, 0));
     split_lines(&mut sheet, 2 * book.len());
     sheet
 }
@@ -174,7 +184,7 @@ fn nothing_paired() -> Sheet {
     for row in &mut book {
         row.kind = 0;
     }
-    Sheet::of_rows(VALUED, &book, 0)
+    Sheet::of_rows(participant(VALUED), &book, 0)
 }
 
 /// Calls a second of the check and of the plain check.
@@ -182,7 +192,7 @@ fn measure(sheet: &Sheet, number: u64) -> [f64; 2] {
     let calls: [Call; 2] = [raw::margin_check, margin_check];
     let columns = sheet.bytes();
     let columns = columns.each_ref().map(Vec::as_slice);
-    let (date, bytes) = (sheet.date, columns.side.len());
+    let (head, bytes) = (sheet.head, columns.side.len());
     let fresh = Lists {
         remainder: vec![1; bytes],
         ranking: vec![1; bytes],
@@ -190,8 +200,8 @@ fn measure(sheet: &Sheet, number: u64) -> [f64; 2] {
     };
     let [mut ours, mut plain] = calls.map(|_| fresh.clone());
     let numbers = [
-        call_once(calls[0], date, &columns, &mut ours),
-        call_once(calls[1], date, &columns, &mut plain),
+        call_once(calls[0], head, &columns, &mut ours),
+        call_once(calls[1], head, &columns, &mut plain),
     ];
     assert_eq!(numbers, [number; 2], "both give the number");
     assert!(ours == plain, "both leave the same bytes");
@@ -199,7 +209,7 @@ fn measure(sheet: &Sheet, number: u64) -> [f64; 2] {
         &mut || {
             black_box(call_once(
                 calls[0],
-                black_box(date),
+                black_box(head),
                 black_box(&columns),
                 black_box(&mut ours),
             ));
@@ -207,7 +217,7 @@ fn measure(sheet: &Sheet, number: u64) -> [f64; 2] {
         &mut || {
             black_box(call_once(
                 calls[1],
-                black_box(date),
+                black_box(head),
                 black_box(&columns),
                 black_box(&mut plain),
             ));
@@ -217,9 +227,10 @@ fn measure(sheet: &Sheet, number: u64) -> [f64; 2] {
     rates
 }
 
-fn call_once(call: Call, date: u64, columns: &Columns<&[u8]>, lists: &mut Lists) -> u64 {
+fn call_once(call: Call, head: Head, columns: &Columns<&[u8]>, lists: &mut Lists) -> u64 {
     call(
-        date,
+        head.date,
+        head.letter,
         columns,
         &mut lists.remainder,
         &mut lists.ranking,

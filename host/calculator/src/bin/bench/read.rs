@@ -20,22 +20,22 @@ type LeisCall = fn(&[u8], &mut [u8], &mut [u8]) -> u64;
 const ROOM_OF_LEIS: usize = 20 * 256;
 
 /// What a call writes: the head, the columns and the answer.
-type Written = ([u8; 8], Columns<Vec<u8>>, [u8; 16]);
+type Written = ([u8; 16], Columns<Vec<u8>>, [u8; 16]);
 
 /// The exported reader and the calculator's.
 const CALLS: [Call; 2] = [raw::margin_read, margin_read];
 
-/// A valuation date, 256 holdings and 512 lines that the check accepts.
+/// A head, 256 holdings and 512 lines that the check accepts.
 pub fn full_file() -> Vec<String> {
     records(&sheet_of(&mixed_periods(256)))
 }
 
-/// A valuation date, 256 holdings of four corporations and 512 lines that the check accepts.
+/// A head, 256 holdings of four corporations and 512 lines that the check accepts.
 fn few_corporations() -> Vec<u8> {
     joined(&records(&sheet_of(&book_of(256, &CORPORATE))))
 }
 
-/// A valuation date and 256 holdings, each of another corporation.
+/// A head and 256 holdings, each of another corporation.
 fn many_corporations() -> Vec<u8> {
     let record = |number| {
         rated(
@@ -78,7 +78,7 @@ fn run_beside_plain() {
     println!(
         "Files of 256 holdings and 512 lines, texts of the greatest length, which are refused, and small files."
     );
-    println!("The longest file that can be read at all has 48,423 bytes.");
+    println!("The longest file that can be read at all has 48,424 bytes.");
     println!(
         "Median of {BATCHES} alternating batches; calls and megabytes (MB) a second, and their ratio."
     );
@@ -206,7 +206,7 @@ fn measure_lengths(texts: &[Vec<u8>; 2], number: u64) -> [[f64; 2]; 2] {
 /// Lists with room for every file.
 fn room() -> Written {
     (
-        [1; 8],
+        [1; 16],
         Columns::by_group(vec![1; 8 * 256], vec![1; 8 * 512]),
         [1; 16],
     )
