@@ -366,8 +366,8 @@ answers name sizes text list slice expected = record {
   stated = flatMap (λ _. expected) sizes;
 }
 
--- a D with its date and its letter, a participant's, and that of document 01's cases; an H of a currency and a rating, one of a currency, one in CAD, and a corporation's in CAD by its rating; and a P, by
--- the other fields that are filled: the empty ones follow, and CRLF
+-- a D with its date and its letter, a participant's, and that of document 01's cases; an H of a currency and a rating, one of a currency, one in CAD, and a
+-- corporation's in CAD by its rating; and a P, by the other fields that are filled: the empty ones follow, and CRLF
 abbrev pub D-by : String → String → List ℕ
 D-by date letter = ascii "D," ++ ascii date ++ ascii "," ++ ascii letter ++ ascii ",,,,,,\r\n"
 
