@@ -51,18 +51,24 @@ unfoldable pub namesOfWrongCases : List Case → List String
 namesOfWrongCases [] = []
 namesOfWrongCases (c ∷ cs) = cond (same (c .computed) (c .stated)) (namesOfWrongCases cs) (c .name ∷ namesOfWrongCases cs)
 
--- the head with a valuation date and a letter; a participant's and a client's; and the date of document 01's cases
+-- the head with a valuation date and a letter; the date of document 01's cases; a participant's and a client's head with a date, and with that one
 abbrev pub head : ℕ → ℕ → Head
 head date letter = record { date = date; letter = letter }
 
-abbrev pub participant : ℕ → Head
-participant date = head date 0
-
-abbrev pub client : ℕ → Head
-client date = head date 1
-
 abbrev pub new-year : ℕ
 new-year = 20250101
+
+abbrev pub participant-on : ℕ → Head
+participant-on date = head date 0
+
+abbrev pub client-on : ℕ → Head
+client-on date = head date 1
+
+abbrev pub participant : Head
+participant = participant-on new-year
+
+abbrev pub client : Head
+client = client-on new-year
 
 -- a row by itself under a head: its first fault, or 0 and its rate
 unfoldable pub alone : Head → Row → List ℕ
@@ -93,7 +99,7 @@ judged h one two rows prices lines =
 -- what lines make of a book, accepted or not: units and cents, and of holding 0 the remainder and its units
 unfoldable pub worked : List Row → List Line → List ℕ
 worked rows lines =
-    let b = bookOf (accountOf (participant new-year)) rows [] in
+    let b = bookOf (accountOf participant) rows [] in
     unitsOf b lines ∷ centsOf (unitsOf b lines) ∷ remainder b lines 0 ∷ margin b lines 0 ∷ []
 
 -- long, short, amount
@@ -114,24 +120,24 @@ abbrev flag : Bool → ℕ
 flag b = cond b 1 0
 
 abbrev pub rate : String → Row → ℕ → Case
-rate name r n = record { name = name; computed = alone (participant new-year) r; stated = 0 ∷ n ∷ [] }
+rate name r n = record { name = name; computed = alone participant r; stated = 0 ∷ n ∷ [] }
 
 -- the rates of several rows
 abbrev pub rates-by : Head → String → List Row → List ℕ → Case
 rates-by h name rows expected = record { name = name; computed = flatMap (alone h) rows; stated = flatMap (λ n. 0 ∷ n ∷ []) expected }
 
 abbrev pub rates-on : ℕ → String → List Row → List ℕ → Case
-rates-on date = rates-by (participant date)
+rates-on date = rates-by (participant-on date)
 
 abbrev pub rates : String → List Row → List ℕ → Case
 rates = rates-on new-year
 
 abbrev pub fault : String → Row → ℕ → Case
-fault name r n = record { name = name; computed = alone (participant new-year) r; stated = n ∷ [] }
+fault name r n = record { name = name; computed = alone participant r; stated = n ∷ [] }
 
 -- the faults of several rows
 abbrev pub faults-on : ℕ → String → List Row → List ℕ → Case
-faults-on date name rows expected = record { name = name; computed = flatMap (alone (participant date)) rows; stated = expected }
+faults-on date name rows expected = record { name = name; computed = flatMap (alone (participant-on date)) rows; stated = expected }
 
 abbrev pub faults : String → List Row → List ℕ → Case
 faults = faults-on new-year
@@ -145,13 +151,13 @@ abbrev pub heads : String → List Head → List ℕ → Case
 heads name hs expected = record { name = name; computed = map headFault hs; stated = expected }
 
 abbrev pub dates : String → List ℕ → List ℕ → Case
-dates name ds expected = heads name (map participant ds) expected
+dates name ds expected = heads name (map participant-on ds) expected
 
 abbrev pub pair : String → Row → Row → ℕ → ℕ → Case
-pair name l s n saving = record { name = name; computed = together (participant new-year) l s; stated = 0 ∷ n ∷ saving ∷ [] }
+pair name l s n saving = record { name = name; computed = together participant l s; stated = 0 ∷ n ∷ saving ∷ [] }
 
 abbrev pub no-pair : String → Row → Row → ℕ → Case
-no-pair name l s n = record { name = name; computed = together (participant new-year) l s; stated = n ∷ [] }
+no-pair name l s n = record { name = name; computed = together participant l s; stated = n ∷ [] }
 
 -- several pairs of one rate and one saving rate, and several that are not allowed: by themselves, and as a line of no amount and of one above 100 cents
 abbrev pub pairs-by : Head → String → List (Row × Row) → ℕ → ℕ → Case
@@ -162,7 +168,7 @@ pairs-by h name rows n saving = record {
 }
 
 abbrev pub pairs-on : ℕ → String → List (Row × Row) → ℕ → ℕ → Case
-pairs-on date = pairs-by (participant date)
+pairs-on date = pairs-by (participant-on date)
 
 abbrev pub pairs : String → List (Row × Row) → ℕ → ℕ → Case
 pairs = pairs-on new-year
@@ -177,7 +183,7 @@ no-pairs-by h name rows =
     }
 
 abbrev pub no-pairs-on : ℕ → String → List (Row × Row) → Case
-no-pairs-on date = no-pairs-by (participant date)
+no-pairs-on date = no-pairs-by (participant-on date)
 
 abbrev pub no-pairs : String → List (Row × Row) → Case
 no-pairs = no-pairs-on new-year
@@ -190,7 +196,7 @@ abbrev pub proposals-by : Head → String → List (List Row × List ℕ × List
 proposals-by h name ps expected = record { name = name; computed = flatMap (λ p. judged h false false (p .0) (p .1) (p .2)) ps; stated = expected }
 
 abbrev pub proposal-on : ℕ → String → List Row → List ℕ → List Line → List ℕ → Case
-proposal-on date = proposal-by (participant date)
+proposal-on date = proposal-by (participant-on date)
 
 abbrev pub proposal : String → List Row → List ℕ → List Line → List ℕ → Case
 proposal = proposal-on new-year
@@ -199,7 +205,7 @@ abbrev pub lent-by : Head → String → Bool → Bool → List Row → List Lin
 lent-by h name one two rows lines expected = record { name = name; computed = judged h one two rows [] lines; stated = expected }
 
 abbrev pub lent-on : ℕ → String → Bool → Bool → List Row → List Line → List ℕ → Case
-lent-on date = lent-by (participant date)
+lent-on date = lent-by (participant-on date)
 
 abbrev pub lent : String → Bool → Bool → List Row → List Line → List ℕ → Case
 lent = lent-on new-year
@@ -316,7 +322,7 @@ lengths-by h name zs n =
     record { name = name; computed = map found zs; stated = map (λ _. n) zs }
 
 abbrev pub lengths-on : ℕ → String → List (List ℕ) → ℕ → Case
-lengths-on date = lengths-by (participant date)
+lengths-on date = lengths-by (participant-on date)
 
 abbrev pub lengths : String → List (List ℕ) → ℕ → Case
 lengths = lengths-on new-year
@@ -333,7 +339,7 @@ held c = flatMap decode (c .holdings ++ (c .price ∷ c .lines))
 -- what is submitted, written into such columns: what they then hold, each number by its place and by its name, with the valuation date 12 and the letter 14
 abbrev pub columns : String → List Row → List ℕ → List Line → List ℕ → Case
 columns name rows prices lines expected =
-    let c = filled (record { head = participant new-year; rows = rows; prices = prices; lines = lines }) old in
+    let c = filled (record { head = participant; rows = rows; prices = prices; lines = lines }) old in
     let numbers : Submission → List ℕ = λ s. flatMap (λ r. r .side ∷ r .kind ∷ r .issuer ∷ r .maturity ∷ r .value ∷ r .currency ∷ r .rating ∷ []) (s .rows) in
     let named : Submission → List ℕ = λ s. numbers s ++ s .prices ++ flatMap (λ l. l .long ∷ l .short ∷ l .amount ∷ []) (s .lines) ++ (s .head .date ∷ s .head .letter ∷ []) in
     record { name = name; computed = held c ++ named (submission (head 12 14) c); stated = expected }
@@ -366,8 +372,8 @@ answers name sizes text list slice expected = record {
   stated = flatMap (λ _. expected) sizes;
 }
 
--- a D with its date and its letter, a participant's, and that of document 01's cases; an H of a currency and a rating, one of a currency, one in CAD, and a corporation's in CAD by its rating; and a P, by
--- the other fields that are filled: the empty ones follow, and CRLF
+-- a D with its date and its letter, a participant's, and that of document 01's cases; an H of a currency and a rating, one of a currency, one in CAD, and a
+-- corporation's in CAD by its rating; and a P, by the other fields that are filled: the empty ones follow, and CRLF
 abbrev pub D-by : String → String → List ℕ
 D-by date letter = ascii "D," ++ ascii date ++ ascii "," ++ ascii letter ++ ascii ",,,,,,\r\n"
 
@@ -480,6 +486,6 @@ file-lines amount = line 0 1 amount ∷ line 0 2 300000 ∷ []
 abbrev pub days : String → List (ℕ × ℕ) → List ℕ → Case
 days name terms expected = record {
   name = name;
-  computed = flatMap (λ t. alone (participant (t .0)) (row L B CA (t .1) 100)) terms;
+  computed = flatMap (λ t. alone (participant-on (t .0)) (row L B CA (t .1) 100)) terms;
   stated = flatMap (λ n. 0 ∷ 4 * n ∷ []) expected;
 }

@@ -9,27 +9,17 @@ use Rattle.holding.specs.declared.Head.{Head}
 use Rattle.holding.specs.declared.Row.{Row}
 use Rattle.pairing.specs.declared.Line.{Line}
 use Rattle.layout.specs.declared.Sort.the-variants.{Account}
-use Rattle.edges.proofs.Cases.{Case, rates, rates-by, heads, pairs, pairs-by, no-pairs, no-pairs-by, proposal, proposal-by, proposals-by, lent-by, lengths-by}
+use Rattle.edges.proofs.Cases.{Case, rates-by, heads, pairs, pairs-by, no-pairs, no-pairs-by, proposal, proposal-by, proposals-by, lent-by, lengths-by}
 use Rattle.edges.proofs.Cases.{prints, code, refuses, meanings, records, received, answers, D-by, D, H, H-in, H-rated, P, unended}
-use Rattle.edges.proofs.Cases.{head, participant, client, new-year, line, row, of, rated, L, S, B, C, R, CA, ON, QC, US, GB, CAD, USD, GBP, Y, N, none, file, file-lines}
+use Rattle.edges.proofs.Cases.{head, participant, client, client-on, new-year, line, row, of, rated, L, S, B, C, R, CA, ON, QC, US, GB, CAD, USD, GBP, Y, N, none}
+use Rattle.edges.proofs.Cases.{file, file-lines}
+use Rattle.edges.proofs.Others.{two, bonds, most}
+use Rattle.edges.proofs.Dated.{entered, untouched}
+use Rattle.edges.proofs.Corporate.{K1, long, short}
 
--- the head of a client, and one that has neither letter
-abbrev ours : Head
-ours = client new-year
-
+-- a head that has neither letter
 abbrev neither : Head
 neither = head new-year 2
-
--- the largest number
-abbrev most : ℕ
-most = 18446744073709551615
-
--- a coupon and a bond of 1 day, which pair, and two bonds, which do not
-abbrev two : List Row
-two = row L C CA 20250102 2 ∷ row S B CA 20250102 2 ∷ []
-
-abbrev bonds : List Row
-bonds = row L B CA 20250102 2 ∷ row S B CA 20250102 2 ∷ []
 
 -- proposals with one fault of holding 1, of each number in the check's order; and with one fault of the lines or of the prices
 abbrev faultyHoldings : List (List Row × List ℕ × List Line)
@@ -49,14 +39,21 @@ faultyHoldings =
 
 abbrev faultyLines : List (List Row × List ℕ × List Line)
 faultyLines =
-    (two, 8 ∷ 0 ∷ [], line 0 2 1 ∷ [])
-    ∷ (two, 8 ∷ 0 ∷ [], line 1 0 1 ∷ [])
+    (two 2 2, 8 ∷ 0 ∷ [], line 0 2 1 ∷ [])
+    ∷ (two 2 2, 8 ∷ 0 ∷ [], line 1 0 1 ∷ [])
     ∷ (bonds, 0 ∷ 0 ∷ [], line 0 1 1 ∷ [])
-    ∷ (two, 8 ∷ 0 ∷ [], line 0 1 0 ∷ [])
-    ∷ (two, 8 ∷ 0 ∷ [], line 0 1 3 ∷ [])
-    ∷ (two, 0 ∷ 0 ∷ [], [])
-    ∷ (two, 8 ∷ 0 ∷ [], [])
+    ∷ (two 2 2, 8 ∷ 0 ∷ [], line 0 1 0 ∷ [])
+    ∷ (two 2 2, 8 ∷ 0 ∷ [], line 0 1 3 ∷ [])
+    ∷ (two 2 2, 0 ∷ 0 ∷ [], [])
+    ∷ (two 2 2, 8 ∷ 0 ∷ [], [])
     ∷ []
+
+-- their refusals
+abbrev refusedHoldings : List ℕ
+refusedHoldings = flatMap (λ n. n ∷ 1 ∷ 0 ∷ []) (4 ∷ 5 ∷ 6 ∷ 24 ∷ 7 ∷ 8 ∷ 23 ∷ 25 ∷ 10 ∷ [])
+
+abbrev refusedLines : List ℕ
+refusedLines = flatMap (λ n. n ∷ 0 ∷ 0 ∷ []) (11 ∷ 12 ∷ 13 ∷ 14 ∷ 15 ∷ []) ++ (16 ∷ 0 ∷ 1 ∷ 17 ∷ 0 ∷ 0 ∷ [])
 
 -- the check: 26 a number for neither letter, at place 0
 unfoldable pub accountLetters : List Case
@@ -65,53 +62,40 @@ accountLetters =
     ∷ heads "numbers for neither" (map (head new-year) (2 ∷ 3 ∷ 80 ∷ 255 ∷ 256 ∷ 257 ∷ 65536 ∷ 4294967296 ∷ 4294967297 ∷ most ∷ [])) (replicate 10 26)
     ∷ heads "24 on the valuation date before 26" (head 20250230 2 ∷ head 0 most ∷ head 23000101 255 ∷ []) (24 ∷ 24 ∷ 24 ∷ [])
     ∷ heads "24 on the valuation date, for a client" (head 20250230 1 ∷ head 0 1 ∷ []) (24 ∷ 24 ∷ [])
-    ∷ proposal-by neither "26 and nothing else" two (8 ∷ 0 ∷ []) (line 0 1 2 ∷ []) (26 ∷ 0 ∷ 0 ∷ [])
-    ∷ proposal-by (head new-year most) "26 for the largest number" two (8 ∷ 0 ∷ []) (line 0 1 2 ∷ []) (26 ∷ 0 ∷ 0 ∷ [])
+    ∷ proposal-by neither "26 and nothing else" (two 2 2) (8 ∷ 0 ∷ []) (line 0 1 2 ∷ []) (26 ∷ 0 ∷ 0 ∷ [])
+    ∷ proposal-by (head new-year most) "26 for the largest number" (two 2 2) (8 ∷ 0 ∷ []) (line 0 1 2 ∷ []) (26 ∷ 0 ∷ 0 ∷ [])
     ∷ proposal-by (head new-year 255) "26 on the empty book" [] [] [] (26 ∷ 0 ∷ 0 ∷ [])
-    ∷ proposal-by (head 20250230 2) "24 on the valuation date before 26, from a book" two (8 ∷ 0 ∷ []) [] (24 ∷ 0 ∷ 0 ∷ [])
+    ∷ proposal-by (head 20250230 2) "24 on the valuation date before 26, from a book" (two 2 2) (8 ∷ 0 ∷ []) [] (24 ∷ 0 ∷ 0 ∷ [])
     ∷ []
 
 -- before the holdings and the lines
 unfoldable pub beforeHoldings : List Case
 beforeHoldings =
-    proposals-by (participant new-year) "a fault of holding 1" faultyHoldings (flatMap (λ n. n ∷ 1 ∷ 0 ∷ []) (4 ∷ 5 ∷ 6 ∷ 24 ∷ 7 ∷ 8 ∷ 23 ∷ 25 ∷ 10 ∷ []))
-    ∷ proposals-by ours "a fault of holding 1, of a client" faultyHoldings (flatMap (λ n. n ∷ 1 ∷ 0 ∷ []) (4 ∷ 5 ∷ 6 ∷ 24 ∷ 7 ∷ 8 ∷ 23 ∷ 25 ∷ 10 ∷ []))
+    proposals-by participant "a fault of holding 1" faultyHoldings refusedHoldings
+    ∷ proposals-by client "a fault of holding 1, of a client" faultyHoldings refusedHoldings
     ∷ proposals-by neither "26 before each" faultyHoldings (flatMap (λ _. 26 ∷ 0 ∷ 0 ∷ []) faultyHoldings)
     ∷ []
 
 unfoldable pub beforeLines : List Case
 beforeLines =
-    proposals-by (participant new-year) "a fault of the lines or the prices" faultyLines
-    (flatMap (λ n. n ∷ 0 ∷ 0 ∷ []) (11 ∷ 12 ∷ 13 ∷ 14 ∷ 15 ∷ []) ++ (16 ∷ 0 ∷ 1 ∷ 17 ∷ 0 ∷ 0 ∷ []))
-    ∷ proposals-by ours "a fault of the lines or the prices, of a client" faultyLines
-    (flatMap (λ n. n ∷ 0 ∷ 0 ∷ []) (11 ∷ 12 ∷ 13 ∷ 14 ∷ 15 ∷ []) ++ (16 ∷ 0 ∷ 1 ∷ 17 ∷ 0 ∷ 0 ∷ []))
+    proposals-by participant "a fault of the lines or the prices" faultyLines refusedLines
+    ∷ proposals-by client "a fault of the lines or the prices, of a client" faultyLines refusedLines
     ∷ proposals-by neither "26 before each" faultyLines (flatMap (λ _. 26 ∷ 0 ∷ 0 ∷ []) faultyLines)
     ∷ []
 
 -- after 1, 3, 9 and 2, of a book and of what a host lends
 unfoldable pub afterSizes : List Case
 afterSizes =
-    lent-by neither "1 before 26" true true two [] (1 ∷ 0 ∷ 0 ∷ [])
+    lent-by neither "1 before 26" true true (two 2 2) [] (1 ∷ 0 ∷ 0 ∷ [])
     ∷ lent-by neither "3 before 26" false true (replicate 257 (row L B CA 20250102 1)) [] (3 ∷ 0 ∷ 0 ∷ [])
-    ∷ lent-by neither "9 before 26" false true two (replicate 513 (line 0 0 1)) (9 ∷ 0 ∷ 0 ∷ [])
-    ∷ lent-by neither "2 before 26" false true two [] (2 ∷ 0 ∷ 0 ∷ [])
+    ∷ lent-by neither "9 before 26" false true (two 2 2) (replicate 513 (line 0 0 1)) (9 ∷ 0 ∷ 0 ∷ [])
+    ∷ lent-by neither "2 before 26" false true (two 2 2) [] (2 ∷ 0 ∷ 0 ∷ [])
     ∷ lengths-by neither "26 in the exported check" ((replicate 13 0 ++ (16 ∷ [])) ∷ (replicate 8 16 ++ replicate 3 8 ++ replicate 3 16) ∷ []) 26
     ∷ lengths-by neither "1 before 26 in the exported check" ((replicate 7 0 ++ (8 ∷ []) ++ replicate 5 0 ++ (16 ∷ [])) ∷ []) 1
     ∷ lengths-by neither "2 before 26 in the exported check" ((replicate 13 0 ++ (15 ∷ [])) ∷ []) 2
     ∷ lengths-by (head 20250230 2) "24 before 26 in the exported check" ((replicate 13 0 ++ (16 ∷ [])) ∷ []) 24
-    ∷ lengths-by ours "the exported check of a client's empty book" ((replicate 13 0 ++ (16 ∷ [])) ∷ []) 0
+    ∷ lengths-by client "the exported check of a client's empty book" ((replicate 13 0 ++ (16 ∷ [])) ∷ []) 0
     ∷ []
-
--- a corporation
-abbrev K1 : ℕ
-K1 = 100
-
--- a long and a short of 2,000 days: kind, issuer, currency, rating
-abbrev long : ℕ → ℕ → ℕ → ℕ → Row
-long kind issuer currency rating = rated rating (of currency (row L kind issuer 20300624 100))
-
-abbrev short : ℕ → ℕ → ℕ → ℕ → Row
-short kind issuer currency rating = rated rating (of currency (row S kind issuer 20300624 100))
 
 -- a bond and a strip of one issuer, its currency and rating: each kind of strip, and each way round
 abbrev bondAndStrip : ℕ → ℕ → ℕ → List (Row × Row)
@@ -127,45 +111,45 @@ domestic issuer other kinds = map (λ (k : ℕ × ℕ). (long (k .0) issuer CAD 
 -- a holding has the same rate in both accounts
 unfoldable pub clientRates : List Case
 clientRates =
-    rates-by ours "a client's bonds" (long B CA CAD none ∷ long B ON CAD none ∷ long B US USD none ∷ long B GB GBP none ∷ long B K1 CAD Y ∷ [])
+    rates-by client "a client's bonds" (long B CA CAD none ∷ long B ON CAD none ∷ long B US USD none ∷ long B GB GBP none ∷ long B K1 CAD Y ∷ [])
     (2920 ∷ 5840 ∷ 2920 ∷ 2920 ∷ 10220 ∷ [])
-    ∷ rates-by ours "a client's strips" (short C CA CAD none ∷ short R ON CAD none ∷ short C US CAD none ∷ short R GB USD none ∷ short C K1 GBP N ∷ [])
+    ∷ rates-by client "a client's strips" (short C CA CAD none ∷ short R ON CAD none ∷ short C US CAD none ∷ short R GB USD none ∷ short C K1 GBP N ∷ [])
     (4380 ∷ 8760 ∷ 4380 ∷ 4380 ∷ 15330 ∷ [])
-    ∷ rates-by (client 20240115) "a client's bonds by another valuation date" (row L B CA 20250115 100 ∷ row L B CA 20250116 100 ∷ []) (1464 ∷ 1460 ∷ [])
+    ∷ rates-by (client-on 20240115) "a client's bonds by another valuation date" (row L B CA 20250115 100 ∷ row L B CA 20250116 100 ∷ []) (1464 ∷ 1460 ∷ [])
     ∷ []
 
 -- paragraph 4 is a participant's, and not a client's
 unfoldable pub usInUsd : List Case
 usInUsd =
     pairs "a participant's, of US in USD" (bondAndStrip US USD none) 1460 5840
-    ∷ no-pairs-by ours "a client's, of US in USD" (bondAndStrip US USD none)
+    ∷ no-pairs-by client "a client's, of US in USD" (bondAndStrip US USD none)
     ∷ []
 
 unfoldable pub usInGbp : List Case
 usInGbp =
     pairs "a participant's, of US in GBP" (bondAndStrip US GBP none) 1460 5840
-    ∷ no-pairs-by ours "a client's, of US in GBP" (bondAndStrip US GBP none)
+    ∷ no-pairs-by client "a client's, of US in GBP" (bondAndStrip US GBP none)
     ∷ []
 
 unfoldable pub canadaInUsd : List Case
 canadaInUsd =
     pairs "a participant's, of Canada in USD" (bondAndStrip CA USD none) 1460 5840
-    ∷ no-pairs-by ours "a client's, of Canada in USD" (bondAndStrip CA USD none)
+    ∷ no-pairs-by client "a client's, of Canada in USD" (bondAndStrip CA USD none)
     ∷ []
 
 unfoldable pub gbInGbp : List Case
 gbInGbp =
     pairs "a participant's, of GB in GBP" (bondAndStrip GB GBP none) 1460 5840
-    ∷ no-pairs-by ours "a client's, of GB in GBP" (bondAndStrip GB GBP none)
+    ∷ no-pairs-by client "a client's, of GB in GBP" (bondAndStrip GB GBP none)
     ∷ []
 
 -- and so is paragraph 3
 unfoldable pub corporations : List Case
 corporations =
     pairs "a participant's, of a corporation" (bondAndStrip K1 CAD Y) 15330 10220
-    ∷ no-pairs-by ours "a client's, of a corporation" (bondAndStrip K1 CAD Y)
+    ∷ no-pairs-by client "a client's, of a corporation" (bondAndStrip K1 CAD Y)
     ∷ pairs "a participant's, with a strip from 20 years" ((rated Y (row L B K1 20380910 100), rated N (row S C K1 20461127 100)) ∷ []) 29200 29200
-    ∷ no-pairs-by ours "a client's, with a strip from 20 years" ((rated Y (row L B K1 20380910 100), rated N (row S C K1 20461127 100)) ∷ [])
+    ∷ no-pairs-by client "a client's, with a strip from 20 years" ((rated Y (row L B K1 20380910 100), rated N (row S C K1 20461127 100)) ∷ [])
     ∷ []
 
 -- paragraph 2 is a participant's and a client's, at one rate: a bond with a strip of one class, a strip with a strip, and Canada with a province
@@ -189,22 +173,22 @@ canadaWithProvince h =
     ∷ []
 
 unfoldable pub participantBonds : List Case
-participantBonds = bondWithStrip (participant new-year)
+participantBonds = bondWithStrip participant
 
 unfoldable pub clientBonds : List Case
-clientBonds = bondWithStrip ours
+clientBonds = bondWithStrip client
 
 unfoldable pub participantStrips : List Case
-participantStrips = stripWithStrip (participant new-year)
+participantStrips = stripWithStrip participant
 
 unfoldable pub clientStrips : List Case
-clientStrips = stripWithStrip ours
+clientStrips = stripWithStrip client
 
 unfoldable pub participantMixed : List Case
-participantMixed = canadaWithProvince (participant new-year)
+participantMixed = canadaWithProvince participant
 
 unfoldable pub clientMixed : List Case
-clientMixed = canadaWithProvince ours
+clientMixed = canadaWithProvince client
 
 -- what it denies, it denies to both
 abbrev bondWithBond : List (Row × Row)
@@ -217,45 +201,45 @@ participantDenied =
 
 unfoldable pub clientDenied : List Case
 clientDenied =
-    no-pairs-by ours "a client's bond with bond" bondWithBond
+    no-pairs-by client "a client's bond with bond" bondWithBond
     ∷ []
 
 unfoldable pub otherDenied : List Case
 otherDenied =
-    no-pairs-by ours "a client's, on either side of 11 years" ((row L C CA 20360101 100, row S C CA 20360102 100) ∷ [])
-    ∷ no-pairs-by ours "a client's strips in USD, and debt of US in CAD" ((long C CA USD none, short R CA USD none) ∷ (long B US CAD none, short C US CAD none) ∷ [])
-    ∷ no-pairs-by ours "a client's Canada in CAD with Canada in USD" ((long B CA CAD none, short C CA USD none) ∷ (long C CA USD none, short B CA CAD none) ∷ [])
+    no-pairs-by client "a client's, on either side of 11 years" ((row L C CA 20360101 100, row S C CA 20360102 100) ∷ [])
+    ∷ no-pairs-by client "a client's strips in USD, and debt of US in CAD" ((long C CA USD none, short R CA USD none) ∷ (long B US CAD none, short C US CAD none) ∷ [])
+    ∷ no-pairs-by client "a client's Canada in CAD with Canada in USD" ((long B CA CAD none, short C CA USD none) ∷ (long C CA USD none, short B CA CAD none) ∷ [])
     ∷ []
 
 -- a bond and a strip of one issuer, by its currency and rating
-abbrev hedge : ℕ → ℕ → ℕ → List Row
-hedge issuer currency rating = long B issuer currency rating ∷ short C issuer currency rating ∷ []
+abbrev bondAndCoupon : ℕ → ℕ → ℕ → List Row
+bondAndCoupon issuer currency rating = long B issuer currency rating ∷ short C issuer currency rating ∷ []
 
 -- one book in both accounts: a line in USD is a participant's alone, and a client's two holdings have their full margins; so is one of a corporation
 unfoldable pub booksInUsd : List Case
 booksInUsd =
-    proposal "a participant's line in USD" (hedge US USD none) (5840 ∷ 0 ∷ []) (line 0 1 100 ∷ []) (0 ∷ 146000 ∷ 1 ∷ 0 ∷ 0 ∷ 0 ∷ 1 ∷ [])
-    ∷ proposal "a participant's unpaired, in USD" (hedge US USD none) (0 ∷ 0 ∷ []) [] (16 ∷ 0 ∷ 1 ∷ [])
-    ∷ proposal-by ours "a client's line in USD" (hedge US USD none) (5840 ∷ 0 ∷ []) (line 0 1 100 ∷ []) (13 ∷ 0 ∷ 0 ∷ [])
-    ∷ proposal-by ours "a client's unpaired, in USD" (hedge US USD none) (0 ∷ 0 ∷ []) [] (0 ∷ 730000 ∷ 5 ∷ 100 ∷ 100 ∷ 1 ∷ 0 ∷ [])
+    proposal "a participant's line in USD" (bondAndCoupon US USD none) (5840 ∷ 0 ∷ []) (line 0 1 100 ∷ []) (0 ∷ 146000 ∷ 1 ∷ 0 ∷ 0 ∷ 0 ∷ 1 ∷ [])
+    ∷ proposal "a participant's unpaired, in USD" (bondAndCoupon US USD none) (0 ∷ 0 ∷ []) [] (16 ∷ 0 ∷ 1 ∷ [])
+    ∷ proposal-by client "a client's line in USD" (bondAndCoupon US USD none) (5840 ∷ 0 ∷ []) (line 0 1 100 ∷ []) (13 ∷ 0 ∷ 0 ∷ [])
+    ∷ proposal-by client "a client's unpaired, in USD" (bondAndCoupon US USD none) (0 ∷ 0 ∷ []) [] (0 ∷ 730000 ∷ 5 ∷ 100 ∷ 100 ∷ 1 ∷ 0 ∷ [])
     -- a client has nothing to save here, so that no price may stand
-    ∷ proposal-by ours "a client's unpaired, at a participant's prices" (hedge US USD none) (5840 ∷ 0 ∷ []) [] (17 ∷ 0 ∷ 0 ∷ [])
+    ∷ proposal-by client "a client's unpaired, at a participant's prices" (bondAndCoupon US USD none) (5840 ∷ 0 ∷ []) [] (17 ∷ 0 ∷ 0 ∷ [])
     ∷ []
 
 unfoldable pub booksOfCompany : List Case
 booksOfCompany =
-    proposal "a participant's line of a corporation" (hedge K1 CAD Y) (10220 ∷ 0 ∷ []) (line 0 1 100 ∷ []) (0 ∷ 1533000 ∷ 11 ∷ 0 ∷ 0 ∷ 0 ∷ 1 ∷ [])
-    ∷ proposal "a participant's unpaired, of a corporation" (hedge K1 CAD Y) (0 ∷ 0 ∷ []) [] (16 ∷ 0 ∷ 1 ∷ [])
-    ∷ proposal-by ours "a client's line of a corporation" (hedge K1 CAD Y) (10220 ∷ 0 ∷ []) (line 0 1 100 ∷ []) (13 ∷ 0 ∷ 0 ∷ [])
-    ∷ proposal-by ours "a client's unpaired, of a corporation" (hedge K1 CAD Y) (0 ∷ 0 ∷ []) [] (0 ∷ 2555000 ∷ 18 ∷ 100 ∷ 100 ∷ 1 ∷ 0 ∷ [])
+    proposal "a participant's line of a corporation" (bondAndCoupon K1 CAD Y) (10220 ∷ 0 ∷ []) (line 0 1 100 ∷ []) (0 ∷ 1533000 ∷ 11 ∷ 0 ∷ 0 ∷ 0 ∷ 1 ∷ [])
+    ∷ proposal "a participant's unpaired, of a corporation" (bondAndCoupon K1 CAD Y) (0 ∷ 0 ∷ []) [] (16 ∷ 0 ∷ 1 ∷ [])
+    ∷ proposal-by client "a client's line of a corporation" (bondAndCoupon K1 CAD Y) (10220 ∷ 0 ∷ []) (line 0 1 100 ∷ []) (13 ∷ 0 ∷ 0 ∷ [])
+    ∷ proposal-by client "a client's unpaired, of a corporation" (bondAndCoupon K1 CAD Y) (0 ∷ 0 ∷ []) [] (0 ∷ 2555000 ∷ 18 ∷ 100 ∷ 100 ∷ 1 ∷ 0 ∷ [])
     ∷ []
 
 -- and by paragraph 2 they have one margin
 unfoldable pub booksInCad : List Case
 booksInCad =
-    proposal "a participant's line in CAD" (hedge CA CAD none) (5840 ∷ 0 ∷ []) (line 0 1 100 ∷ []) (0 ∷ 146000 ∷ 1 ∷ 0 ∷ 0 ∷ 0 ∷ 1 ∷ [])
-    ∷ proposal-by ours "a client's line in CAD" (hedge CA CAD none) (5840 ∷ 0 ∷ []) (line 0 1 100 ∷ []) (0 ∷ 146000 ∷ 1 ∷ 0 ∷ 0 ∷ 0 ∷ 1 ∷ [])
-    ∷ proposal-by ours "a client's unpaired, in CAD" (hedge CA CAD none) (0 ∷ 0 ∷ []) [] (16 ∷ 0 ∷ 1 ∷ [])
+    proposal "a participant's line in CAD" (bondAndCoupon CA CAD none) (5840 ∷ 0 ∷ []) (line 0 1 100 ∷ []) (0 ∷ 146000 ∷ 1 ∷ 0 ∷ 0 ∷ 0 ∷ 1 ∷ [])
+    ∷ proposal-by client "a client's line in CAD" (bondAndCoupon CA CAD none) (5840 ∷ 0 ∷ []) (line 0 1 100 ∷ []) (0 ∷ 146000 ∷ 1 ∷ 0 ∷ 0 ∷ 0 ∷ 1 ∷ [])
+    ∷ proposal-by client "a client's unpaired, in CAD" (bondAndCoupon CA CAD none) (0 ∷ 0 ∷ []) [] (16 ∷ 0 ∷ 1 ∷ [])
     ∷ []
 
 -- the file's book with a US bond and coupon in USD and a bond and a coupon of a corporation; its lines with one on each of these pairs, and prices that cover all
@@ -280,19 +264,19 @@ client-prices = 0 ∷ 5840 ∷ 6570 ∷ 0 ∷ 0 ∷ 0 ∷ 0 ∷ []
 
 unfoldable pub clientLeast : List Case
 clientLeast =
-    proposal-by ours "a client's least, by paragraph 2" desk client-prices (file-lines 600000)
+    proposal-by client "a client's least, by paragraph 2" desk client-prices (file-lines 600000)
     (0 ∷ 25623000000 ∷ 175500 ∷ 100000 ∷ 0 ∷ 0 ∷ 500000 ∷ 800000 ∷ 500000 ∷ 800000 ∷ 6 ∷ 5 ∷ 4 ∷ 3 ∷ 0 ∷ 1 ∷ 2 ∷ [])
     ∷ []
 
 unfoldable pub clientNotLeast : List Case
 clientNotLeast =
-    proposal-by ours "a client's, with one pair of paragraph 2 left out" desk client-prices (line 0 1 600000 ∷ []) (17 ∷ 0 ∷ 0 ∷ [])
-    ∷ proposal-by ours "a client's, with a participant's lines" desk desk-prices desk-lines (13 ∷ 2 ∷ 0 ∷ [])
+    proposal-by client "a client's, with one pair of paragraph 2 left out" desk client-prices (line 0 1 600000 ∷ []) (17 ∷ 0 ∷ 0 ∷ [])
+    ∷ proposal-by client "a client's, with a participant's lines" desk desk-prices desk-lines (13 ∷ 2 ∷ 0 ∷ [])
     ∷ []
 
 unfoldable pub dearerPrices : List Case
 dearerPrices =
-    proposal-by ours "a client's, at a participant's prices" desk desk-prices (file-lines 600000) (17 ∷ 0 ∷ 0 ∷ [])
+    proposal-by client "a client's, at a participant's prices" desk desk-prices (file-lines 600000) (17 ∷ 0 ∷ 0 ∷ [])
     ∷ []
 
 -- a participant's is the least over all three paragraphs
@@ -310,9 +294,9 @@ atClientPrices =
 -- of the uncovered pairs that of the lowest long, among those that the account may have
 unfoldable pub lowestUncovered : List Case
 lowestUncovered =
-    proposal "a participant's, in USD" (hedge US USD none ++ hedge K1 CAD Y ++ hedge CA CAD none) (replicate 6 0) [] (16 ∷ 0 ∷ 1 ∷ [])
-    ∷ proposal "a participant's, of a corporation" (hedge US USD none ++ hedge K1 CAD Y ++ hedge CA CAD none) (5840 ∷ replicate 5 0) [] (16 ∷ 2 ∷ 3 ∷ [])
-    ∷ proposal-by ours "a client's, in CAD" (hedge US USD none ++ hedge K1 CAD Y ++ hedge CA CAD none) (replicate 6 0) [] (16 ∷ 4 ∷ 5 ∷ [])
+    proposal "a participant's, in USD" (bondAndCoupon US USD none ++ bondAndCoupon K1 CAD Y ++ bondAndCoupon CA CAD none) (replicate 6 0) [] (16 ∷ 0 ∷ 1 ∷ [])
+    ∷ proposal "a participant's, of a corporation" (bondAndCoupon US USD none ++ bondAndCoupon K1 CAD Y ++ bondAndCoupon CA CAD none) (5840 ∷ replicate 5 0) [] (16 ∷ 2 ∷ 3 ∷ [])
+    ∷ proposal-by client "a client's, in CAD" (bondAndCoupon US USD none ++ bondAndCoupon K1 CAD Y ++ bondAndCoupon CA CAD none) (replicate 6 0) [] (16 ∷ 4 ∷ 5 ∷ [])
     ∷ []
 
 -- the third field of a D: `P` or `C`; any other text is 21
@@ -364,15 +348,9 @@ accountOrder =
     ∷ prints "no letter before 24 on the valuation date" (D-by "2025-02-30" "") "X,21,0,0\r\n"
     ∷ []
 
--- a file of one holding and one line; the numbers of the columns with it, and as they were
+-- a client's file of one holding and one line
 abbrev text : List ℕ
 text = DC ++ H-in "USD" "S,R,MB,2025-01-02,5,6" ++ P "8,9,10"
-
-abbrev entered : List ℕ
-entered = flatMap (λ n. n ∷ 11 ∷ []) (1 ∷ 2 ∷ 3 ∷ 20250102 ∷ 5 ∷ 1 ∷ 2 ∷ 6 ∷ 8 ∷ 9 ∷ 10 ∷ [])
-
-abbrev untouched : List ℕ
-untouched = flatMap (λ n. n ∷ 11 ∷ []) (replicate 11 0)
 
 -- the exported reader's head list: the date, and after it the letter; a longer list keeps the rest
 unfoldable pub headTwo : List Case

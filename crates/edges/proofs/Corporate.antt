@@ -14,7 +14,7 @@ use Rattle.edges.proofs.Cases.{remainders, keys, writes, meanings, pars
 use Rattle.edges.proofs.Cases.{line, row, of, rated, L, S, B, C, R, CA, ON, US, GB, CAD, USD, GBP, Y, N, none, file, file-lines}
 
 -- three corporations by their numbers: the first, the second, the last
-abbrev K1 : ℕ
+abbrev pub K1 : ℕ
 K1 = 100
 
 abbrev K2 : ℕ
@@ -92,10 +92,10 @@ hedgeEnds =
     ∷ []
 
 -- a long and a short of 2,000 days: kind, issuer, currency, rating
-abbrev long : ℕ → ℕ → ℕ → ℕ → Row
+abbrev pub long : ℕ → ℕ → ℕ → ℕ → Row
 long kind issuer currency rating = rated rating (of currency (row L kind issuer 20300624 100))
 
-abbrev short : ℕ → ℕ → ℕ → ℕ → Row
+abbrev pub short : ℕ → ℕ → ℕ → ℕ → Row
 short kind issuer currency rating = rated rating (of currency (row S kind issuer 20300624 100))
 
 -- a bond rated Y of one issuer and a strip of another in CAD, both ways round: the ratings are those of the issuers

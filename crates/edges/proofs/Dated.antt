@@ -214,10 +214,10 @@ datedFigures =
 abbrev text : List ℕ
 text = D ++ H-in "USD" "S,R,MB,2025-01-02,5,6" ++ P "8,9,10"
 
-abbrev entered : List ℕ
+abbrev pub entered : List ℕ
 entered = flatMap (λ n. n ∷ 11 ∷ []) (1 ∷ 2 ∷ 3 ∷ 20250102 ∷ 5 ∷ 1 ∷ 2 ∷ 6 ∷ 8 ∷ 9 ∷ 10 ∷ [])
 
-abbrev untouched : List ℕ
+abbrev pub untouched : List ℕ
 untouched = flatMap (λ n. n ∷ 11 ∷ []) (replicate 11 0)
 
 -- the reader's head list: two entries, 2 where it has fewer, after all records

@@ -20,11 +20,11 @@ abbrev four-prices : List ℕ
 four-prices = 8760 ∷ 2920 ∷ 8760 ∷ 2920 ∷ []
 
 -- a coupon and a bond of 1 day, by their values
-abbrev two : ℕ → ℕ → List Row
+abbrev pub two : ℕ → ℕ → List Row
 two a b = row L C CA 20250102 a ∷ row S B CA 20250102 b ∷ []
 
 -- two bonds, which do not pair
-abbrev bonds : List Row
+abbrev pub bonds : List Row
 bonds = row L B CA 20250102 2 ∷ row S B CA 20250102 2 ∷ []
 
 -- a D, an H and a P as parsed
@@ -47,7 +47,7 @@ abbrev moreLines : List ℕ
 moreLines = replicate 8 8 ++ replicate 3 16 ++ (8 ∷ 8 ∷ 16 ∷ [])
 
 -- the largest number, and rows that have it from one number on
-abbrev most : ℕ
+abbrev pub most : ℕ
 most = 18446744073709551615
 
 abbrev largest : List Row
