@@ -12,14 +12,16 @@ use Rattle.csv.specs.Reading.{recordsOf}
 use Rattle.csv.proofs.Places.{clash, records-end}
 use Rattle.grammar.proofs.Sound.{file-sound}
 use Rattle.grammar.proofs.Complete.{file-complete}
-use Rattle.layout.specs.Layout.{refused}
+use Rattle.holding.specs.Holding.{headNumbers}
+use Rattle.holding.specs.declared.Head.{Head}
+use Rattle.layout.specs.Layout.{value-and, IsRecord, refused}
 use Rattle.lists.specs.Choice.{firstOf}
 use Rattle.lists.specs.Tables.{Each}
 use Rattle.lei.specs.Lei.{IsLei, leiOf, leiText}
 use Rattle.lei.proofs.Identifiers.{identifiers}
 use Rattle.reader.specs.File.{parsedIn, valuesBy, holdingsOf, leisOf, submissionOf, fileFaults, fileFault}
 use Rattle.reader.proofs.Numbering.{length-numbered}
-use Rattle.readable.specs.Readable.{Submits, ReadExactly}
+use Rattle.readable.specs.Readable.{Submits, HeadTexts, ReadExactly}
 use Rattle.readable.proofs.Orders.{InOrder, few, order-exactly}
 use Rattle.readable.proofs.Numbers.{none-exactly}
 use Rattle.readable.proofs.Known.{known-none}
@@ -34,6 +36,17 @@ no-bytes none = refl
 texts-back : (ts : List (List ℕ)) → Each IsLei ts → map leiText (map leiOf ts) ≡ ts
 texts-back [] each = refl
 texts-back (t ∷ ts) each = λ i. identifiers .two-numbers .back t (each .0 .form) i ∷ texts-back ts (each .1) i
+
+-- the texts of a good D
+head-texts : (r : List (List ℕ)) (h : Head) → IsRecord 0 r (headNumbers h) → HeadTexts r h
+unfolding headNumbers
+head-texts [] h is = absurd is
+head-texts (letter ∷ texts) h (_, value-and date (value-and account _), _) = record {
+  date = date .0;
+  letter = omega (arith, account .inside);
+  participant = λ e. rw e at (account .here);
+  client = λ e. rw e at (account .here);
+}
 
 module _ (text : List ℕ) where
   -- what comes in order is submitted
@@ -83,6 +96,7 @@ module _ (text : List ℕ) where
       λ h. none-exactly text .1 (order-exactly text .1 (h .short, submits-some _ h, gives _ h .0)),
     );
     only = λ s h. sym (gives s h .1);
+    head = λ s h. head-texts (h .head) (s .head) (h .valued);
     empty = λ e. rw e (unfold fileFault fileFaults firstOf in refl);
     numbered = λ s h. by-first (h .each-holding);
     leis = leis-read;

@@ -3,8 +3,10 @@
 use mathlib.Core.{Path._≡_, Logic._↔_, Logic._≢_, List.List, List.[], List._∷_, List._++_, List.map}
 use Prim.Native.Nat.{ℕ, _+_, _≤_, _<_}
 use lib.ListN.{length, getD, set}
+use Rattle.lists.specs.Tables.{ascii}
+use Rattle.dates.specs.Text.{dateText}
 use Rattle.holding.specs.Holding.{headNumbers}
-use Rattle.holding.specs.declared.Row.{Row}
+use Rattle.holding.specs.declared.{Head.Head, Row.Row}
 use Rattle.pairing.specs.declared.Line.{Line}
 use Rattle.proposal.specs.Submission.{Submission, noRow, pricedNumbers, lineNumbers}
 use Rattle.article.specs.Answer.{makeAnswer}
@@ -53,6 +55,13 @@ pub record Submits (text : List ℕ) (s : Submission) : Type 0 where
   pub few-holdings : length (s .rows) ≤ 256
   pub few-lines : length (s .lines) ≤ 512
 
+-- the fields of a D after its letter, in the paper's words: the valuation date as YYYY-MM-DD, and `P` or `C`, which are 0 and 1
+pub record HeadTexts (r : List (List ℕ)) (h : Head) : Type 0 where
+  pub date : getD r 1 [] ≡ dateText (h .date)
+  pub letter : h .letter ≤ 1
+  pub participant : h .letter ≡ 0 → getD r 2 [] ≡ ascii "P"
+  pub client : h .letter ≡ 1 → getD r 2 [] ≡ ascii "C"
+
 -- the issuer of holding i: its text, and its number
 abbrev pub textAt : List (List (List ℕ)) → ℕ → List ℕ
 textAt records i = issuerText (getD records i [])
@@ -76,6 +85,7 @@ pub record ReadExactly (text : List ℕ) : Type 0 where
   pub read : (fileFault text .number ≡ 0) ↔ Submits text (submissionOf (parsedIn text))
   pub only : (s : Submission) → Submits text s → s ≡ submissionOf (parsedIn text)
   pub empty : text ≡ [] → fileFault text ≡ makeAnswer 22 0 0
+  pub head : (s : Submission) (h : Submits text s) → HeadTexts (h .head) (s .head)
   -- corporations are numbered by first appearance, and their LEIs are those that are read
   pub numbered : (s : Submission) (h : Submits text s) (i : ℕ) → i < length (s .rows) → ByFirst (h .holdings) (s .rows) i
   pub leis : (s : Submission) (h : Submits text s) → h .leis ≡ map leiText (leisOf (parsedIn text))

@@ -83,7 +83,7 @@ module _ (two : Bool) (head : Head) (side : List ℕ) (rest : List (List ℕ)) (
   refused-by : (f : Fault) {before after : Scratch} {r : Verdict} → (f .number ≡ 0 → ⊥) → outcomeIn two head c ≡ faultAnswer f → r ≡ refusalOf f → Judges two head c before after r
   refused-by f h e g = rw g (refusal-judged two head c _ _ f h e)
 
-  -- lengths that fit: the valuation date decides
+  -- lengths that fit: the head decides
   pub record Sized : Type 0 where
     pub few : n ≤ 256
     pub few-lines : length long / 8 ≤ 512
@@ -114,7 +114,7 @@ module _ (two : Bool) (head : Head) (side : List ℕ) (rest : List (List ℕ)) (
           next = from-lengths (differ (holdingSizes c) (lineSizes c)) two s (fit .alike) (fit .room) (omega (arith, rows-are, fit .few-holdings)) (omega (arith, lines-are, fit .few-lines));
         }
 
-  -- the account of a valuation date: the holdings decide
+  -- the account of a head: the holdings decide
   pub record Dated (a : Account) : Type 0 where
     pub sized : Sized
     pub account : a ≡ accountIn s
