@@ -115,6 +115,9 @@ clientRates =
     (2920 ∷ 5840 ∷ 2920 ∷ 2920 ∷ 10220 ∷ [])
     ∷ rates-by client "a client's strips" (short C CA CAD none ∷ short R ON CAD none ∷ short C US CAD none ∷ short R GB USD none ∷ short C K1 GBP N ∷ [])
     (4380 ∷ 8760 ∷ 4380 ∷ 4380 ∷ 15330 ∷ [])
+    ∷ rates-by client "a client's strips of a day, and from 20 years"
+    (row L C CA 20250102 100 ∷ row L C CA 20450101 100 ∷ row L R ON 21250101 100 ∷ rated N (row L C K1 20250102 100) ∷ rated Y (row L R K1 20450101 100) ∷ [])
+    (6 ∷ 17520 ∷ 21900 ∷ 6570 ∷ 43800 ∷ [])
     ∷ rates-by (client-on 20240115) "a client's bonds by another valuation date" (row L B CA 20250115 100 ∷ row L B CA 20250116 100 ∷ []) (1464 ∷ 1460 ∷ [])
     ∷ []
 
@@ -135,6 +138,18 @@ unfoldable pub canadaInUsd : List Case
 canadaInUsd =
     pairs "a participant's, of Canada in USD" (bondAndStrip CA USD none) 1460 5840
     ∷ no-pairs-by client "a client's, of Canada in USD" (bondAndStrip CA USD none)
+    ∷ []
+
+unfoldable pub canadaInGbp : List Case
+canadaInGbp =
+    pairs "a participant's, of Canada in GBP" (bondAndStrip CA GBP none) 1460 5840
+    ∷ no-pairs-by client "a client's, of Canada in GBP" (bondAndStrip CA GBP none)
+    ∷ []
+
+unfoldable pub gbInUsd : List Case
+gbInUsd =
+    pairs "a participant's, of GB in USD" (bondAndStrip GB USD none) 1460 5840
+    ∷ no-pairs-by client "a client's, of GB in USD" (bondAndStrip GB USD none)
     ∷ []
 
 unfoldable pub gbInGbp : List Case
@@ -189,6 +204,15 @@ participantMixed = canadaWithProvince participant
 
 unfoldable pub clientMixed : List Case
 clientMixed = canadaWithProvince client
+
+-- in each period
+unfoldable pub clientPeriods : List Case
+clientPeriods =
+    pairs-by client "a client's coupons of a day" ((row L C CA 20250102 100, row S C CA 20250102 100) ∷ []) 0 12
+    ∷ pairs-by client "the first day and the last of period 2" ((row L C CA 20260102 100, row S R CA 20280101 100) ∷ []) 0 4380
+    ∷ pairs-by client "the last day of period 4 and the first" ((row L R ON 20360101 100, row S C QC 20320102 100) ∷ []) 0 21900
+    ∷ pairs-by client "below 20 years, and from 20 years" ((row L C CA 20380910 100, row S C CA 20461127 100) ∷ []) 8760 17520
+    ∷ []
 
 -- what it denies, it denies to both
 abbrev bondWithBond : List (Row × Row)

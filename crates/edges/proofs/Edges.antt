@@ -58,11 +58,11 @@ use Rattle.edges.proofs.Corporate.{threeParagraphs, withoutParagraph3, 
 use Rattle.edges.proofs.Corporate.{firstAppearance, mostCorporations, numberedFile, alikeInHalf, noCorporation, corporateColumns, corporatePairFile}
 use Rattle.edges.proofs.Corporate.{twoIssuersFile, ratedLowerFile, corporateFile, ninthField, beforeOrder, smallLetters, nineFields, namedLeis, namedLonger}
 use Rattle.edges.proofs.Corporate.{namedShort, namedOthers}
-use Rattle.edges.proofs.Clients.{accountLetters, beforeHoldings, beforeLines, afterSizes, clientRates, usInUsd, usInGbp, canadaInUsd, gbInGbp, corporations}
-use Rattle.edges.proofs.Clients.{participantBonds, clientBonds, participantStrips, clientStrips, participantMixed, clientMixed, participantDenied}
-use Rattle.edges.proofs.Clients.{clientDenied, otherDenied, booksInUsd, booksOfCompany, booksInCad, clientLeast, clientNotLeast, dearerPrices}
-use Rattle.edges.proofs.Clients.{participantLeast, atClientPrices, lowestUncovered, accountTexts, accountRecord, accountOrder, headTwo, headTwoKept}
-use Rattle.edges.proofs.Clients.{clientWorked, clientFile, clientLine, participantFile, clientHedge, clientCorporation}
+use Rattle.edges.proofs.Clients.{accountLetters, beforeHoldings, beforeLines, afterSizes, clientRates, usInUsd, usInGbp, canadaInUsd, canadaInGbp, gbInUsd}
+use Rattle.edges.proofs.Clients.{gbInGbp, corporations, participantBonds, clientBonds, participantStrips, clientStrips, participantMixed, clientMixed}
+use Rattle.edges.proofs.Clients.{clientPeriods, participantDenied, clientDenied, otherDenied, booksInUsd, booksOfCompany, booksInCad, clientLeast}
+use Rattle.edges.proofs.Clients.{clientNotLeast, dearerPrices, participantLeast, atClientPrices, lowestUncovered, accountTexts, accountRecord, accountOrder}
+use Rattle.edges.proofs.Clients.{headTwo, headTwoKept, clientWorked, clientFile, clientLine, participantFile, clientHedge, clientCorporation}
 
 -- the table: document 01's cases, the starred first, then those of document 02 a), of b), of d) and of e). Most groups are as small as the prover computes
 -- when it names a case that fails; of the others it names the group
@@ -77,8 +77,9 @@ clientBooks =
 
 abbrev pub accounts : List (List Case)
 accounts =
-    accountLetters ∷ beforeHoldings ∷ beforeLines ∷ afterSizes ∷ clientRates ∷ usInUsd ∷ usInGbp ∷ canadaInUsd ∷ gbInGbp ∷ corporations ∷ participantBonds
-    ∷ clientBonds ∷ participantStrips ∷ clientStrips ∷ participantMixed ∷ clientMixed ∷ participantDenied ∷ clientDenied ∷ otherDenied ∷ clientBooks
+    accountLetters ∷ beforeHoldings ∷ beforeLines ∷ afterSizes ∷ clientRates ∷ usInUsd ∷ usInGbp ∷ canadaInUsd ∷ canadaInGbp ∷ gbInUsd ∷ gbInGbp ∷ corporations
+    ∷ participantBonds ∷ clientBonds ∷ participantStrips ∷ clientStrips ∷ participantMixed ∷ clientMixed ∷ clientPeriods ∷ participantDenied ∷ clientDenied
+    ∷ otherDenied ∷ clientBooks
 
 abbrev pub corporateTexts : List (List Case)
 corporateTexts =
@@ -144,14 +145,14 @@ unfolding
     corporationAbroad corporationInUsd corporationInGbp corporatePeriods ratingFaults ratingPlaces threeParagraphs withoutParagraph3 hedgedBooks
     corporateUnpaired leis leiTexts recordValues misratedRecords firstAppearance mostCorporations numberedFile alikeInHalf noCorporation corporateColumns
     corporatePairFile twoIssuersFile ratedLowerFile corporateFile ninthField beforeOrder smallLetters nineFields namedLeis namedLonger namedShort namedOthers
-    accountLetters beforeHoldings beforeLines afterSizes clientRates usInUsd usInGbp canadaInUsd gbInGbp corporations participantBonds clientBonds
-    participantStrips clientStrips participantMixed clientMixed participantDenied clientDenied otherDenied booksInUsd booksOfCompany booksInCad clientLeast
-    clientNotLeast dearerPrices participantLeast atClientPrices lowestUncovered accountTexts accountRecord accountOrder headTwo headTwoKept clientWorked
-    clientFile clientLine participantFile clientHedge clientCorporation
+    accountLetters beforeHoldings beforeLines afterSizes clientRates usInUsd usInGbp canadaInUsd canadaInGbp gbInUsd gbInGbp corporations participantBonds
+    clientBonds participantStrips clientStrips participantMixed clientMixed clientPeriods participantDenied clientDenied otherDenied booksInUsd booksOfCompany
+    booksInCad clientLeast clientNotLeast dearerPrices participantLeast atClientPrices lowestUncovered accountTexts accountRecord accountOrder headTwo
+    headTwoKept clientWorked clientFile clientLine participantFile clientHedge clientCorporation
 none-fails =
     let i : NoneFails clientTexts = (refl, (refl, (refl, (refl, (refl, (refl, (refl, (refl, (refl, (refl, (refl, tt))))))))))) in
     let h : NoneFails clientBooks = (refl, (refl, (refl, (refl, (refl, (refl, (refl, (refl, (refl, i))))))))) in
-    let g : NoneFails accounts = (refl, (refl, (refl, (refl, (refl, (refl, (refl, (refl, (refl, (refl, (refl, (refl, (refl, (refl, (refl, (refl, (refl, (refl, (refl, h))))))))))))))))))) in
+    let g : NoneFails accounts = (refl, (refl, (refl, (refl, (refl, (refl, (refl, (refl, (refl, (refl, (refl, (refl, (refl, (refl, (refl, (refl, (refl, (refl, (refl, (refl, (refl, (refl, h)))))))))))))))))))))) in
     let f : NoneFails corporateTexts = (refl, (refl, (refl, (refl, (refl, (refl, (refl, (refl, (refl, (refl, (refl, (refl, g)))))))))))) in
     let e : NoneFails identifiers = (refl, (refl, (refl, (refl, (refl, (refl, (refl, (refl, (refl, (refl, f)))))))))) in
     let d : NoneFails corporateBooks = (refl, (refl, (refl, (refl, (refl, (refl, e)))))) in
