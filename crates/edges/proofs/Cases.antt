@@ -344,6 +344,13 @@ columns name rows prices lines expected =
     let named : Submission → List ℕ = λ s. numbers s ++ s .prices ++ flatMap (λ l. l .long ∷ l .short ∷ l .amount ∷ []) (s .lines) ++ (s .head .date ∷ s .head .letter ∷ []) in
     record { name = name; computed = held c ++ named (submission (head 12 14) c); stated = expected }
 
+-- what the exported check answers to columns that hold a book with its prices and lines, and lists that are as long as they need be
+abbrev pub exported : Head → String → List Row → List ℕ → List Line → List ℕ → Case
+exported h name rows prices lines expected =
+    let list = zeros (8 * length rows) in
+    let c = filled (record { head = h; rows = rows; prices = prices; lines = lines }) (makeColumns (replicate 7 list) list (replicate 3 (zeros (8 * length lines)))) in
+    record { name = name; computed = answerNumbers (outcomeOf h c (makeLent list list (zeros 16))); stated = expected }
+
 -- what a text leaves in a head's list and in such columns, with an answer slice of so many bytes
 abbrev pub received : String → List ℕ → List ℕ → ℕ → List ℕ → Case
 received name text list slice expected = record {

@@ -9,7 +9,7 @@ use Rattle.holding.specs.declared.Head.{Head}
 use Rattle.holding.specs.declared.Row.{Row}
 use Rattle.pairing.specs.declared.Line.{Line}
 use Rattle.layout.specs.declared.Sort.the-variants.{Account}
-use Rattle.edges.proofs.Cases.{Case, rates-by, heads, pairs, pairs-by, no-pairs, no-pairs-by, proposal, proposal-by, proposals-by, lent-by, lengths-by}
+use Rattle.edges.proofs.Cases.{Case, rates-by, heads, pairs, pairs-by, no-pairs, no-pairs-by, proposal, proposal-by, proposals-by, lent-by, lengths-by, exported}
 use Rattle.edges.proofs.Cases.{prints, code, refuses, meanings, records, received, answers, D-by, D, H, H-in, H-rated, P, unended}
 use Rattle.edges.proofs.Cases.{head, participant, client, client-on, new-year, line, row, of, rated, L, S, B, C, R, CA, ON, QC, US, GB, CAD, USD, GBP, Y, N, none}
 use Rattle.edges.proofs.Cases.{file, file-lines}
@@ -256,6 +256,14 @@ booksOfCompany =
     ∷ proposal "a participant's unpaired, of a corporation" (bondAndCoupon K1 CAD Y) (0 ∷ 0 ∷ []) [] (16 ∷ 0 ∷ 1 ∷ [])
     ∷ proposal-by client "a client's line of a corporation" (bondAndCoupon K1 CAD Y) (10220 ∷ 0 ∷ []) (line 0 1 100 ∷ []) (13 ∷ 0 ∷ 0 ∷ [])
     ∷ proposal-by client "a client's unpaired, of a corporation" (bondAndCoupon K1 CAD Y) (0 ∷ 0 ∷ []) [] (0 ∷ 2555000 ∷ 18 ∷ 100 ∷ 100 ∷ 1 ∷ 0 ∷ [])
+    ∷ []
+
+-- and from the bytes that a host lends
+unfoldable pub exportedBooks : List Case
+exportedBooks =
+    exported participant "a participant's columns, with a line in USD" (bondAndCoupon US USD none) (5840 ∷ 0 ∷ []) (line 0 1 100 ∷ []) (0 ∷ 146000 ∷ 1 ∷ [])
+    ∷ exported client "a client's columns, with a line in USD" (bondAndCoupon US USD none) (5840 ∷ 0 ∷ []) (line 0 1 100 ∷ []) (13 ∷ 0 ∷ 0 ∷ [])
+    ∷ exported client "a client's columns, unpaired" (bondAndCoupon US USD none) (0 ∷ 0 ∷ []) [] (0 ∷ 730000 ∷ 5 ∷ [])
     ∷ []
 
 -- and by paragraph 2 they have one margin

@@ -60,9 +60,9 @@ use Rattle.edges.proofs.Corporate.{twoIssuersFile, ratedLowerFile, corp
 use Rattle.edges.proofs.Corporate.{namedShort, namedOthers}
 use Rattle.edges.proofs.Clients.{accountLetters, beforeHoldings, beforeLines, afterSizes, clientRates, usInUsd, usInGbp, canadaInUsd, canadaInGbp, gbInUsd}
 use Rattle.edges.proofs.Clients.{gbInGbp, corporations, participantBonds, clientBonds, participantStrips, clientStrips, participantMixed, clientMixed}
-use Rattle.edges.proofs.Clients.{clientPeriods, participantDenied, clientDenied, otherDenied, booksInUsd, booksOfCompany, booksInCad, clientLeast}
-use Rattle.edges.proofs.Clients.{clientNotLeast, dearerPrices, participantLeast, atClientPrices, lowestUncovered, accountTexts, accountRecord, accountOrder}
-use Rattle.edges.proofs.Clients.{headTwo, headTwoKept, clientWorked, clientFile, clientLine, participantFile, clientHedge, clientCorporation}
+use Rattle.edges.proofs.Clients.{clientPeriods, participantDenied, clientDenied, otherDenied, booksInUsd, booksOfCompany, exportedBooks, booksInCad}
+use Rattle.edges.proofs.Clients.{clientLeast, clientNotLeast, dearerPrices, participantLeast, atClientPrices, lowestUncovered, accountTexts, accountRecord}
+use Rattle.edges.proofs.Clients.{accountOrder, headTwo, headTwoKept, clientWorked, clientFile, clientLine, participantFile, clientHedge, clientCorporation}
 
 -- the table: document 01's cases, the starred first, then those of document 02 a), of b), of d) and of e). Most groups are as small as the prover computes
 -- when it names a case that fails; of the others it names the group
@@ -73,7 +73,8 @@ clientTexts =
 
 abbrev pub clientBooks : List (List Case)
 clientBooks =
-    booksInUsd ∷ booksOfCompany ∷ booksInCad ∷ clientLeast ∷ clientNotLeast ∷ dearerPrices ∷ participantLeast ∷ atClientPrices ∷ lowestUncovered ∷ clientTexts
+    booksInUsd ∷ booksOfCompany ∷ exportedBooks ∷ booksInCad ∷ clientLeast ∷ clientNotLeast ∷ dearerPrices ∷ participantLeast ∷ atClientPrices ∷ lowestUncovered
+    ∷ clientTexts
 
 abbrev pub accounts : List (List Case)
 accounts =
@@ -147,11 +148,11 @@ unfolding
     corporatePairFile twoIssuersFile ratedLowerFile corporateFile ninthField beforeOrder smallLetters nineFields namedLeis namedLonger namedShort namedOthers
     accountLetters beforeHoldings beforeLines afterSizes clientRates usInUsd usInGbp canadaInUsd canadaInGbp gbInUsd gbInGbp corporations participantBonds
     clientBonds participantStrips clientStrips participantMixed clientMixed clientPeriods participantDenied clientDenied otherDenied booksInUsd booksOfCompany
-    booksInCad clientLeast clientNotLeast dearerPrices participantLeast atClientPrices lowestUncovered accountTexts accountRecord accountOrder headTwo
-    headTwoKept clientWorked clientFile clientLine participantFile clientHedge clientCorporation
+    exportedBooks booksInCad clientLeast clientNotLeast dearerPrices participantLeast atClientPrices lowestUncovered accountTexts accountRecord accountOrder
+    headTwo headTwoKept clientWorked clientFile clientLine participantFile clientHedge clientCorporation
 none-fails =
     let i : NoneFails clientTexts = (refl, (refl, (refl, (refl, (refl, (refl, (refl, (refl, (refl, (refl, (refl, tt))))))))))) in
-    let h : NoneFails clientBooks = (refl, (refl, (refl, (refl, (refl, (refl, (refl, (refl, (refl, i))))))))) in
+    let h : NoneFails clientBooks = (refl, (refl, (refl, (refl, (refl, (refl, (refl, (refl, (refl, (refl, i)))))))))) in
     let g : NoneFails accounts = (refl, (refl, (refl, (refl, (refl, (refl, (refl, (refl, (refl, (refl, (refl, (refl, (refl, (refl, (refl, (refl, (refl, (refl, (refl, (refl, (refl, (refl, h)))))))))))))))))))))) in
     let f : NoneFails corporateTexts = (refl, (refl, (refl, (refl, (refl, (refl, (refl, (refl, (refl, (refl, (refl, (refl, g)))))))))))) in
     let e : NoneFails identifiers = (refl, (refl, (refl, (refl, (refl, (refl, (refl, (refl, (refl, (refl, f)))))))))) in
