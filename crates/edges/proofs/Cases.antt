@@ -45,11 +45,10 @@ pub record Case : Type 0 where
 abbrev pub Agrees : Case → Type 0
 Agrees c = c .computed ≡ c .stated
 
--- the names of the cases that do not hold. Where there are any, the prover's message has them if a group's name has 4 to 17 letters: it computes a type only
--- if its text is of some length, which is why this name is as long as it is
-unfoldable pub namesOfWrongCases : List Case → List String
-namesOfWrongCases [] = []
-namesOfWrongCases (c ∷ cs) = cond (same (c .computed) (c .stated)) (namesOfWrongCases cs) (c .name ∷ namesOfWrongCases cs)
+-- the names of the cases that do not hold
+unfoldable pub failing : List Case → List String
+failing [] = []
+failing (c ∷ cs) = cond (same (c .computed) (c .stated)) (failing cs) (c .name ∷ failing cs)
 
 -- the head with a valuation date and a letter; the date of document 01's cases; a participant's and a client's head with a date, and with that one
 abbrev pub head : ℕ → ℕ → Head

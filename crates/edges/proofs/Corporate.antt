@@ -131,14 +131,14 @@ twoCorporations =
     ∷ []
 
 -- a corporation and a government, each way round
-unfoldable pub notWithCanada : List Case
-notWithCanada =
+unfoldable pub corporationAndCanada : List Case
+corporationAndCanada =
     no-pairs "a corporation and Canada, a bond and a strip" (across K1 Y CA none)
     ∷ no-pairs "a corporation and Canada, two strips" ((long C K1 CAD Y, short R CA CAD none) ∷ (long C CA CAD none, short R K1 CAD Y) ∷ [])
     ∷ []
 
-unfoldable pub notWithProvince : List Case
-notWithProvince =
+unfoldable pub corporationAndProvince : List Case
+corporationAndProvince =
     no-pairs "a corporation and a province, a bond and a strip" (across K1 Y ON none)
     ∷ no-pairs "a corporation and a province, two strips" ((long C K1 CAD Y, short R ON CAD none) ∷ (long C ON CAD none, short R K1 CAD Y) ∷ [])
     ∷ []
@@ -392,8 +392,8 @@ corporateColumns =
     ∷ []
 
 -- files, from their bytes to the bytes that are printed: a corporate pair, and a line that is none
-unfoldable pub corporatePairFile : List Case
-corporatePairFile =
+unfoldable pub smallCorporateFile : List Case
+smallCorporateFile =
     prints
     "a file with a corporate pair"
     (D ++ H-rated "Y" "L,B,5493001KJTIIGC8Y1R12,2025-01-02,1,4380" ++ H-rated "N" "S,C,\"5493001KJTIIGC8Y1R12\",2025-01-02,1,0" ++ P "0,1,1")

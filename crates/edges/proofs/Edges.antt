@@ -44,7 +44,7 @@ use Rattle.report.specs.Report.{afterComma, lineOf, answerNumbers, refusalLine,
 use Rattle.received.specs.Reading.{heldLists, readingAnswer, filling, heading}
 use Rattle.received.specs.Naming.{leiTexts as namedTexts, leisTooShort, namingAnswer, naming}
 use Rattle.printing.specs.Printed.{fileAnswer, printed}
-use Rattle.edges.proofs.Cases.{Case, Agrees, namesOfWrongCases, alone, together, judged, worked}
+use Rattle.edges.proofs.Cases.{Case, Agrees, failing, alone, together, judged, worked}
 use Rattle.edges.proofs.Starred.{starred, starredFile}
 use Rattle.edges.proofs.Others.{single, thirdPrice, firstPrice, firstAmount, tooLong, acceptedFiles, rankedFile, files, recordPlaces, holdingNumerals, lineNumerals, recordFaults}
 use Rattle.edges.proofs.Others.{lending, reading, readingShort, tooMany, texts, fileProposals, shortcuts, proposals, lineRefusals, refusals}
@@ -52,10 +52,10 @@ use Rattle.edges.proofs.Foreign.{governments, longBonds, longStrips, no
 use Rattle.edges.proofs.Foreign.{foreignBooks, foreignFile, sterlingFile, unpairedFiles, eighthField, sevenFields}
 use Rattle.edges.proofs.Dated.{actualDays, wholeYears, anniversaries, twentyYears, periodEnds, otherEnds, maturities, valuations, dateTexts, valuationRecord, datedFiles}
 use Rattle.edges.proofs.Dated.{datedFigures, headAnswers, headList, headKept}
-use Rattle.edges.proofs.Corporate.{groupFive, hedges, longerHedges, capped, belowCap, hedgeEnds, ratedLower, sameKinds, twoCorporations, notWithCanada}
-use Rattle.edges.proofs.Corporate.{notWithProvince, corporationAbroad, corporationInUsd, corporationInGbp, corporatePeriods, ratingFaults, ratingPlaces}
+use Rattle.edges.proofs.Corporate.{groupFive, hedges, longerHedges, capped, belowCap, hedgeEnds, ratedLower, sameKinds, twoCorporations, corporationAndCanada}
+use Rattle.edges.proofs.Corporate.{corporationAndProvince, corporationAbroad, corporationInUsd, corporationInGbp, corporatePeriods, ratingFaults, ratingPlaces}
 use Rattle.edges.proofs.Corporate.{threeParagraphs, withoutParagraph3, hedgedBooks, corporateUnpaired, leis, leiTexts, recordValues, misratedRecords}
-use Rattle.edges.proofs.Corporate.{firstAppearance, mostCorporations, numberedFile, alikeInHalf, noCorporation, corporateColumns, corporatePairFile}
+use Rattle.edges.proofs.Corporate.{firstAppearance, mostCorporations, numberedFile, alikeInHalf, noCorporation, corporateColumns, smallCorporateFile}
 use Rattle.edges.proofs.Corporate.{twoIssuersFile, ratedLowerFile, corporateFile, ninthField, beforeOrder, smallLetters, nineFields, namedLeis, namedLonger}
 use Rattle.edges.proofs.Corporate.{namedShort, namedOthers}
 use Rattle.edges.proofs.Clients.{accountLetters, beforeHoldings, beforeLines, afterSizes, clientRates, usInUsd, usInGbp, canadaInUsd, canadaInGbp, gbInUsd}
@@ -84,7 +84,7 @@ accounts =
 
 abbrev pub corporateTexts : List (List Case)
 corporateTexts =
-    corporatePairFile ∷ twoIssuersFile ∷ ratedLowerFile ∷ corporateFile ∷ ninthField ∷ beforeOrder ∷ smallLetters ∷ nineFields ∷ namedLeis
+    smallCorporateFile ∷ twoIssuersFile ∷ ratedLowerFile ∷ corporateFile ∷ ninthField ∷ beforeOrder ∷ smallLetters ∷ nineFields ∷ namedLeis
     ∷ namedLonger ∷ namedShort ∷ namedOthers ∷ accounts
 
 abbrev pub identifiers : List (List Case)
@@ -98,8 +98,8 @@ corporateBooks =
 
 abbrev pub corporatePairs : List (List Case)
 corporatePairs =
-    groupFive ∷ hedges ∷ longerHedges ∷ capped ∷ belowCap ∷ hedgeEnds ∷ ratedLower ∷ sameKinds ∷ twoCorporations ∷ notWithCanada
-    ∷ notWithProvince ∷ corporationAbroad ∷ corporationInUsd ∷ corporationInGbp ∷ corporatePeriods ∷ corporateBooks
+    groupFive ∷ hedges ∷ longerHedges ∷ capped ∷ belowCap ∷ hedgeEnds ∷ ratedLower ∷ sameKinds ∷ twoCorporations ∷ corporationAndCanada
+    ∷ corporationAndProvince ∷ corporationAbroad ∷ corporationInUsd ∷ corporationInGbp ∷ corporatePeriods ∷ corporateBooks
 
 abbrev pub dates : List (List Case)
 dates =
@@ -119,7 +119,7 @@ table =
 
 -- no case of any group fails; where this is refused, the message names those that do
 abbrev NoneFails : List (List Case) → Type 0
-NoneFails groups = Each (λ cs. namesOfWrongCases cs ≡ []) groups
+NoneFails groups = Each (λ cs. failing cs ≡ []) groups
 
 none-fails : NoneFails table
 unfolding
@@ -127,25 +127,25 @@ unfolding
     lending reading readingShort tooMany texts fileProposals shortcuts proposals lineRefusals refusals governments longBonds longStrips notParagraph4
     twoCurrencies foreignProvinces foreignDebt bothParagraphs paragraph2Alone foreignBooks foreignFile sterlingFile unpairedFiles eighthField sevenFields
     actualDays wholeYears anniversaries twentyYears periodEnds otherEnds maturities valuations dateTexts valuationRecord datedFiles datedFigures headAnswers
-    headList headKept namesOfWrongCases alone together judged worked within firstOf some count same insert ordered sumTo sumOf only listTo turns inTurn front
-    holdingSizes lineSizes listsOf writtenLists two entriesOf unequal differ tooShort outcomeIn outcomeOf countIn numbersAt rowsIn linesIn submission column
-    filledFrom filled row.numbersOf lineNumbers answered readAnswer heldLists readingAnswer filling heading isLeap leapDay monthLengths monthLength isReal
-    isDate yearStart monthStart dayNumber daysBetween isLeapDay anniversary digitsOf dateText textNumber readDate headNumbers headFaults headFault letterOf
-    accountOf outOfTerm identityFaults termFaults worthFaults moneyFaults rowFaults faultOf holdingOf sideOf kindOf issuerOf currencyOf rowOf longerThan atLeast
-    periodOf percents flatRate bondRate stripRate kindRate rateAt rateOf legOf isLong isShort isBond isStrip isCanada isProvince isUs isGb inCad inUsd inGbp
-    kindsPair sameClass mixedClass classRule domesticRule oneBond sameGovernment foreignRule bothCad sameForeign ruleOf ruleRate allowed pairRateOf savingRateOf
-    pairOf used theory.savingRate saving pairUnits pricedTotal ranksBefore rankingOf bookOf termsOf priced remainder margin unitsOf remaindersOf ranked centsOf
-    atPlace holdingFaults pairFaults lineFaults atHolding bookFaults atLine linesFaults uncovered atPair atLong uncoveredPairs totalsDiffer totalsFaults
-    sizeFaults faults accepted outcome lead digits valueFrom numeralOf placeFrom placeOf isText isQuotable part textFrom textEnd closeFrom closeAt followedBy
-    followed begins opens enclosed fieldAt fieldsFrom recordAt recordsFrom recordsAt recordsOf valueOf valuesOf parsedOf parse parsedIn valuesBy submissionOf
-    atRecord fileFaults fileFault afterComma lineOf answerNumbers refusalLine marginLine remainderLine printedLines bookLine printedOf fileAnswer printed
-    flatMap number littleEndian wordAt entries decode encode isCorporation isIssuer isRated ratingOf isParticipant areParticipants isCorporate bondRating
-    sameCorporation corporateRule cadRule isDigit isCapital isCharacter inForm lei.valueOf lei.digitsOf lei.number lei.remainder halfOf leiOf judgedOf
-    characterOf characters leiText sameLei firstPlace enter misrated issuerNumber knownAfter numberedFrom leisFrom holdingsOf leisOf answerTo namedTexts
-    leisTooShort namingAnswer naming groupFive hedges longerHedges capped belowCap hedgeEnds ratedLower sameKinds twoCorporations notWithCanada notWithProvince
+    headList headKept failing alone together judged worked within firstOf some count same insert ordered sumTo sumOf only listTo turns inTurn front holdingSizes
+    lineSizes listsOf writtenLists two entriesOf unequal differ tooShort outcomeIn outcomeOf countIn numbersAt rowsIn linesIn submission column filledFrom
+    filled row.numbersOf lineNumbers answered readAnswer heldLists readingAnswer filling heading isLeap leapDay monthLengths monthLength isReal isDate yearStart
+    monthStart dayNumber daysBetween isLeapDay anniversary digitsOf dateText textNumber readDate headNumbers headFaults headFault letterOf accountOf outOfTerm
+    identityFaults termFaults worthFaults moneyFaults rowFaults faultOf holdingOf sideOf kindOf issuerOf currencyOf rowOf longerThan atLeast periodOf percents
+    flatRate bondRate stripRate kindRate rateAt rateOf legOf isLong isShort isBond isStrip isCanada isProvince isUs isGb inCad inUsd inGbp kindsPair sameClass
+    mixedClass classRule domesticRule oneBond sameGovernment foreignRule bothCad sameForeign ruleOf ruleRate allowed pairRateOf savingRateOf pairOf used
+    theory.savingRate saving pairUnits pricedTotal ranksBefore rankingOf bookOf termsOf priced remainder margin unitsOf remaindersOf ranked centsOf atPlace
+    holdingFaults pairFaults lineFaults atHolding bookFaults atLine linesFaults uncovered atPair atLong uncoveredPairs totalsDiffer totalsFaults sizeFaults
+    faults accepted outcome lead digits valueFrom numeralOf placeFrom placeOf isText isQuotable part textFrom textEnd closeFrom closeAt followedBy followed
+    begins opens enclosed fieldAt fieldsFrom recordAt recordsFrom recordsAt recordsOf valueOf valuesOf parsedOf parse parsedIn valuesBy submissionOf atRecord
+    fileFaults fileFault afterComma lineOf answerNumbers refusalLine marginLine remainderLine printedLines bookLine printedOf fileAnswer printed flatMap number
+    littleEndian wordAt entries decode encode isCorporation isIssuer isRated ratingOf isParticipant areParticipants isCorporate bondRating sameCorporation
+    corporateRule cadRule isDigit isCapital isCharacter inForm lei.valueOf lei.digitsOf lei.number lei.remainder halfOf leiOf judgedOf characterOf characters
+    leiText sameLei firstPlace enter misrated issuerNumber knownAfter numberedFrom leisFrom holdingsOf leisOf answerTo namedTexts leisTooShort namingAnswer
+    naming groupFive hedges longerHedges capped belowCap hedgeEnds ratedLower sameKinds twoCorporations corporationAndCanada corporationAndProvince
     corporationAbroad corporationInUsd corporationInGbp corporatePeriods ratingFaults ratingPlaces threeParagraphs withoutParagraph3 hedgedBooks
     corporateUnpaired leis leiTexts recordValues misratedRecords firstAppearance mostCorporations numberedFile alikeInHalf noCorporation corporateColumns
-    corporatePairFile twoIssuersFile ratedLowerFile corporateFile ninthField beforeOrder smallLetters nineFields namedLeis namedLonger namedShort namedOthers
+    smallCorporateFile twoIssuersFile ratedLowerFile corporateFile ninthField beforeOrder smallLetters nineFields namedLeis namedLonger namedShort namedOthers
     accountLetters beforeHoldings beforeLines afterSizes clientRates usInUsd usInGbp canadaInUsd canadaInGbp gbInUsd gbInGbp corporations participantBonds
     clientBonds participantStrips clientStrips participantMixed clientMixed clientPeriods participantDenied clientDenied otherDenied booksInUsd booksOfCompany
     exportedBooks booksInCad clientLeast clientNotLeast dearerPrices participantLeast atClientPrices lowestUncovered accountTexts accountRecord accountOrder
@@ -163,15 +163,14 @@ none-fails =
     (refl, (refl, (refl, (refl, (refl, (refl, (refl, (refl, (refl, (refl, (refl, (refl, (refl, (refl, (refl, (refl, (refl, (refl, (refl, (refl, (refl, (refl, (refl, (refl, a))))))))))))))))))))))))
 
 -- cases of which none fails agree
-none-each : (cs : List Case) → namesOfWrongCases cs ≡ [] → Each Agrees cs
-unfolding namesOfWrongCases
+none-each : (cs : List Case) → failing cs ≡ [] → Each Agrees cs
+unfolding failing
 none-each [] e = tt
 none-each (c ∷ cs) e = by (none-each cs) (same (c .computed) (c .stated)) refl e
   where
-    by : (namesOfWrongCases cs ≡ [] → Each Agrees cs) → (t : Bool) → same (c .computed) (c .stated) ≡ t → cond t (namesOfWrongCases cs) (c .name ∷ namesOfWrongCases cs) ≡ []
-        → Agrees c × Each Agrees cs
+    by : (failing cs ≡ [] → Each Agrees cs) → (t : Bool) → same (c .computed) (c .stated) ≡ t → cond t (failing cs) (c .name ∷ failing cs) ≡ [] → Agrees c × Each Agrees cs
     by rest true h f = (same-true (c .computed) (c .stated) h, rest f)
     by rest false h f = absurd (omega (arith, ap (λ (l : List String). length l) f))
 
 pub edges : Each (Each Agrees) table
-edges = each-so (λ cs. namesOfWrongCases cs ≡ []) (Each Agrees) none-each table none-fails
+edges = each-so (λ cs. failing cs ≡ []) (Each Agrees) none-each table none-fails
