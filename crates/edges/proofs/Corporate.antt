@@ -246,7 +246,12 @@ hedgedBooks =
     proposal "the bond with the strip from 20 years" (two-strips 1000) (29200 ∷ 0 ∷ 0 ∷ []) (line 0 2 1000 ∷ []) (0 ∷ 51100000 ∷ 350 ∷ 0 ∷ 1000 ∷ 0 ∷ 1 ∷ 0 ∷ 2 ∷ [])
     ∷ proposal "the bond with the strip below 20 years is not the least" (two-strips 1000) (29200 ∷ 0 ∷ 0 ∷ []) (line 0 1 1000 ∷ []) (17 ∷ 0 ∷ 0 ∷ [])
     ∷ proposal "the bond with both" (two-strips 400) (14600 ∷ 0 ∷ 14600 ∷ []) (line 0 1 600 ∷ line 0 2 400 ∷ []) (0 ∷ 33580000 ∷ 230 ∷ 0 ∷ 400 ∷ 0 ∷ 1 ∷ 0 ∷ 2 ∷ [])
-    ∷ proposal "a capped pair a unit short of cover" (two-strips 400) (14600 ∷ 0 ∷ 14599 ∷ []) (line 0 1 600 ∷ line 0 2 400 ∷ []) (16 ∷ 0 ∷ 2 ∷ [])
+    ∷ []
+
+-- and at other prices
+unfoldable pub hedgePrices : List Case
+hedgePrices =
+    proposal "a capped pair a unit short of cover" (two-strips 400) (14600 ∷ 0 ∷ 14599 ∷ []) (line 0 1 600 ∷ line 0 2 400 ∷ []) (16 ∷ 0 ∷ 2 ∷ [])
     ∷ proposal "a pair a unit short of cover" (two-strips 400) (14599 ∷ 0 ∷ 14601 ∷ []) (line 0 1 600 ∷ line 0 2 400 ∷ []) (16 ∷ 0 ∷ 1 ∷ [])
     ∷ proposal "a pair a unit above cover" (two-strips 400) (14600 ∷ 0 ∷ 14601 ∷ []) (line 0 1 600 ∷ line 0 2 400 ∷ []) (17 ∷ 0 ∷ 0 ∷ [])
     ∷ []

@@ -54,7 +54,7 @@ use Rattle.edges.proofs.Dated.{actualDays, wholeYears, anniversaries, t
 use Rattle.edges.proofs.Dated.{datedFigures, headAnswers, headList, headKept}
 use Rattle.edges.proofs.Corporate.{groupFive, hedges, longerHedges, capped, belowCap, hedgeEnds, ratedLower, sameKinds, twoCorporations, corporationAndCanada}
 use Rattle.edges.proofs.Corporate.{corporationAndProvince, corporationAbroad, corporationInUsd, corporationInGbp, corporatePeriods, ratingFaults, ratingPlaces}
-use Rattle.edges.proofs.Corporate.{threeParagraphs, withoutParagraph3, hedgedBooks, corporateUnpaired, leis, leiTexts, recordValues, misratedRecords}
+use Rattle.edges.proofs.Corporate.{threeParagraphs, withoutParagraph3, hedgedBooks, hedgePrices, corporateUnpaired, leis, leiTexts, recordValues, misratedRecords}
 use Rattle.edges.proofs.Corporate.{firstAppearance, mostCorporations, numberedFile, alikeInHalf, noCorporation, corporateColumns, smallCorporateFile}
 use Rattle.edges.proofs.Corporate.{twoIssuersFile, ratedLowerFile, corporateFile, ninthField, beforeOrder, smallLetters, nineFields, namedLeis, namedLonger}
 use Rattle.edges.proofs.Corporate.{namedShort, namedOthers}
@@ -94,7 +94,7 @@ identifiers =
 
 abbrev pub corporateBooks : List (List Case)
 corporateBooks =
-    ratingFaults ∷ ratingPlaces ∷ threeParagraphs ∷ withoutParagraph3 ∷ hedgedBooks ∷ corporateUnpaired ∷ identifiers
+    ratingFaults ∷ ratingPlaces ∷ threeParagraphs ∷ withoutParagraph3 ∷ hedgedBooks ∷ hedgePrices ∷ corporateUnpaired ∷ identifiers
 
 abbrev pub corporatePairs : List (List Case)
 corporatePairs =
@@ -143,7 +143,7 @@ unfolding
     corporateRule cadRule isDigit isCapital isCharacter inForm lei.valueOf lei.digitsOf lei.number lei.remainder halfOf leiOf judgedOf characterOf characters
     leiText sameLei firstPlace enter misrated issuerNumber knownAfter numberedFrom leisFrom holdingsOf leisOf answerTo namedTexts leisTooShort namingAnswer
     naming groupFive hedges longerHedges capped belowCap hedgeEnds ratedLower sameKinds twoCorporations corporationAndCanada corporationAndProvince
-    corporationAbroad corporationInUsd corporationInGbp corporatePeriods ratingFaults ratingPlaces threeParagraphs withoutParagraph3 hedgedBooks
+    corporationAbroad corporationInUsd corporationInGbp corporatePeriods ratingFaults ratingPlaces threeParagraphs withoutParagraph3 hedgedBooks hedgePrices
     corporateUnpaired leis leiTexts recordValues misratedRecords firstAppearance mostCorporations numberedFile alikeInHalf noCorporation corporateColumns
     smallCorporateFile twoIssuersFile ratedLowerFile corporateFile ninthField beforeOrder smallLetters nineFields namedLeis namedLonger namedShort namedOthers
     accountLetters beforeHoldings beforeLines afterSizes clientRates usInUsd usInGbp canadaInUsd canadaInGbp gbInUsd gbInGbp corporations participantBonds
@@ -156,7 +156,7 @@ none-fails =
     let g : NoneFails accounts = (refl, (refl, (refl, (refl, (refl, (refl, (refl, (refl, (refl, (refl, (refl, (refl, (refl, (refl, (refl, (refl, (refl, (refl, (refl, (refl, (refl, (refl, h)))))))))))))))))))))) in
     let f : NoneFails corporateTexts = (refl, (refl, (refl, (refl, (refl, (refl, (refl, (refl, (refl, (refl, (refl, (refl, g)))))))))))) in
     let e : NoneFails identifiers = (refl, (refl, (refl, (refl, (refl, (refl, (refl, (refl, (refl, (refl, f)))))))))) in
-    let d : NoneFails corporateBooks = (refl, (refl, (refl, (refl, (refl, (refl, e)))))) in
+    let d : NoneFails corporateBooks = (refl, (refl, (refl, (refl, (refl, (refl, (refl, e))))))) in
     let c : NoneFails corporatePairs = (refl, (refl, (refl, (refl, (refl, (refl, (refl, (refl, (refl, (refl, (refl, (refl, (refl, (refl, (refl, d))))))))))))))) in
     let b : NoneFails dates = (refl, (refl, (refl, (refl, (refl, (refl, (refl, (refl, (refl, (refl, (refl, (refl, (refl, (refl, (refl, c))))))))))))))) in
     let a : NoneFails currencies = (refl, (refl, (refl, (refl, (refl, (refl, (refl, (refl, (refl, (refl, (refl, (refl, (refl, (refl, (refl, b))))))))))))))) in
