@@ -235,7 +235,7 @@ otherDenied =
     ∷ no-pairs-by client "a client's Canada in CAD with Canada in USD" ((long B CA CAD none, short C CA USD none) ∷ (long C CA USD none, short B CA CAD none) ∷ [])
     ∷ []
 
--- a bond and a strip of one issuer, by its currency and rating
+-- a bond and a coupon of one issuer, by its currency and rating
 abbrev bondAndCoupon : ℕ → ℕ → ℕ → List Row
 bondAndCoupon issuer currency rating = long B issuer currency rating ∷ short C issuer currency rating ∷ []
 
@@ -323,12 +323,16 @@ atClientPrices =
     proposal "a participant's, at a client's prices" desk client-prices (file-lines 600000) (16 ∷ 3 ∷ 4 ∷ [])
     ∷ []
 
+-- a pair of paragraph 4, of 3 and of 2
+abbrev each-paragraph : List Row
+each-paragraph = bondAndCoupon US USD none ++ bondAndCoupon K1 CAD Y ++ bondAndCoupon CA CAD none
+
 -- of the uncovered pairs that of the lowest long, among those that the account may have
 unfoldable pub lowestUncovered : List Case
 lowestUncovered =
-    proposal "a participant's, in USD" (bondAndCoupon US USD none ++ bondAndCoupon K1 CAD Y ++ bondAndCoupon CA CAD none) (replicate 6 0) [] (16 ∷ 0 ∷ 1 ∷ [])
-    ∷ proposal "a participant's, of a corporation" (bondAndCoupon US USD none ++ bondAndCoupon K1 CAD Y ++ bondAndCoupon CA CAD none) (5840 ∷ replicate 5 0) [] (16 ∷ 2 ∷ 3 ∷ [])
-    ∷ proposal-by client "a client's, in CAD" (bondAndCoupon US USD none ++ bondAndCoupon K1 CAD Y ++ bondAndCoupon CA CAD none) (replicate 6 0) [] (16 ∷ 4 ∷ 5 ∷ [])
+    proposal "a participant's, in USD" each-paragraph (replicate 6 0) [] (16 ∷ 0 ∷ 1 ∷ [])
+    ∷ proposal "a participant's, of a corporation" each-paragraph (5840 ∷ replicate 5 0) [] (16 ∷ 2 ∷ 3 ∷ [])
+    ∷ proposal-by client "a client's, in CAD" each-paragraph (replicate 6 0) [] (16 ∷ 4 ∷ 5 ∷ [])
     ∷ []
 
 -- the third field of a D: `P` or `C`; any other text is 21
