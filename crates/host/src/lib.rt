@@ -119,7 +119,7 @@ pub extern "C" fn margin_check(
     )
 }
 
-// Reads a file into the columns, for the host: returns the refusal number, 0 for none. Tables of 64 entries serve a short text, which has no more
+// Reads a file into the columns, for the host: returns the refusal number, 0 for none. Tables of 72 entries serve a short text, which has no more
 // records than bytes, and 512 any other. Nothing is presumed of the text, the bytes or the lengths.
 #[no_mangle]
 pub extern "C" fn margin_read(
@@ -151,12 +151,12 @@ pub extern "C" fn margin_read(
 {
     let mut high = lists::zeros();
     let mut low = lists::zeros();
-    if text.len() <= 64 {
-        let mut book = [0u8; 512 * (csv::FIELDS - 1)];
-        let mut lines = [0u8; 512 * 3];
+    if text.len() <= 72 {
+        let mut book = [0u8; 576 * (csv::FIELDS - 1)];
+        let mut lines = [0u8; 576 * 3];
         return received::read_into(
             text,
-            64,
+            72,
             &mut book,
             &mut lines,
             &mut high,

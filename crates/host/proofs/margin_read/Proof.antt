@@ -16,7 +16,7 @@ read-large c =
     let half = c .before .before .before .before .before .before .before .before .before .before .before .before .before .before .before in
     half .before .before .before .before .before .before .before .before .before .before .before .before .before .before .before
 
--- up to 64 bytes are up to 64 records
+-- up to 72 bytes are up to 72 records
 pub margin-read-spec : {M : Type 1} → statement M
 margin-read-spec =
     tie.close
