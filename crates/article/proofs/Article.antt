@@ -11,7 +11,7 @@ use Rattle.holding.proofs.Ranges.{fault-none, none-fault, row-refused, row-kept
 use Rattle.holding.proofs.Numbers.{numbers}
 use Rattle.rates.proofs.RateTable.{rate-table}
 use Rattle.rates.proofs.Periods.{periods}
-use Rattle.article.proofs.Clients.{client-pairs}
+use Rattle.article.proofs.Clients.{clients}
 use Rattle.article.proofs.PairRates.{difference-excess, half-exact, rate-and-saving}
 use Rattle.article.proofs.Saved.{corporate-legs, saving-high}
 use Rattle.article.proofs.LegRates.{leg-rates}
@@ -260,5 +260,5 @@ article = record {
   rates = rate-table;
   pairs = pairing;
   no-pairs = stay-unpaired;
-  clients = client-pairs;
+  clients = clients;
 }

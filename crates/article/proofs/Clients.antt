@@ -1,17 +1,24 @@
 -- A client may pair what a participant may pair by paragraph 2, at the same rate. Assumes nothing.
-use mathlib.Core.Path.{_≡_, refl, ap, sym, _∙_}
+use mathlib.Core.Path.{_≡_, refl, ap, sym, subst, _∙_}
 use Prim.Native.Nat.{ℕ}
 use native.Mathlib.Omega.{arith}
 use Rattle.rates.specs.Rate.{longerThan, atLeast, periodOf, classOf, bondRate, stripRate, kindRate, rateAt, rateOf}
 use Rattle.article.proofs.Paragraphs.{in-cad}
-use Rattle.article.specs.Article.{Paragraph2, ByParagraph, by-2, by-3, by-4, MayPair, clientOn, participantOn, ClientPairs}
+use Rattle.article.specs.Article.{Paragraph2, ByParagraph, by-2, by-3, by-4, MayPair, ClientPairs}
 use Rattle.article.specs.Pair.{legOf, isBond, isStrip, isCanada, isProvince, kindsPair, sameClass, mixedClass, classRule, domesticRule, ruleOf, ruleRate, pairRateOf}
 use Rattle.holding.specs.Holding.{letterNumber}
-use Rattle.holding.specs.declared.AccountKind.{AccountKind}
+use Rattle.holding.specs.declared.Account.{Account}
 use Rattle.holding.specs.declared.AccountKind.the-variants.{Participant, Client}
 use Rattle.holding.specs.declared.Kind.{Kind}
 use Rattle.holding.specs.declared.Kind.the-variants.{Bond, Coupon, Residual}
 use Rattle.holding.specs.declared.Holding.{Holding}
+
+-- a client's account and a participant's, valued on one date
+abbrev clientOn : ℕ → Account
+clientOn date = record { date = date; letter = Client }
+
+abbrev participantOn : ℕ → Account
+participantOn date = record { date = date; letter = Participant }
 
 -- a client is no participant
 no-participant : Client ≡ Participant → ⊥
@@ -50,7 +57,7 @@ module _ (date : ℕ) where
     unfolding pairRateOf legOf
     same-rate p = rw (same-rule p, same-alone l, same-alone s)
 
-    pub client-pairs : ClientPairs date l s
+    client-pairs : ClientPairs (clientOn date) (participantOn date) l s
     client-pairs = record {
       may = (
         λ m.
@@ -63,3 +70,11 @@ module _ (date : ℕ) where
       same-rate = λ m. same-rate (by-two (m .paragraph));
       alone = same-alone l;
     }
+
+-- every client's account is one of these, and every participant's
+pub clients : (c p : Account) → c .letter ≡ Client → p .letter ≡ Participant → c .date ≡ p .date → (l s : Holding) → ClientPairs c p l s
+clients c p e f d l s =
+    let ours : clientOn (p .date) ≡ c = λ t. record { date = sym d t; letter = sym e t } in
+    let theirs : participantOn (p .date) ≡ p = λ t. record { date = p .date; letter = sym f t } in
+    subst (λ (a : Account). ClientPairs a p l s) ours
+    (subst (λ (a : Account). ClientPairs (clientOn (p .date)) a l s) theirs (client-pairs (p .date) l s))

@@ -97,20 +97,12 @@ pub record Pairing (a : Account) (l s : Holding) : Type 0 where
   pub saving : pairRateOf (legOf a l) (legOf a s) + savingRateOf (legOf a l) (legOf a s) ≡ rateOf a l + rateOf a s
   pub saving-range : savingRateOf (legOf a l) (legOf a s) ≤ 43800
 
--- a client's account and a participant's, valued on one date
-abbrev pub clientOn : ℕ → Account
-clientOn date = record { date = date; letter = Client }
-
-abbrev pub participantOn : ℕ → Account
-participantOn date = record { date = date; letter = Participant }
-
--- a client may pair what a participant may pair by paragraph 2, and nothing else, at the same rate
-pub record ClientPairs (date : ℕ) (l s : Holding) : Type 0 where
-  pub may : MayPair (clientOn date) l s ↔ (MayPair (participantOn date) l s × Paragraph2 l s)
-  pub same-rate : MayPair (clientOn date) l s
-      → pairRateOf (legOf (clientOn date) l) (legOf (clientOn date) s) ≡ pairRateOf (legOf (participantOn date) l) (legOf (participantOn date) s)
+-- of a client's account and a participant's: a client may pair what a participant may pair by paragraph 2, and nothing else, at the same rate
+pub record ClientPairs (c p : Account) (l s : Holding) : Type 0 where
+  pub may : MayPair c l s ↔ (MayPair p l s × Paragraph2 l s)
+  pub same-rate : MayPair c l s → pairRateOf (legOf c l) (legOf c s) ≡ pairRateOf (legOf p l) (legOf p s)
   -- and what a holding has alone is the same for both
-  pub alone : rateOf (clientOn date) l ≡ rateOf (participantOn date) l
+  pub alone : rateOf c l ≡ rateOf p l
 
 -- in no pair, as the long or as the short
 pub record Unpaired (h : Holding) : Type 0 where
@@ -147,4 +139,5 @@ pub record Article : Type 0 where
   pub rates : (a : Account) (h : Holding) → RateTable a h
   pub pairs : (a : Account) (l s : Holding) → InRange a l → InRange a s → Pairing a l s
   pub no-pairs : (h : Holding) → StayUnpaired h
-  pub clients : (date : ℕ) (l s : Holding) → ClientPairs date l s
+  -- a client's account and a participant's that are valued on one date
+  pub clients : (c p : Account) → c .letter ≡ Client → p .letter ≡ Participant → c .date ≡ p .date → (l s : Holding) → ClientPairs c p l s

@@ -340,7 +340,8 @@ unfoldable pub accountTexts : List Case
 accountTexts =
     code "the letters of an account" Account ("P" ∷ "C" ∷ []) (0 ∷ 1 ∷ [])
     ∷ refuses "texts that are none" Account
-    ("" ∷ "p" ∷ "c" ∷ "PC" ∷ "CP" ∷ "PP" ∷ "X" ∷ "A" ∷ "D" ∷ "H" ∷ "R" ∷ "0" ∷ "1" ∷ "2" ∷ " " ∷ " P" ∷ "P " ∷ "C " ∷ " C" ∷ "CA" ∷ "\"P\"" ∷ "Participant" ∷ [])
+    ("" ∷ "p" ∷ "c" ∷ "PC" ∷ "CP" ∷ "PP" ∷ "X" ∷ "A" ∷ "D" ∷ "H" ∷ "R" ∷ "0" ∷ "1" ∷ "2" ∷ " " ∷ " P"
+    ∷ "P " ∷ "C " ∷ " C" ∷ "CA" ∷ "\"P\"" ∷ "Participant" ∷ [])
     (replicate 22 21)
     ∷ meanings "a D of each letter" (map (λ letter. "D" ∷ "2025-01-01" ∷ letter ∷ replicate 6 "") ("P" ∷ "C" ∷ []))
     (flatMap (λ n. 0 ∷ 20250101 ∷ n ∷ replicate 8 0) (0 ∷ 1 ∷ []))

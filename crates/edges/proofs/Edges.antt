@@ -76,11 +76,15 @@ clientBooks =
     booksInUsd ∷ booksOfCompany ∷ exportedBooks ∷ booksInCad ∷ clientLeast ∷ clientNotLeast ∷ dearerPrices ∷ participantLeast ∷ atClientPrices ∷ lowestUncovered
     ∷ clientTexts
 
+abbrev pub paragraph2Pairs : List (List Case)
+paragraph2Pairs =
+    participantBonds ∷ clientBonds ∷ participantStrips ∷ clientStrips ∷ participantMixed ∷ clientMixed ∷ clientPeriods ∷ participantDenied ∷ clientDenied
+    ∷ otherDenied ∷ clientBooks
+
 abbrev pub accounts : List (List Case)
 accounts =
     accountLetters ∷ beforeHoldings ∷ beforeLines ∷ afterSizes ∷ clientRates ∷ usInUsd ∷ usInGbp ∷ canadaInUsd ∷ canadaInGbp ∷ gbInUsd ∷ gbInGbp ∷ corporations
-    ∷ participantBonds ∷ clientBonds ∷ participantStrips ∷ clientStrips ∷ participantMixed ∷ clientMixed ∷ clientPeriods ∷ participantDenied ∷ clientDenied
-    ∷ otherDenied ∷ clientBooks
+    ∷ paragraph2Pairs
 
 abbrev pub corporateTexts : List (List Case)
 corporateTexts =
@@ -153,7 +157,8 @@ unfolding
 none-fails =
     let i : NoneFails clientTexts = (refl, (refl, (refl, (refl, (refl, (refl, (refl, (refl, (refl, (refl, (refl, tt))))))))))) in
     let h : NoneFails clientBooks = (refl, (refl, (refl, (refl, (refl, (refl, (refl, (refl, (refl, (refl, i)))))))))) in
-    let g : NoneFails accounts = (refl, (refl, (refl, (refl, (refl, (refl, (refl, (refl, (refl, (refl, (refl, (refl, (refl, (refl, (refl, (refl, (refl, (refl, (refl, (refl, (refl, (refl, h)))))))))))))))))))))) in
+    let g₂ : NoneFails paragraph2Pairs = (refl, (refl, (refl, (refl, (refl, (refl, (refl, (refl, (refl, (refl, h)))))))))) in
+    let g : NoneFails accounts = (refl, (refl, (refl, (refl, (refl, (refl, (refl, (refl, (refl, (refl, (refl, (refl, g₂)))))))))))) in
     let f : NoneFails corporateTexts = (refl, (refl, (refl, (refl, (refl, (refl, (refl, (refl, (refl, (refl, (refl, (refl, g)))))))))))) in
     let e : NoneFails identifiers = (refl, (refl, (refl, (refl, (refl, (refl, (refl, (refl, (refl, (refl, f)))))))))) in
     let d : NoneFails corporateBooks = (refl, (refl, (refl, (refl, (refl, (refl, (refl, e))))))) in

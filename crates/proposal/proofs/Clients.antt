@@ -8,15 +8,15 @@ use lib.ListN.{length}
 use Rattle.lists.specs.Tables.{Each, sumTo, sumOf}
 use Rattle.lists.proofs.Sums.{sumTo-eq}
 use Rattle.holding.specs.Holding.{letterOf, accountOf}
-use Rattle.holding.specs.declared.Row.{Row}
-use Rattle.article.specs.Article.{clientOn, participantOn, ClientPairs}
+use Rattle.holding.specs.declared.{Holding.Holding, Row.Row}
+use Rattle.article.specs.Article.{ClientPairs}
 use Rattle.article.proofs.Article.{article}
 use Rattle.pairing.specs.Pairing.{Terms, used, AllowedPair, IsPairing, pairUnits, restUnits, sumAt, Least}
 use Rattle.pairing.specs.declared.Line.{Line}
-use Rattle.proposal.specs.Submission.{Submission, termsOf, priced, bookOf, holdingAt, RoundedUp}
+use Rattle.proposal.specs.Submission.{Submission, accountIn, termsOf, priced, bookOf, holdingAt, RoundedUp}
 use Rattle.proposal.specs.Outcome.{outcome}
 use Rattle.proposal.specs.Demands.{Acceptable, Limits, PairTerms}
-use Rattle.proposal.specs.Clients.{forClient, forParticipant, client, participant, Clients}
+use Rattle.proposal.specs.Clients.{client, participant, Clients}
 use Rattle.proposal.proofs.Demands.{demands}
 
 -- the same holdings, and no pair that the second terms do not allow at the same rate
@@ -73,15 +73,20 @@ module _ (date : ℕ) (rows : List Row) (prices prices′ : List ℕ) (lines lin
   abbrev p : Submission
   p = participant date rows prices prices′ lines lines′
 
+  -- what the article says of the two accounts
+  of-article : (l s : Holding) → ClientPairs (accountIn c) (accountIn p) l s
+  unfolding accountOf letterOf
+  of-article = article .clients (accountIn c) (accountIn p) refl refl refl
+
   -- a client's terms allow fewer pairs than a participant's, by the article
   fewer-pairs : Limits c → Limits p → Fewer (termsOf (priced c)) (termsOf (priced p))
   unfolding accountOf letterOf holdingAt termsOf priced bookOf
   fewer-pairs lc lp = record {
     count = refl;
     value = λ k h. refl;
-    rate = λ k h. terms-of c lc k k h h .rate ∙ article .clients date (holdingAt p k) (holdingAt p k) .alone ∙ sym (terms-of p lp k k h h .rate);
+    rate = λ k h. terms-of c lc k k h h .rate ∙ of-article (holdingAt p k) (holdingAt p k) .alone ∙ sym (terms-of p lp k k h h .rate);
     pair = λ i j h g e.
-        let pairs = article .clients date (holdingAt p i) (holdingAt p j) in
+        let pairs = of-article (holdingAt p i) (holdingAt p j) in
         let may = terms-of c lc i j h g .allowed .0 e in (
           terms-of p lp i j h g .allowed .1 (pairs .may .0 may .0),
           terms-of c lc i j h g .pair-rate ∙ pairs .same-rate may ∙ sym (terms-of p lp i j h g .pair-rate),
@@ -103,7 +108,10 @@ module _ (date : ℕ) (rows : List Row) (prices prices′ : List ℕ) (lines lin
         demands one′ two′ p .rounding f .smallest _ (omega (arith, units-below, enough))
 
   pub clients : Clients date rows prices prices′ lines lines′
+  unfolding accountOf letterOf
   clients = record {
+    a-client = refl;
+    a-participant = refl;
     pairings = λ lc lp. pairing-same (termsOf (priced c)) (termsOf (priced p)) (fewer-pairs lc lp);
     units = units-below;
     cents = cents-below;
