@@ -1,3 +1,5 @@
 pub mod Moving
+pub mod Seen
 pub mod Rows
+pub mod Values
 pub mod Walks
