@@ -1,4 +1,4 @@
--- `scan` meets its contract: a walk of its MIR, by hand. In a turn the slice is looked into, an entry is copied, the slice is shut, and `see` is called; all that is known
+-- `scan` meets its contract: a walk of its MIR, by hand. In a turn the slice is looked into, an entry is copied, the slice is shut, and `see` is called; all that is known 
 -- of the callees is that they meet their contracts. Assumes nothing.
 use mathlib.Core.Path.{_≡_, refl, sym, ap, subst}
 use mathlib.Core.Bool.{Bool, true, false}
