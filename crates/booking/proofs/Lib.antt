@@ -1,0 +1,3 @@
+pub mod Tested
+pub mod Rows
+pub mod Seen
