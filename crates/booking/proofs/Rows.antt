@@ -57,7 +57,7 @@ module _ (a : Account) (rows : List Row) (r : Row) where
       ∙ turns-more (atRow a more) 0 (length rows)
       ∙ ap (λ (m : ℕ). turns 0 (length rows) (atRow a more) ++ atRow a more m) (omega arith)
       ∙ ap (λ (l : List (Bool × Answer)). l ++ atRow a more (length rows))
-          (turns-alike (atRow a more) (atRow a rows) 0 (length rows) (λ m q. ap (λ (x : Row). atPlace m (rowFaults a x)) (List·getD-append rows (r ∷ []) noRow m (omega arith))))
+      (turns-alike (atRow a more) (atRow a rows) 0 (length rows) (λ m q. ap (λ (x : Row). atPlace m (rowFaults a x)) (List·getD-append rows (r ∷ []) noRow m (omega arith))))
       ∙ ap (λ (x : Row). rowsFaults a rows ++ atPlace (length rows) (rowFaults a x)) at-last
 
 -- the first one equal to a trade, and what it holds
@@ -93,7 +93,7 @@ module _ (t : Row) where
       where
         by : (b : Bool) → alike r t ≡ b
             → (placeIn rs t ≡ length rs
-                → (placeIn (rs ++ (x ∷ [])) t ≡ length rs + placeIn (x ∷ []) t) × (heldIn (rs ++ (x ∷ [])) t ≡ heldIn (x ∷ []) t) × (heldIn rs t ≡ 0))
+            → (placeIn (rs ++ (x ∷ [])) t ≡ length rs + placeIn (x ∷ []) t) × (heldIn (rs ++ (x ∷ [])) t ≡ heldIn (x ∷ []) t) × (heldIn rs t ≡ 0))
             → (placeIn (r ∷ (rs ++ (x ∷ []))) t ≡ suc (length rs) + placeIn (x ∷ []) t) × (heldIn (r ∷ (rs ++ (x ∷ []))) t ≡ heldIn (x ∷ []) t) × (heldIn (r ∷ rs) t ≡ 0)
         by true e later = let never : 0 ≡ suc (length rs) = rw e at h in absurd (omega arith)
         by false e later =

@@ -16,7 +16,6 @@ use Rattle.daybook.specs.Book.{descriptionOf, alike}
 use Rattle.daybook.specs.Orders.{sumFaults}
 use Rattle.booking.specs.Settling.{addingFaults}
 
-
 five : (a b c d e : Bool) → ((((a && b) && c) && d) && e) ≡ (a && (b && (c && (d && (e && true)))))
 five true true true true true = refl
 five true true true true false = refl

@@ -102,8 +102,8 @@ pub fn again(order: Order, opening: Opening) -> Opening
     ensures { λ r. ⌜ OpensAgain order opening r ⌝ }
 {
     match order {
-        Order::Add(_) => return closed(0),
-        Order::Take(_) => return closed(0),
+        Order::Add(_t) => return closed(0),
+        Order::Take(_t) => return closed(0),
         Order::MoveTo(to) => {
             if !dates::is_date(to) {
                 return closed(24);
@@ -130,7 +130,7 @@ pub fn trade_of(order: Order) -> Row
     match order {
         Order::Add(t) => return t,
         Order::Take(t) => return t,
-        Order::MoveTo(_) => {
+        Order::MoveTo(_to) => {
             return Row {
                 side: 0,
                 kind: 0,

@@ -1,72 +1,48 @@
+-- `again`: for a move to a date the same holdings on that date, else nothing. Assumes nothing.
+use mathlib.Core.Path.{refl, sym, _∙_}
 use borrow.Author.Needs.{needs}
+use borrow.Author.Tests.{not-true, not-false}
+use Rattle.booking.specs.Seeing.{onDate}
+use Rattle.booking.proofs.Opened.{again-none, no-move-adding, no-move-taking, no-date, again-moved, date-fits}
 use Rattle.booking.proofs.again.Statement.{statement}
 use Rattle.booking.proofs.again.Tie as tie
-use Rattle.booking.proofs.again.Reads as reads
-use Rattle.booking.proofs.again.Lts as lts
-use Rattle.booking.proofs.closed.Reads as closed-reads
-use Rattle.dates.proofs.is_date.Reads as is-date-reads
 
--- src/lib.rt:105:26
-enum-told : tie.Need-enum-told
-enum-told c = search needs
-
--- src/lib.rt:105:26
-closed-requires : tie.Need-closed-requires
-closed-requires c κs = search needs
-
--- src/lib.rt:105:26
 returns : tie.Need-returns
-returns c = ?
+returns c = again-none (no-move-adding (c .before .before .order .given .1)) (c .closed .ensures)
 
--- src/lib.rt:106:27
-enum-told-2 : tie.Need-enum-told-2
-enum-told-2 c = search needs
-
--- src/lib.rt:106:27
-closed-requires-2 : tie.Need-closed-requires-2
-closed-requires-2 c κs = search needs
-
--- src/lib.rt:106:27
 returns-2 : tie.Need-returns-2
-returns-2 c = ?
+returns-2 c = again-none (no-move-taking (c .before .before .order2 .given .1)) (c .closed2 .ensures)
 
--- src/lib.rt:107:23
-enum-known-order : tie.Need-enum-known-order
-enum-known-order c = search needs
-
--- src/lib.rt:108:17
-is-date-requires : tie.Need-is-date-requires
-is-date-requires c κs = search needs
-
--- src/lib.rt:109:17
-closed-requires-3 : tie.Need-closed-requires-3
-closed-requires-3 c κs = search needs
-
--- src/lib.rt:109:17
 returns-3 : tie.Need-returns-3
-returns-3 c = ?
+returns-3 c =
+    let asked = c .before .before in
+    again-none (no-date (asked .before .before .order3 .given .1) (sym (asked .is-date .ensures) ∙ not-true _ (c .before .if1 .taken))) (c .closed3 .ensures)
 
--- src/lib.rt:114:23
-cast-t9 : tie.Need-cast-t9
-cast-t9 c = ?
+cast-t11 : tie.Need-cast-t11
+cast-t11 c =
+    let asked = c .before .before in
+    let fits = date-fits _ (sym (asked .is-date .ensures) ∙ not-false _ (c .before .if1 .left)) in
+    search (needs, fits)
 
--- src/lib.rt:117:13
 returns-4 : tie.Need-returns-4
-returns-4 c = ?
+unfolding onDate
+returns-4 c =
+    let asked = c .before .before in
+    again-moved (asked .before .before .order3 .given .1) (sym (asked .is-date .ensures) ∙ not-false _ (c .before .if1 .left)) refl refl
 
 pub again-spec : {M : Type 1} → statement M
 again-spec =
     tie.close
     (tie.spec
-    enum-told
-    closed-requires
+    (λ c. search needs)
+    (λ c κs. search needs)
     returns
-    enum-told-2
-    closed-requires-2
+    (λ c. search needs)
+    (λ c κs. search needs)
     returns-2
-    enum-known-order
-    is-date-requires
-    closed-requires-3
+    (λ c. search needs)
+    (λ c κs. search needs)
+    (λ c κs. search needs)
     returns-3
-    cast-t9
+    cast-t11
     returns-4)

@@ -1,78 +1,48 @@
+-- `open`: 3, 2, 24, 26 in turn, or the book's holdings in its account. Assumes nothing.
+use mathlib.Core.Path.{refl, sym, _∙_}
+use native.Mathlib.Omega.{arith}
 use borrow.Author.Needs.{needs}
+use Rattle.daybook.specs.Book.{headOf}
+use Rattle.booking.proofs.Opened.{opens-refused, many, no-list, no-other, opens-headless, opens-all}
 use Rattle.booking.proofs.open.Statement.{statement}
 use Rattle.booking.proofs.open.Tie as tie
-use Rattle.booking.proofs.open.Reads as reads
-use Rattle.booking.proofs.open.Lts as lts
-use Rattle.booking.proofs.closed.Reads as closed-reads
-use Rattle.holding.proofs.account_of.Reads as account-of-reads
-use Rattle.holding.proofs.head_fault.Reads as head-fault-reads
 
--- src/lib.rt:75:9
-closed-requires : tie.Need-closed-requires
-closed-requires c κs = search needs
-
--- src/lib.rt:75:9
 returns : tie.Need-returns
-returns c = ?
+returns c = opens-refused _ _ _ (many _ _ _ (omega arith)) (λ z. omega arith) (c .closed .ensures)
 
--- src/lib.rt:78:9
-closed-requires-2 : tie.Need-closed-requires-2
-closed-requires-2 c κs = search needs
-
--- src/lib.rt:78:9
 returns-2 : tie.Need-returns-2
-returns-2 c = ?
+returns-2 c = opens-refused _ _ _ (no-list _ _ _ (omega arith) (omega arith)) (λ z. omega arith) (c .closed2 .ensures)
 
--- src/lib.rt:81:9
-closed-requires-3 : tie.Need-closed-requires-3
-closed-requires-3 c κs = search needs
-
--- src/lib.rt:81:9
 returns-3 : tie.Need-returns-3
-returns-3 c = ?
+returns-3 c = opens-refused _ _ _ (no-other _ _ _ (omega arith) (omega arith) (c .before .if3 .taken)) (λ z. omega arith) (c .closed3 .ensures)
 
--- src/lib.rt:87:9
-account-of-requires : tie.Need-account-of-requires
-account-of-requires c κs = search needs
-
--- src/lib.rt:89:21
-enum-known-headed : tie.Need-enum-known-headed
-enum-known-headed c = search needs
-
--- src/lib.rt:90:13
 returns-4 : tie.Need-returns-4
-returns-4 c = ?
+unfolding headOf
+returns-4 c =
+    let head = c .before .before .before in
+    opens-all _ _ _ (omega arith) (omega arith) (head .before .if3 .left) (sym (head .account-of .ensures) ∙ c .before .headed .given .1) refl refl refl
 
--- src/lib.rt:96:44
-enum-told : tie.Need-enum-told
-enum-told c = search needs
-
--- src/lib.rt:96:44
-head-fault-requires : tie.Need-head-fault-requires
-head-fault-requires c κs = search needs
-
--- src/lib.rt:96:30
-closed-requires-4 : tie.Need-closed-requires-4
-closed-requires-4 c κs = search needs
-
--- src/lib.rt:96:30
 returns-5 : tie.Need-returns-5
-returns-5 c = ?
+unfolding headOf
+returns-5 c =
+    let head = c .before .before .before .before in
+    opens-headless _ _ _ (omega arith) (omega arith) (head .before .if3 .left) (c .before .head-fault .ensures) (sym (head .account-of .ensures) ∙ c .before .before .enum-told .given .1)
+    (c .closed4 .ensures)
 
 pub open-spec : {M : Type 1} → statement M
 open-spec =
     tie.close
     (tie.spec
-    closed-requires
+    (λ c κs. search needs)
     returns
-    closed-requires-2
+    (λ c κs. search needs)
     returns-2
-    closed-requires-3
+    (λ c κs. search needs)
     returns-3
-    account-of-requires
-    enum-known-headed
+    (λ c κs. search needs)
+    (λ c. search needs)
     returns-4
-    enum-told
-    head-fault-requires
-    closed-requires-4
+    (λ c. search needs)
+    (λ c κs. search needs)
+    (λ c κs. search needs)
     returns-5)

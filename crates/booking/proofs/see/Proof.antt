@@ -1,6 +1,6 @@
 -- `see`: after a fault nothing, a fault with its place, or what a holding without fault adds. Assumes nothing.
 use mathlib.Core.Path.{_≡_, refl, sym, _∙_}
-use Prim.Native.Nat.{_*_, _≤_}
+use Prim.Native.Nat.{_-_, _*_, _≤_}
 use native.Mathlib.Omega.{arith}
 use borrow.Author.Needs.{needs}
 use Rattle.holding.proofs.Rows.{made-row, refused-row}
@@ -27,14 +27,17 @@ abbrev start : tie.After-rate → tie.Start
 start c = made c .before .before .before
 
 module _ (c : tie.After-rate) where
-  margin-low : c .rate .result * c .before .before .before .built2 .given .0 .value ≤ marginLimit
+  margin-low : c .rate .result * c .before .before .before .built2 .given .0 .0 .value ≤ marginLimit
   margin-low = made-high (made c .holding-of .ensures) (c .before .before .before .built2 .given .1) (start c .pre .valued) (c .rate .ensures)
 
 mul-margin : tie.Need-mul-margin
 mul-margin c = omega (arith, margin-low (c .before))
 
 add-next : tie.Need-add-next
-add-next c = omega (arith, margin-low (c .before .before), start (c .before .before) .pre .low (made (c .before .before) .before .if1 .left) _, start (c .before .before) .pre .few)
+add-next c =
+    let at = c .before .before in
+    let low = start at .pre .low (made at .before .if1 .left) (at .before .period .result - 1) in
+    omega (arith, margin-low at, low, start at .pre .few)
 
 -- equal to the trade, and the first; not equal, and none before it; or one before it is equal
 returns-3 : tie.Need-returns-3
