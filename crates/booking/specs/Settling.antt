@@ -17,7 +17,13 @@ use Rattle.daybook.specs.declared.{Day.Day, Reply.Reply}
 use Rattle.daybook.specs.declared.Order.{Order, the-variants.Add, the-variants.Take, the-variants.MoveTo}
 use Rattle.daybook.specs.declared.Finding.{the-variants.Accepted, the-variants.Refused}
 use Rattle.booking.specs.Seeing.{tradeOf, onDate, Counted, Seen, changed, Fits}
-use Rattle.booking.specs.declared.{Scan.Scan, Change.Change, Outcome.Outcome}
+use Rattle.booking.specs.declared.{Opening.Opening, Scan.Scan, Change.Change, Outcome.Outcome}
+
+-- nothing is to be seen, after a refusal of this number
+pub record Closed (number : ℕ) (r : Opening) : Type 0 where
+  pub found : r .number ≡ number
+  pub none : r .count ≡ 0
+  pub valued : isDate (r .account .date) ≡ true
 
 -- no entry of a list of so many is changed
 unfoldable pub noChange : ℕ → Change

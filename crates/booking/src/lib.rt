@@ -17,7 +17,7 @@ ghost use Rattle.lists.specs.Choice.{same, firstOf};
 ghost use Rattle.holding.specs.Holding.{Builds};
 ghost use Rattle.daybook.specs.Book.{alike, valued};
 ghost use Rattle.booking.specs.Seeing.{tradeOf, Opens, OpensAgain, Unseen, Countable, Sees, Known, Concludes};
-ghost use Rattle.booking.specs.Settling.{noChange, refusalOf, acceptanceOf, addingFaults, Raisable, Adds, Lowerable, Takes, Moves, Tradable, Trades};
+ghost use Rattle.booking.specs.Settling.{Closed, noChange, refusalOf, acceptanceOf, addingFaults, Raisable, Adds, Lowerable, Takes, Moves, Tradable, Trades};
 
 // How many holdings of a book are to be seen, and in which account: none after a refusal, whose number it is.
 pub struct Opening {
@@ -53,10 +53,10 @@ pub struct Outcome {
 
 // Nothing to be seen, after a refusal of this number.
 fn closed(number: u64) -> Opening
-    ensures { λ r. ⌜ (r .number ≡ number) × (r .count ≡ 0) ⌝ }
+    ensures { λ r. ⌜ Closed number r ⌝ }
 {
     let account = Account {
-        date: 0,
+        date: 19000101,
         letter: AccountKind::Participant,
     };
     Opening {
@@ -171,7 +171,7 @@ pub fn is_alike(r: Row, t: Row) -> bool
 
 // One holding more is seen, after i others: up to the first fault its margin alone is added to its period's total, and it is compared with the trade.
 pub fn see(scan: Scan, i: usize, account: Account, row: Row, trade: Row) -> Scan
-    requires { ⌜ Countable i scan ⌝ }
+    requires { ⌜ Countable account i scan ⌝ }
     ensures { λ r. ⌜ Sees account trade scan i row r ⌝ }
 {
     if scan.number != 0 {
