@@ -1,23 +1,21 @@
 -- What an order that is accepted was not refused for. Assumes nothing.
 use mathlib.Core.Path.{_≡_}
-use mathlib.Core.Logic.{_≢_}
-use mathlib.Core.Bool.{Bool, true, false, not, _&&_, _||_}
-use mathlib.Core.List.{List, [], _∷_, _++_}
-use Prim.Native.Nat.{ℕ, suc, _+_, _≤_, _<_}
+use mathlib.Core.Bool.{Bool, true, false, not, _&&_}
+use mathlib.Core.List.{List, _++_}
+use Prim.Native.Nat.{ℕ, _+_, _≤_}
 use native.Mathlib.Omega.{arith}
 use lib.Dec.{leb, ltb, eqb}
-use lib.ListN.{length, getD}
-use borrow.Author.Tests.{eqb-true, ltb-false, leb-false, eqb-false, not-false}
-use Rattle.lists.specs.Choice.{within, same}
-use Rattle.lists.proofs.Tests.{either-way, by-test, neither, within-true}
+use lib.ListN.{length}
+use borrow.Author.Tests.{eqb-true, ltb-false, not-false}
+use Rattle.lists.specs.Choice.{within}
+use Rattle.lists.proofs.Tests.{neither, within-true}
 use Rattle.lists.proofs.Firsts.{None, Numbered, Listed, append-none, none-first, numbered-append, numbered-in-turn}
-use Rattle.holding.specs.Holding.{valueLimit, headFaults, identityFaults, termFaults, moneyFaults, rowFaults}
+use Rattle.holding.specs.Holding.{valueLimit, identityFaults, termFaults, moneyFaults}
 use Rattle.holding.specs.declared.{Account.Account, Row.Row}
 use Rattle.holding.proofs.{Heads.head-listed, Ranges.identity-listed, Ranges.term-listed, Ranges.row-listed}
-use Rattle.article.specs.Answer.{Answer}
-use Rattle.proposal.specs.{Submission.noRow, Outcome.atPlace}
+use Rattle.proposal.specs.{Outcome.atPlace}
 use Rattle.proposal.proofs.{Places.at-none, Places.listed-at, Clear.number}
-use Rattle.daybook.specs.Book.{placeIn, heldIn, added, taken, alike, totalsOf, headOf, accountAt, Book, holdingsIn}
+use Rattle.daybook.specs.Book.{heldIn, headOf, accountAt, Book, holdingsIn}
 use Rattle.daybook.specs.Orders.{lentFaults, atRow, rowsFaults, totalsFaults, descriptionFaults, sumFaults, joins, joinFaults, takingFaults, dateFaults, atMatured}
 use Rattle.daybook.specs.Orders.{maturedFaults, orderFaults, fromTotals, fromRows, faults, outcome, accepted}
 use Rattle.daybook.specs.declared.Day.{Day}

@@ -1,7 +1,6 @@
 -- The rows of a book as entries of the ledger: what an adding and a taking do to the one they do to the other. Assumes nothing.
 use mathlib.Core.Path.{_≡_, refl, sym, ap, _∙_}
 use mathlib.Core.List.{List, [], _∷_, map}
-use Prim.Native.Nat.{ℕ}
 use lib.Dec.{eqb}
 use lib.ListN.{getD}
 use Rattle.lists.specs.Choice.{same}
@@ -11,14 +10,14 @@ use Rattle.holding.specs.declared.Row.{Row}
 use Rattle.ledger.specs.Trades.{Entry}
 use Rattle.ledger.proofs.Holdings.{Equality, held, added as added-entries, taken as taken-entries}
 use Rattle.daybook.specs.Book.{descriptionOf, alike, valued, heldIn, added, taken}
-use Rattle.history.specs.History.{entryOf}
+use Rattle.history.specs.History.{Description, entryOf}
 
 -- two descriptions that pass the test are one
 pub described : Equality same
 described = record { itself = same-refl; alike = same-true }
 
 -- the row of an entry: an entry has all that its row has
-abbrev rowFrom : Entry (List ℕ) → Row
+abbrev rowFrom : Entry Description → Row
 rowFrom e = record {
   side = getD (e .description) 0 0;
   kind = getD (e .description) 1 0;
@@ -52,7 +51,7 @@ module _ (t : Row) where
   entries-added (r ∷ rows) =
       either-way (same (descriptionOf r) (descriptionOf t))
       (λ s. rw s)
-      (λ s. rw s (ap (λ (l : List (Entry (List ℕ))). entryOf r ∷ l) (entries-added rows)))
+      (λ s. rw s (ap (λ (l : List (Entry Description)). entryOf r ∷ l) (entries-added rows)))
 
   pub entries-taken : (rows : List Row) → map entryOf (taken rows t) ≡ taken-entries same (descriptionOf t) (t .value) (map entryOf rows)
   unfolding taken taken-entries alike entryOf valued descriptionOf
@@ -60,4 +59,4 @@ module _ (t : Row) where
   entries-taken (r ∷ rows) =
       either-way (same (descriptionOf r) (descriptionOf t))
       (λ s. either-way (eqb (r .value) (t .value)) (λ z. rw (s, z)) (λ z. rw (s, z)))
-      (λ s. rw s (ap (λ (l : List (Entry (List ℕ))). entryOf r ∷ l) (entries-taken rows)))
+      (λ s. rw s (ap (λ (l : List (Entry Description)). entryOf r ∷ l) (entries-taken rows)))

@@ -1,6 +1,6 @@
--- THE PAGE OF A BOOK'S DAY: document 02 f), "After any bookings and moves from an empty book with zero totals, with nothing else writing it, they equal the
--- totals worked out afresh, and the list has just the descriptions with more added than taken by accepted trades, each once with the difference, in order
--- of last joining"; proofs/History.antt proves both records below of every book, of every list of calls and of every call. Assumes nothing.
+-- THE PAGE OF A BOOK'S DAY: document 02 f), "After any bookings and moves from an empty book with zero totals, with nothing else writing it, they equal the totals
+-- worked out afresh, and the list has just the descriptions with more added than taken by accepted trades, each once with the difference, in order of last
+-- joining". In proofs/History.antt `kept` proves `Kept` of every empty book after any calls, and `continued` proves `Continued` of any book. Assumes nothing.
 use mathlib.Core.{Path._≡_, Bool.Bool, Bool.cond, List.List, List.[], List._∷_, List.map}
 use Prim.Native.Nat.{ℕ, _≤_}
 use lib.ListN.{length}
@@ -16,15 +16,15 @@ pub record Call : Type 0 where
   pub short : Bool
   pub order : Order
 
--- a trade of six numbers, side, kind, issuer, maturity, currency and rating, and a value; and a row as these six and a value
-abbrev pub Traded : Type 0
-Traded = Trade (List ℕ)
+-- a description in numbers: side, kind, issuer, maturity, currency and rating; a row is one, with a value
+abbrev pub Description : Type 0
+Description = List ℕ
 
-unfoldable pub entryOf : Row → Entry (List ℕ)
+unfoldable pub entryOf : Row → Entry Description
 entryOf r = makeEntry (descriptionOf r) (r .value)
 
 -- the trade of an order before earlier trades; a move is none
-unfoldable pub noted : Order → List Traded → List Traded
+unfoldable pub noted : Order → List (Trade Description) → List (Trade Description)
 noted (Add t) earlier = adding (descriptionOf t) (t .value) ∷ earlier
 noted (Take t) earlier = taking (descriptionOf t) (t .value) ∷ earlier
 noted (MoveTo to) earlier = earlier
@@ -36,7 +36,7 @@ module _ (b : Book) where
   after (c ∷ earlier) = booked (c .short) (after earlier) (c .order)
 
   -- the trades of those calls that were accepted
-  unfoldable pub trades : List Call → List Traded
+  unfoldable pub trades : List Call → List (Trade Description)
   trades [] = []
   trades (c ∷ earlier) = cond (accepted (c .short) (after earlier) (c .order)) (noted (c .order) (trades earlier)) (trades earlier)
 
@@ -53,7 +53,7 @@ module _ (b : Book) where
     -- the holdings are as many as are counted, 256 at most, in a list that keeps its length
     pub count : length (holdingsIn (after calls)) ≡ after calls .day .count
     pub few : after calls .day .count ≤ 256
-    pub long : length (after calls .list) ≡ length (b .list)
+    pub room : length (after calls .list) ≡ length (b .list)
     -- they are what the accepted trades leave, and no other list of holdings is
     pub list : Balance same (trades calls) (map entryOf (holdingsIn (after calls)))
     pub only : (rows : List Row) → Balance same (trades calls) (map entryOf rows) → rows ≡ holdingsIn (after calls)
@@ -61,9 +61,10 @@ module _ (b : Book) where
   -- what one call more does to the book and to the trades
   pub record Continued (calls : List Call) (c : Call) : Type 0 where
     -- refused: nothing
-    pub refused : (outcome (c .short) (after calls) (c .order) .number ≡ 0 → ⊥) → (after (c ∷ calls) ≡ after calls) × (trades (c ∷ calls) ≡ trades calls)
-    -- accepted: the book is what its order leaves, and its trade, where it is none of a move, is the latest
-    pub left : outcome (c .short) (after calls) (c .order) .number ≡ 0 → after (c ∷ calls) ≡ bookAfter (after calls) (c .order)
+    pub refused : (outcome (c .short) (after calls) (c .order) .number ≡ 0 → ⊥)
+        → (after (c ∷ calls) ≡ after calls) × (trades (c ∷ calls) ≡ trades calls)
+    -- accepted: the book is what its order leaves, and the latest trade is its own; a move is none
+    pub changed : outcome (c .short) (after calls) (c .order) .number ≡ 0 → after (c ∷ calls) ≡ bookAfter (after calls) (c .order)
     pub added : (t : Row) → c .order ≡ Add t → outcome (c .short) (after calls) (c .order) .number ≡ 0
         → trades (c ∷ calls) ≡ adding (descriptionOf t) (t .value) ∷ trades calls
     pub taken : (t : Row) → c .order ≡ Take t → outcome (c .short) (after calls) (c .order) .number ≡ 0

@@ -95,12 +95,14 @@ module _ {D : Type 0} {same : D → D → Bool} (E : Equality same) where
         by : (s : Bool) → same (e .description) d ≡ s → (q : Bool) → same (e .description) x ≡ q
             → (v ≤ held same es d → held same (taken same d v es) x + cond (same d x) v 0 ≡ held same es x)
             → held same (taken same d v (e ∷ es)) x + cond (same d x) v 0 ≡ held same (e ∷ es) x
-        by true s true q ih = rw (s, q, sym (same-as (e .description) d x s) ∙ q) (by-test (λ (l : List (Entry D)). held same l x + v ≡ e .value) (eqb (e .value) v)
+        by true s true q ih = rw (s, q, sym (same-as (e .description) d x s) ∙ q)
+            (by-test (λ (l : List (Entry D)). held same l x + v ≡ e .value) (eqb (e .value) v)
             (λ z. omega (arith, eqb-true (e .value) v z, held-apart es x (rw (E .alike (e .description) x q) at (o .0))))
             (λ z.
             let k : v ≤ e .value = rw s at h in
             rw q (omega arith)))
-        by true s false q ih = rw (s, q, sym (same-as (e .description) d x s) ∙ q) (by-test (λ (l : List (Entry D)). held same l x + 0 ≡ held same es x) (eqb (e .value) v)
+        by true s false q ih = rw (s, q, sym (same-as (e .description) d x s) ∙ q)
+            (by-test (λ (l : List (Entry D)). held same l x + 0 ≡ held same es x) (eqb (e .value) v)
             (λ z. omega arith)
             (λ z. rw q (omega arith)))
         by false s true q ih = rw (s, q, apart d (e .description) x s q) (omega arith)

@@ -1,11 +1,10 @@
 -- An adding and a taking keep a list of holdings at the balance of the trades. Assumes nothing.
 use mathlib.Core.Path.{_≡_, refl}
-use mathlib.Core.Bool.{Bool, true, false, _&&_}
+use mathlib.Core.Bool.{Bool, true, false}
 use mathlib.Core.List.{List, [], _∷_}
 use Prim.Native.Nat.{ℕ, suc, _+_, _≤_, _<_}
 use native.Mathlib.Nat.{le-refl}
 use native.Mathlib.Omega.{arith}
-use lib.Dec.{eqb}
 use lib.ListN.{length}
 use borrow.Author.Tests.{eq-eqb, ne-eqb}
 use Rattle.lists.specs.Tables.{Each, sumOf}
@@ -30,7 +29,9 @@ module _ {D : Type 0} {same : D → D → Bool} (E : Equality same) where
   unfolding joined
   joined-below [] d = le-refl 0
   joined-below (x ∷ earlier) d =
-      by-test (λ (n : ℕ). n ≤ suc (length earlier)) (joins same d x earlier) (λ s. le-refl _) (λ s. omega (arith, joined-below earlier d))
+      by-test (λ (n : ℕ). n ≤ suc (length earlier)) (joins same d x earlier)
+      (λ s. omega (arith, joined-below earlier d))
+      (λ s. omega (arith, joined-below earlier d))
 
   joined-kept : (x : Trade D) (trades : List (Trade D)) (d : D) → joins same d x trades ≡ false → joined same (x ∷ trades) d ≡ joined same trades d
   unfolding joined
@@ -56,10 +57,14 @@ module _ {D : Type 0} {same : D → D → Bool} (E : Equality same) where
   other-joins d v trades x s = rw (differ E x d s)
 
   module _ (trades : List (Trade D)) (es : List (Entry D)) (d : D) (v : ℕ) (r : Reckoned same trades es) where
-    -- an adding is no joining where its description is listed, and is one where it is not
-    listed-joins : listed same es d ≡ true → (x : D) → joins same x (adding d v) trades ≡ false
+    -- an adding is a joining where its description is not listed, and none where it is
+    joining : listed same es d ≡ false → joins same d (adding d v) trades ≡ true
     unfolding joins
-    listed-joins h x =
+    joining h = rw (E .itself d) (eq-eqb (addedOf same trades d) (takenOf same trades d) (omega (arith, r .balance d, held-none E es d h)))
+
+    no-joining : listed same es d ≡ true → (x : D) → joins same x (adding d v) trades ≡ false
+    unfolding joins
+    no-joining h x =
         either-way (same d x)
         (λ s.
         let some : 1 ≤ held same es x = rw (E .alike d x s) at (listed-held E es d (r .positive) h) in
@@ -67,10 +72,8 @@ module _ {D : Type 0} {same : D → D → Bool} (E : Equality same) where
         (λ s. rw s)
 
     joined-last : listed same es d ≡ false → joined same (adding d v ∷ trades) d ≡ suc (length trades)
-    unfolding joined joins
-    joined-last h =
-        let even : addedOf same trades d ≡ takenOf same trades d = omega (arith, r .balance d, held-none E es d h) in
-        rw (E .itself d, eq-eqb (addedOf same trades d) (takenOf same trades d) even)
+    unfolding joined
+    joined-last h = rw (joining h)
 
     pub reckoned-taken : v ≤ held same es d → Reckoned same (taking d v ∷ trades) (taken same d v es)
     unfolding takenOf addedOf takes adds sumOf
@@ -86,30 +89,30 @@ module _ {D : Type 0} {same : D → D → Bool} (E : Equality same) where
     added-balance x = omega (arith, r .balance x, held-added E d v es x)
 
     pub reckoned-added : 1 ≤ v → Reckoned same (adding d v ∷ trades) (added same d v es)
-    reckoned-added g = either-way (listed same es d) found joining
+    reckoned-added g = either-way (listed same es d) found new
       where
         found : listed same es d ≡ true → Reckoned same (adding d v ∷ trades) (added same d v es)
         found s = record {
           balance = added-balance;
           positive = positive-added E d v es g (r .positive);
           once = rw (descriptions-kept E d v es s) (r .once);
-          order = rw (descriptions-kept E d v es s) (order-kept (adding d v) trades (descriptions es) (each-all _ (listed-joins s) (descriptions es)) (r .order));
+          order = rw (descriptions-kept E d v es s) (order-kept (adding d v) trades (descriptions es) (each-all _ (no-joining s) (descriptions es)) (r .order));
         }
 
-        joining : listed same es d ≡ false → Reckoned same (adding d v ∷ trades) (added same d v es)
-        joining s =
-            let new = unlisted E es d s in
+        new : listed same es d ≡ false → Reckoned same (adding d v ∷ trades) (added same d v es)
+        new s =
+            let others = unlisted E es d s in
             record {
               balance = added-balance;
               positive = positive-added E d v es g (r .positive);
-              once = rw (added-last E d v es s, descriptions-last es d v) (ordered-last _ (descriptions es) d new (r .once));
+              once = rw (added-last E d v es s, descriptions-last es d v) (ordered-last _ (descriptions es) d others (r .once));
               order =
                   rw (added-last E d v es s, descriptions-last es d v)
                   (ordered-last _ (descriptions es) d
                   (each-so _ _
                   (λ x q. omega (arith, joined-kept (adding d v) trades x (other-joins d v trades x q), joined-below trades x, joined-last s))
-                  (descriptions es) new)
-                  (order-kept (adding d v) trades (descriptions es) (each-so _ _ (other-joins d v trades) (descriptions es) new) (r .order)));
+                  (descriptions es) others)
+                  (order-kept (adding d v) trades (descriptions es) (each-so _ _ (other-joins d v trades) (descriptions es) others) (r .order)));
             }
 
   -- what is reckoned so is the balance
