@@ -1,5 +1,6 @@
 -- The page specs/History.antt, proved. Assumes nothing.
 use mathlib.Core.Path.{_≡_, refl, sym, ap, _∙_}
+use mathlib.Core.Logic.{⊎-elim}
 use mathlib.Core.Bool.{Bool}
 use mathlib.Core.List.{List, [], _∷_, map}
 use Prim.Native.Nat.{_≤_}
@@ -16,7 +17,7 @@ use Rattle.ledger.proofs.Holdings.{held}
 use Rattle.ledger.proofs.Reckoned.{Reckoned, reckoned-none, reckoned-added, reckoned-taken, reckoned-balance}
 use Rattle.ledger.proofs.One.{one-balance}
 use Rattle.daybook.specs.Book.{descriptionOf, totalOf, totalsOf, headOf, accountAt, Book, holdingsIn}
-use Rattle.daybook.specs.Orders.{holdingsAfter, stored, dayAfter, bookAfter, accepted, booked}
+use Rattle.daybook.specs.Orders.{holdingsAfter, dateAfter, stored, dayAfter, bookAfter, accepted, booked}
 use Rattle.daybook.specs.declared.Order.{Order, the-variants.Add, the-variants.Take, the-variants.MoveTo}
 use Rattle.history.specs.History.{Call, Description, entryOf, noted, after, trades, Empty, Kept, Continued}
 use Rattle.history.proofs.Rows.{described, one-rows, entries-held, entries-added, entries-taken}
@@ -27,6 +28,11 @@ use Rattle.history.proofs.Lengths.{added-fits, taken-fits}
 after-holdings : (b : Book) (o : Order) → holdingsIn (bookAfter b o) ≡ holdingsAfter o (holdingsIn b)
 unfolding holdingsIn bookAfter dayAfter stored front
 after-holdings b o = take-at (holdingsAfter o (holdingsIn b)) _ _ refl
+
+-- the date stays with every order that names no other
+date-stays : (short : Bool) (b : Book) (o : Order) → dateAfter o (b .day .date) ≡ b .day .date → booked short b o .day .date ≡ b .day .date
+unfolding booked bookAfter dayAfter stored
+date-stays short b o e = by-test (λ (x : Book). x .day .date ≡ b .day .date) (accepted short b o) (λ _. e) (λ _. refl)
 
 module _ (start : Book) where
   -- a book whose holdings are reckoned from trades, with their totals and their count, and with the letter and the length that it started with
@@ -110,7 +116,7 @@ module _ (start : Book) where
       }
 
   pub continued : (calls : List Call) (c : Call) → Continued start calls c
-  unfolding after trades booked accepted noted
+  unfolding after trades booked accepted noted bookAfter dayAfter stored dateAfter
   continued calls c = record {
     refused = λ n. (rw (ne-eqb _ 0 n), rw (ne-eqb _ 0 n));
     changed = λ z. rw (eq-eqb _ 0 z);
@@ -119,4 +125,6 @@ module _ (start : Book) where
     moved = λ to e.
         rw e
         (by-test (λ (l : List (Trade Description)). l ≡ trades start calls) (accepted (c .short) (after start calls) (MoveTo to)) (λ _. refl) (λ _. refl));
+    date = λ to e z. rw (eq-eqb _ 0 z, e);
+    same-date = λ t. ⊎-elim (λ e. rw e (date-stays (c .short) (after start calls) (Add t) refl)) (λ e. rw e (date-stays (c .short) (after start calls) (Take t) refl));
   }

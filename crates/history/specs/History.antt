@@ -1,7 +1,7 @@
 -- THE PAGE OF A BOOK'S DAY: document 02 f), "After any bookings and moves from an empty book with zero totals, with nothing else writing it, they equal the totals
 -- worked out afresh, and the list has just the descriptions with more added than taken by accepted trades, each once with the difference, in order of last
 -- joining". In proofs/History.antt `kept` proves `Kept` of every empty book after any calls, and `continued` proves `Continued` of any book. Assumes nothing.
-use mathlib.Core.{Path._≡_, Bool.Bool, Bool.cond, List.List, List.[], List._∷_, List.map}
+use mathlib.Core.{Path._≡_, Bool.Bool, Bool.cond, List.List, List.[], List._∷_, List.map, Logic._⊎_}
 use Prim.Native.Nat.{ℕ, _≤_}
 use lib.ListN.{length}
 use Rattle.lists.specs.Choice.{same}
@@ -70,3 +70,6 @@ module _ (b : Book) where
     pub taken : (t : Row) → c .order ≡ Take t → outcome (c .short) (after calls) (c .order) .number ≡ 0
         → trades (c ∷ calls) ≡ taking (descriptionOf t) (t .value) ∷ trades calls
     pub moved : (to : ℕ) → c .order ≡ MoveTo to → trades (c ∷ calls) ≡ trades calls
+    -- the date is that of the latest move
+    pub date : (to : ℕ) → c .order ≡ MoveTo to → outcome (c .short) (after calls) (c .order) .number ≡ 0 → after (c ∷ calls) .day .date ≡ to
+    pub same-date : (t : Row) → (c .order ≡ Add t) ⊎ (c .order ≡ Take t) → after (c ∷ calls) .day .date ≡ after calls .day .date
