@@ -34,6 +34,7 @@ module _ {D : Type 0} (same : D → D → Bool) where
   taken d v (e ∷ es) =
       cond (same (e .description) d) (cond (eqb (e .value) v) es (makeEntry (e .description) (e .value - v) ∷ es)) (e ∷ taken d v es)
 
+-- the descriptions with an entry at the end
 pub descriptions-last : {D : Type 0} (es : List (Entry D)) (d : D) (v : ℕ) → descriptions (es ++ (makeEntry d v ∷ [])) ≡ descriptions es ++ (d ∷ [])
 unfolding descriptions
 descriptions-last es d v = map-append (λ e. e .description) es (makeEntry d v ∷ [])
@@ -57,7 +58,7 @@ module _ {D : Type 0} {same : D → D → Bool} (E : Equality same) where
       let (a, b) = neither (same (e .description) d) (listed same es d) h in
       rw a (held-none es d b)
 
-  -- no holding of a description that differs from all
+  -- nothing is held of a description that differs from all
   pub held-apart : (es : List (Entry D)) (d : D) → Each (λ y. same d y ≡ false) (descriptions es) → held same es d ≡ 0
   unfolding held descriptions
   held-apart [] d p = refl
@@ -66,11 +67,7 @@ module _ {D : Type 0} {same : D → D → Bool} (E : Equality same) where
   module _ (d : D) (v : ℕ) where
     pub held-added : (es : List (Entry D)) (x : D) → held same (added same d v es) x ≡ held same es x + cond (same d x) v 0
     unfolding held added
-    held-added [] x = by (same d x)
-      where
-        by : (t : Bool) → cond t v 0 ≡ 0 + cond t v 0
-        by true = omega arith
-        by false = omega arith
+    held-added [] x = omega arith
     held-added (e ∷ es) x = by (same (e .description) d) refl (same (e .description) x) refl (held-added es x)
       where
         by : (s : Bool) → same (e .description) d ≡ s → (q : Bool) → same (e .description) x ≡ q
@@ -85,11 +82,7 @@ module _ {D : Type 0} {same : D → D → Bool} (E : Equality same) where
     pub held-taken : (es : List (Entry D)) → Ordered (λ x y. same x y ≡ false) (descriptions es) → v ≤ held same es d
         → (x : D) → held same (taken same d v es) x + cond (same d x) v 0 ≡ held same es x
     unfolding held taken descriptions
-    held-taken [] o h x = by (same d x)
-      where
-        by : (t : Bool) → 0 + cond t v 0 ≡ 0
-        by true = omega arith
-        by false = omega arith
+    held-taken [] o h x = by-test (λ (n : ℕ). 0 + n ≡ 0) (same d x) (λ s. omega arith) (λ s. omega arith)
     held-taken (e ∷ es) o h x = by (same (e .description) d) refl (same (e .description) x) refl (λ k. held-taken es (o .1) k x)
       where
         by : (s : Bool) → same (e .description) d ≡ s → (q : Bool) → same (e .description) x ≡ q

@@ -1,4 +1,4 @@
--- An adding and a taking keep a list of holdings at the balance of the trades. Assumes nothing.
+-- An adding and a taking keep a list of entries at the balance of the trades. Assumes nothing.
 use mathlib.Core.Path.{_≡_, refl}
 use mathlib.Core.Bool.{Bool, true, false}
 use mathlib.Core.List.{List, [], _∷_}
