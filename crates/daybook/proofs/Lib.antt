@@ -1,3 +1,5 @@
 pub mod Descriptions
 pub mod Trades
 pub mod Totals
+pub mod Written
+pub mod Checked

@@ -1,0 +1,144 @@
+-- A lent book is checked first: the refusal of its first fault, whatever the order; and past it, what the order is given. Assumes nothing.
+use mathlib.Core.Path.{_≡_, refl, sym, ap, _∙_}
+use mathlib.Core.Logic.{_⊎_, inl, inr}
+use mathlib.Core.Bool.{Bool, true, false, not, _||_, or-true}
+use mathlib.Core.List.{List, _++_}
+use Prim.Native.Nat.{ℕ, _≤_, _<_}
+use native.Mathlib.Omega.{arith}
+use lib.Dec.{ltb}
+use lib.ListN.{length, getD, take}
+use lib.Seq.{length-take-le, getD-take}
+use borrow.Author.Tests.{ltb-false, lt-ltb, le-ltb, not-false}
+use Rattle.lists.specs.Choice.{firstOf, same}
+use Rattle.lists.specs.Tables.{inTurn}
+use Rattle.lists.proofs.Tests.{neither}
+use Rattle.lists.proofs.Entries.{same-true, eq-same, ne-same}
+use Rattle.lists.proofs.Firsts.{None, Numbered, append-none, first-append, first-of-none, skip-none, none-first, first-in-turn, none-in-turn, in-turn-none}
+use Rattle.lists.proofs.Firsts.{numbered-append, numbered-in-turn}
+use Rattle.dates.specs.Calendar.{isDate}
+use Rattle.holding.specs.Holding.{headFault, accountOf, rowFaults, faultOf, Ranges}
+use Rattle.holding.specs.declared.{Account.Account, Row.Row}
+use Rattle.holding.proofs.Heads.{sound-head, unvalued-head, unlettered-head, head-listed, none-of-head, head-of-none, head-valued, head-lettered}
+use Rattle.holding.proofs.Ranges.{row-listed, none-of-row, fault-none, none-fault, identity-listed, term-listed}
+use Rattle.article.specs.Answer.{Answer, makeAnswer}
+use Rattle.proposal.specs.{Submission.noRow, Outcome.atPlace}
+use Rattle.proposal.proofs.Places.{none-at, at-none, listed-at, first-at}
+use Rattle.daybook.specs.Book.{totalsOf, headOf, accountAt, Book, holdingsIn}
+use Rattle.daybook.specs.Orders.{lentFaults, atRow, rowsFaults, totalsFaults, descriptionFaults, sumFaults, joinFaults, takingFaults, dateFaults, atMatured, maturedFaults}
+use Rattle.daybook.specs.Orders.{orderFaults, fromTotals, fromRows, faults, acceptedAnswer, outcome}
+use Rattle.daybook.specs.Bookings.{countOf, entryAt, account, Fits, Headed, InOrder, Checked, Afresh}
+use Rattle.daybook.specs.declared.Order.{Order, the-variants.Add, the-variants.Take, the-variants.MoveTo}
+use Rattle.daybook.specs.declared.Day.{Day}
+use Rattle.daybook.proofs.Totals.{totals-afresh, afresh-totals}
+
+abbrev number : Answer → ℕ
+number a = a .number
+
+-- refusals at place 0: the first decides, and where none holds what follows does
+pub refused-at : (fs : List (Bool × ℕ)) (rest : List (Bool × Answer)) (z : Answer) (n : ℕ) → firstOf fs 0 ≡ n → 1 ≤ n → firstOf (atPlace 0 fs ++ rest) z ≡ makeAnswer n 0 0
+refused-at fs rest z n e some = first-append (atPlace 0 fs) rest z ∙ first-at 0 fs n (sym e) (λ none. omega arith) _
+
+pub passed-at : (fs : List (Bool × ℕ)) (rest : List (Bool × Answer)) (z : Answer) → None fs → firstOf (atPlace 0 fs ++ rest) z ≡ firstOf rest z
+passed-at fs rest z h = skip-none (atPlace 0 fs) rest z (none-at 0 fs h)
+
+-- the holdings are the first entries of the list
+module _ (b : Book) (h : b .day .count ≤ length (b .list)) where
+  pub length-holdings : length (holdingsIn b) ≡ b .day .count
+  unfolding holdingsIn
+  length-holdings = length-take-le (b .day .count) (b .list) h
+
+  pub holding-at : (k : ℕ) → k < b .day .count → getD (holdingsIn b) k noRow ≡ getD (b .list) k noRow
+  unfolding holdingsIn
+  holding-at k q = getD-take (b .day .count) (b .list) k noRow q
+
+module _ (short : Bool) (b : Book) (o : Order) where
+  abbrev room : ℕ
+  room = length (b .list)
+
+  abbrev last : Answer
+  last = acceptedAnswer (holdingsIn b) o
+
+  -- what the lent book is refused with
+  abbrev lent : List (Bool × ℕ)
+  lent = lentFaults short room (b .day)
+
+  refused-lent : (n : ℕ) → firstOf lent 0 ≡ n → 1 ≤ n → outcome short b o ≡ makeAnswer n 0 0
+  unfolding outcome faults
+  refused-lent n e some = refused-at lent (fromRows room (b .day) (holdingsIn b) o) last n e some
+
+  fits-head : Fits short b → firstOf lent 0 ≡ headFault (headOf (b .day))
+  unfolding lentFaults headFault firstOf
+  fits-head f = rw (le-ltb 256 (b .day .count) (f .holdings), le-ltb room (b .day .count) (f .entries), f .others)
+
+  -- with a date and a letter
+  module _ (h : Headed short b) where
+    abbrev fit : b .day .count ≤ room
+    fit = h .fits .entries
+
+    no-fault : headFault (headOf (b .day)) ≡ 0
+    unfolding headOf
+    no-fault = sound-head (headOf (b .day)) (h .dated) (h .lettered)
+
+    from-head : outcome short b o ≡ firstOf (fromRows room (b .day) (holdingsIn b) o) last
+    unfolding outcome faults lentFaults
+    from-head =
+        passed-at lent (fromRows room (b .day) (holdingsIn b) o) last
+        (le-ltb 256 (b .day .count) (h .fits .holdings), (rw (le-ltb room (b .day .count) fit, h .fits .others), none-of-head (headOf (b .day)) no-fault))
+
+    -- the first holding outside its ranges
+    none-at-row : (k : ℕ) → k < b .day .count → Ranges (account short b) (entryAt short b k) → None (atRow (accountAt (b .day)) (holdingsIn b) k)
+    unfolding atRow accountAt headOf
+    none-at-row k q g = rw (holding-at b fit k q) (none-at k _ (none-of-row _ _ (none-fault _ _ g)))
+
+    fault-at-row : (k : ℕ) → k < b .day .count → (Ranges (account short b) (entryAt short b k) → ⊥) → (w : Answer)
+        → firstOf (atRow (accountAt (b .day)) (holdingsIn b) k) w ≡ makeAnswer (faultOf (account short b) (entryAt short b k)) k 0
+    unfolding atRow accountAt headOf faultOf
+    fault-at-row k q n w =
+        rw (holding-at b fit k q) (first-at k (rowFaults (account short b) (entryAt short b k)) _ refl (λ z. n (fault-none _ _ z)) w)
+
+    refused-row : (k : ℕ) → k < b .day .count → ((j : ℕ) → j < k → Ranges (account short b) (entryAt short b j)) → (Ranges (account short b) (entryAt short b k) → ⊥)
+        → outcome short b o ≡ makeAnswer (faultOf (account short b) (entryAt short b k)) k 0
+    unfolding rowsFaults
+    refused-row k q before n =
+        from-head ∙ first-append (rowsFaults (accountAt (b .day)) (holdingsIn b)) (fromTotals room (b .day) (holdingsIn b) o) last
+        ∙ first-in-turn (atRow (accountAt (b .day)) (holdingsIn b)) (length (holdingsIn b)) k _ _ (omega (arith, length-holdings b fit))
+        (λ j i. none-at-row j (omega arith) (before j i)) (fault-at-row k q n)
+
+    -- each within its ranges
+    module _ (each : (k : ℕ) → k < b .day .count → Ranges (account short b) (entryAt short b k)) where
+      from-rows : outcome short b o ≡ firstOf (fromTotals room (b .day) (holdingsIn b) o) last
+      unfolding rowsFaults
+      from-rows =
+          from-head
+          ∙ skip-none (rowsFaults (accountAt (b .day)) (holdingsIn b)) (fromTotals room (b .day) (holdingsIn b) o) last
+          (none-in-turn (atRow (accountAt (b .day)) (holdingsIn b)) _ (λ k q. let below : k < b .day .count = omega (arith, length-holdings b fit) in none-at-row k below (each k below)))
+
+      refused-totals : (Afresh (account short b) (take (b .day .count) (b .list)) (b .day .totals) → ⊥) → outcome short b o ≡ makeAnswer 27 0 0
+      unfolding totalsFaults firstOf holdingsIn accountAt headOf
+      refused-totals n =
+          from-rows
+          ∙ refused-at (totalsFaults (b .day) (holdingsIn b)) (orderFaults room (b .day) (holdingsIn b) o) last 27
+          (rw (ne-same (b .day .totals) (totalsOf (account short b) (holdingsIn b)) (λ e. n (rw e (totals-afresh _ _))))) (omega arith)
+
+  -- a book in order: the order decides
+  pub from-order : InOrder short b → outcome short b o ≡ firstOf (orderFaults room (b .day) (holdingsIn b) o) last
+  unfolding totalsFaults holdingsIn accountAt headOf
+  from-order i =
+      from-rows (i .headed) (i .each-holding)
+      ∙ passed-at (totalsFaults (b .day) (holdingsIn b)) (orderFaults room (b .day) (holdingsIn b) o) last
+      (ap not (eq-same (b .day .totals) (totalsOf (account short b) (holdingsIn b)) (afresh-totals _ _ _ (i .totals))), tt)
+
+  pub checked : Checked short b o
+  unfolding lentFaults firstOf headOf
+  checked = record {
+    many = λ h. refused-lent 3 (rw (lt-ltb 256 (b .day .count) h)) (omega arith);
+    brief = λ h s. refused-lent 2 (rw (le-ltb 256 (b .day .count) h, a-brief s)) (omega arith);
+    undated = λ f e. refused-lent 24 (fits-head f ∙ unvalued-head (headOf (b .day)) e) (omega arith);
+    unlettered = λ f e l. refused-lent 26 (fits-head f ∙ unlettered-head (headOf (b .day)) e l) (omega arith);
+    holding = refused-row;
+    off = refused-totals;
+  }
+    where
+      a-brief : (room < b .day .count) ⊎ (short ≡ true) → (ltb room (b .day .count) || short) ≡ true
+      a-brief (inl h) = rw (lt-ltb room (b .day .count) h)
+      a-brief (inr e) = rw e (or-true (ltb room (b .day .count)))
