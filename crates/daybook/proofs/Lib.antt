@@ -3,3 +3,5 @@ pub mod Trades
 pub mod Totals
 pub mod Written
 pub mod Checked
+pub mod InOrder
+pub mod Executed
