@@ -7,7 +7,6 @@ use Prim.Native.Nat.{ℕ, _≤_, _<_}
 use native.Mathlib.Omega.{arith}
 use lib.Dec.{ltb}
 use lib.ListN.{length, getD, take}
-use lib.Seq.{length-take-le, getD-take}
 use borrow.Author.Tests.{ltb-false, lt-ltb, le-ltb, not-false}
 use Rattle.lists.specs.Choice.{firstOf, same}
 use Rattle.lists.specs.Tables.{inTurn}
@@ -29,10 +28,8 @@ use Rattle.daybook.specs.Orders.{orderFaults, fromTotals, fromRows, faul
 use Rattle.daybook.specs.Bookings.{countOf, entryAt, account, Fits, Headed, InOrder, Checked, Afresh}
 use Rattle.daybook.specs.declared.Order.{Order, the-variants.Add, the-variants.Take, the-variants.MoveTo}
 use Rattle.daybook.specs.declared.Day.{Day}
+use Rattle.daybook.proofs.Holdings.{length-holdings, holding-at}
 use Rattle.daybook.proofs.Totals.{totals-afresh, afresh-totals}
-
-abbrev number : Answer → ℕ
-number a = a .number
 
 -- refusals at place 0: the first decides, and where none holds what follows does
 pub refused-at : (fs : List (Bool × ℕ)) (rest : List (Bool × Answer)) (z : Answer) (n : ℕ) → firstOf fs 0 ≡ n → 1 ≤ n → firstOf (atPlace 0 fs ++ rest) z ≡ makeAnswer n 0 0
@@ -40,16 +37,6 @@ refused-at fs rest z n e some = first-append (atPlace 0 fs) rest z ∙ first-at 
 
 pub passed-at : (fs : List (Bool × ℕ)) (rest : List (Bool × Answer)) (z : Answer) → None fs → firstOf (atPlace 0 fs ++ rest) z ≡ firstOf rest z
 passed-at fs rest z h = skip-none (atPlace 0 fs) rest z (none-at 0 fs h)
-
--- the holdings are the first entries of the list
-module _ (b : Book) (h : b .day .count ≤ length (b .list)) where
-  pub length-holdings : length (holdingsIn b) ≡ b .day .count
-  unfolding holdingsIn
-  length-holdings = length-take-le (b .day .count) (b .list) h
-
-  pub holding-at : (k : ℕ) → k < b .day .count → getD (holdingsIn b) k noRow ≡ getD (b .list) k noRow
-  unfolding holdingsIn
-  holding-at k q = getD-take (b .day .count) (b .list) k noRow q
 
 module _ (short : Bool) (b : Book) (o : Order) where
   abbrev room : ℕ

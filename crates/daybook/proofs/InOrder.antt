@@ -24,7 +24,7 @@ use Rattle.daybook.specs.Orders.{orderFaults, fromTotals, fromRows, faul
 use Rattle.daybook.specs.Bookings.{Fits, Headed, InOrder, account, entryAt}
 use Rattle.daybook.specs.declared.{Day.Day, Order.Order, Order.the-variants.Add, Order.the-variants.Take, Order.the-variants.MoveTo}
 use Rattle.daybook.proofs.Totals.{totals-afresh}
-use Rattle.daybook.proofs.Checked.{length-holdings, holding-at}
+use Rattle.daybook.proofs.Holdings.{length-holdings, holding-at}
 
 abbrev number : Answer → ℕ
 number a = a .number

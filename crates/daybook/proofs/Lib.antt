@@ -1,7 +1,9 @@
 pub mod Descriptions
 pub mod Trades
+pub mod Holdings
 pub mod Totals
 pub mod Written
 pub mod Checked
 pub mod InOrder
+pub mod Described
 pub mod Executed
