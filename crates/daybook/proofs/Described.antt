@@ -1,10 +1,12 @@
 -- A trade's description is refused as a holding of this description is, with a value within the limits. Assumes nothing.
 use mathlib.Core.Path.{_≡_, refl, sym, _∙_}
+use mathlib.Core.Bool.{Bool}
+use mathlib.Core.List.{List, _++_}
 use Prim.Native.Nat.{ℕ}
 use native.Mathlib.Omega.{arith}
 use Rattle.lists.specs.Choice.{firstOf}
 use Rattle.lists.proofs.Tests.{true-within}
-use Rattle.lists.proofs.Firsts.{None, none-first}
+use Rattle.lists.proofs.Firsts.{None, none-first, found-first}
 use Rattle.holding.specs.Holding.{identityFaults, termFaults, worthFaults, moneyFaults, rowFaults, faultOf, Identified, Worth, Rated, Ranges}
 use Rattle.holding.specs.declared.{Account.Account, Row.Row}
 use Rattle.holding.proofs.Ranges.{fault-none, none-fault}
@@ -14,7 +16,7 @@ use Rattle.daybook.specs.Bookings.{Equal, Described}
 use Rattle.daybook.proofs.InOrder.{description-listed}
 
 module _ (a : Account) (t : Row) where
-  pub description-fault : (r : Row) → Equal r t → Worth r → firstOf (descriptionFaults a t) 0 ≡ faultOf a r
+  description-fault : (r : Row) → Equal r t → Worth r → firstOf (descriptionFaults a t) 0 ≡ faultOf a r
   unfolding descriptionFaults identityFaults termFaults worthFaults moneyFaults rowFaults faultOf firstOf
   description-fault r e w =
       rw (e .side, e .kind, e .issuer, e .maturity, true-within 1 100000000000 (r .value) (w .low) (w .high), e .currency, e .rating)
@@ -47,6 +49,10 @@ module _ (a : Account) (t : Row) where
 
   pub undescribed : (Described a t → ⊥) → (r : Row) → Equal r t → faultOf a r ≡ 0 → ⊥
   undescribed n r e z = n (ranges-described r e (fault-none a r z))
+
+  -- and its fault comes before what follows
+  pub fault-first : (Described a t → ⊥) → (r : Row) → Equal r t → Worth r → (rest : List (Bool × ℕ)) → faultOf a r ≡ firstOf (descriptionFaults a t ++ rest) 0
+  fault-first n r e w rest = found-first (faultOf a r) (descriptionFaults a t) rest (sym (description-fault r e w)) (undescribed n r e)
 
   pub described-none : Described a t → None (descriptionFaults a t)
   described-none d =

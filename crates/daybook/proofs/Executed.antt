@@ -32,8 +32,8 @@ module _ (short : Bool) (b : Book) (o : Order) where
   unfolding bookAfter dayAfter stored acceptedAnswer
   executed i none rows e count c Such s =
       let answer : outcome short b o ≡ makeAnswer 0 count 0
-          = from-order short b o i ∙ first-of-none (orderFaults (length (b .list)) (b .day) (holdingsIn b) o) _ none
-          ∙ ap (λ (n : ℕ). makeAnswer 0 n 0) (ap (λ (xs : List Row). length xs) e ∙ c) in
+      = from-order short b o i ∙ first-of-none (orderFaults (length (b .list)) (b .day) (holdingsIn b) o) _ none
+      ∙ ap (λ (n : ℕ). makeAnswer 0 n 0) (ap (λ (xs : List Row). length xs) e ∙ c) in
       let after = changed (ap (λ (a : Answer). a .number) answer) in
       record {
         answer = answer;

@@ -7,3 +7,7 @@ pub mod Checked
 pub mod InOrder
 pub mod Described
 pub mod Executed
+pub mod Adding
+pub mod Taking
+pub mod Moving
+pub mod Bookings
