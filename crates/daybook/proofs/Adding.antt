@@ -1,30 +1,27 @@
 -- Adding to a book in order: 8, 3 and 2 in turn, or the first equal holding has the sum, or the trade joins at the end. Assumes nothing.
-use mathlib.Core.Path.{_≡_, refl, sym, ap, _∙_}
+use mathlib.Core.Path.{_≡_, sym, _∙_}
 use mathlib.Core.Bool.{Bool, true, false, not, _||_, or-true}
 use mathlib.Core.List.{List, [], _∷_, _++_}
-use Prim.Native.Nat.{ℕ, suc, _+_, _≤_, _<_}
+use Prim.Native.Nat.{ℕ, _+_, _≤_, _<_}
 use native.Mathlib.Numerals.{add-one}
 use native.Mathlib.Omega.{arith}
-use lib.ListN.{length, getD, take, set, length-set}
+use lib.ListN.{length, set, length-set}
 use borrow.Author.Tests.{eq-eqb, ne-eqb, le-leb, lt-leb}
 use Rattle.lists.specs.Choice.{firstOf, within}
-use Rattle.lists.specs.Tables.{front}
 use Rattle.lists.proofs.Tests.{zero-out, above-out, true-within}
 use Rattle.lists.proofs.Firsts.{None, none-append, first-append, first-of-none, skip-none, found-first}
 use Rattle.holding.specs.Holding.{valueLimit, faultOf, Worth}
-use Rattle.holding.specs.declared.{Account.Account, Row.Row}
-use Rattle.article.specs.Answer.{Answer, makeAnswer}
-use Rattle.proposal.specs.{Submission.noRow, Outcome.atPlace}
+use Rattle.holding.specs.declared.{Row.Row}
 use Rattle.proposal.proofs.Places.{none-at, first-at}
-use Rattle.daybook.specs.Book.{placeIn, heldIn, added, headOf, accountAt, Book, holdingsIn}
-use Rattle.daybook.specs.Orders.{descriptionFaults, sumFaults, joins, joinFaults, orderFaults, holdingsAfter, dateAfter, acceptedAnswer, outcome}
-use Rattle.daybook.specs.Bookings.{Equal, Described, FirstEqual, NoneEqual, account, entryAt, InOrder, Executed, DescribedFirst, Adding}
+use Rattle.daybook.specs.Book.{placeIn, heldIn, accountAt, Book, holdingsIn}
+use Rattle.daybook.specs.Orders.{descriptionFaults, sumFaults, joins, joinFaults, orderFaults, holdingsAfter, dateAfter}
+use Rattle.daybook.specs.Bookings.{Equal, Described, FirstEqual, NoneEqual, account, entryAt, InOrder, Refuses, Executes, Adding}
 use Rattle.daybook.specs.declared.Order.{Order, the-variants.Add}
-use Rattle.daybook.proofs.Trades.{place-first, held-first, added-first, place-none, held-none, added-none}
-use Rattle.daybook.proofs.Holdings.{length-holdings, holding-at, first-holding, no-holding}
+use Rattle.daybook.proofs.Trades.{added-first, added-none}
+use Rattle.daybook.proofs.Holdings.{length-holdings, value-at, first-holding, place-at, held-at, no-holding, no-place, nothing-held}
 use Rattle.daybook.proofs.Written.{front-set, front-joined, length-more}
 use Rattle.daybook.proofs.Checked.{from-order}
-use Rattle.daybook.proofs.Described.{undescribed, fault-first, described-none}
+use Rattle.daybook.proofs.Described.{no-description, some-fault, fault-first}
 use Rattle.daybook.proofs.Executed.{executed}
 
 module _ (short : Bool) (b : Book) (i : InOrder short b) (t : Row) where
@@ -47,29 +44,22 @@ module _ (short : Bool) (b : Book) (i : InOrder short b) (t : Row) where
   abbrev join : List (Bool × ℕ)
   join = joinFaults room (holdingsIn b) t
 
-  refused : (n : ℕ) → n ≡ firstOf (description ++ sum ++ join) 0 → (n ≡ 0 → ⊥) → outcome short b (Add t) ≡ makeAnswer n 0 0
+  refused : (n : ℕ) → n ≡ firstOf (description ++ sum ++ join) 0 → (n ≡ 0 → ⊥) → Refuses short b (Add t) n 0
   unfolding orderFaults
   refused n e some = from-order short b (Add t) i ∙ first-at 0 (description ++ sum ++ join) n e some _
 
-  pub add-described : DescribedFirst short b t (Add t)
-  unfolding accountAt headOf
-  add-described = record {
-    fault = λ n r e w.
-        let some = undescribed (account short b) t n r e in
-        refused _ (found-first _ (description ++ sum) join (fault-first (account short b) t n r e w sum) some) some;
-  }
+  pub add-described : (Described (account b) t → ⊥) → (r : Row) → Equal r t → Worth r → Refuses short b (Add t) (faultOf (account b) r) 0
+  add-described n r e w =
+      let some = some-fault b t n r e in
+      refused _ (found-first _ (description ++ sum) join (fault-first b t n r e w sum) some) some
 
   -- of a trade that is described
-  module _ (d : Described (account short b) t) where
-    no-description : None description
-    unfolding accountAt headOf
-    no-description = described-none (account short b) t d
-
-    refused-next : (n : ℕ) → firstOf sum (firstOf join 0) ≡ n → (n ≡ 0 → ⊥) → outcome short b (Add t) ≡ makeAnswer n 0 0
-    refused-next n e some = refused n (sym (first-append (description ++ sum) join 0 ∙ skip-none description sum _ no-description ∙ e)) some
+  module _ (d : Described (account b) t) where
+    refused-next : (n : ℕ) → firstOf sum (firstOf join 0) ≡ n → (n ≡ 0 → ⊥) → Refuses short b (Add t) n 0
+    refused-next n e some = refused n (sym (first-append (description ++ sum) join 0 ∙ skip-none description sum _ (no-description b t d) ∙ e)) some
 
     -- 8 a value or a sum outside the limits
-    refused-8 : (not (within 1 valueLimit (t .value)) || not (within 1 valueLimit (held + t .value))) ≡ true → outcome short b (Add t) ≡ makeAnswer 8 0 0
+    refused-8 : (not (within 1 valueLimit (t .value)) || not (within 1 valueLimit (held + t .value))) ≡ true → Refuses short b (Add t) 8 0
     unfolding sumFaults firstOf
     refused-8 e = refused-next 8 (rw e) (λ z. omega arith)
 
@@ -80,24 +70,21 @@ module _ (short : Bool) (b : Book) (i : InOrder short b) (t : Row) where
 
     unrefused : None sum → None join → None (orderFaults room (b .day) (holdingsIn b) (Add t))
     unfolding orderFaults
-    unrefused s j = none-at 0 _ (none-append (description ++ sum) join (none-append description sum no-description s) j)
+    unrefused s j = none-at 0 _ (none-append (description ++ sum) join (none-append description sum (no-description b t d) s) j)
 
     -- none is equal
-    module _ (n : NoneEqual (b .list) (b .day .count) t) (w : Worth t) where
-      nothing-held : held ≡ 0
-      nothing-held = held-none t (holdingsIn b) (no-holding b fit t n)
-
+    module _ (n : NoneEqual b t) (w : Worth t) where
       it-joins : joins (holdingsIn b) t ≡ true
       unfolding joins
-      it-joins = eq-eqb _ _ (place-none t (holdingsIn b) (no-holding b fit t n))
+      it-joins = eq-eqb (placeIn (holdingsIn b) t) (length (holdingsIn b)) (no-place b fit t n ∙ sym (length-holdings b fit))
 
       worth : None sum
-      worth = no-sum (w .low) (omega (arith, nothing-held, w .high))
+      worth = no-sum (w .low) (omega (arith, nothing-held b fit t n, w .high))
 
-      refused-last : (m : ℕ) → firstOf join 0 ≡ m → (m ≡ 0 → ⊥) → outcome short b (Add t) ≡ makeAnswer m 0 0
+      refused-last : (m : ℕ) → firstOf join 0 ≡ m → (m ≡ 0 → ⊥) → Refuses short b (Add t) m 0
       refused-last m e some = refused-next m (first-of-none sum (firstOf join 0) worth ∙ e) some
 
-      joined : b .day .count < 256 → b .day .count < room → Executed short b (Add t) (b .day .date) (b .day .count + 1) (_≡ set (b .list) (b .day .count) t)
+      joined : b .day .count < 256 → b .day .count < room → Executes short b (Add t) (b .day .date) (b .day .count + 1) (_≡ set (b .list) (b .day .count) t)
       unfolding joinFaults dateAfter holdingsAfter holdingsIn
       joined few place =
           let long = length-holdings b fit in
@@ -108,24 +95,18 @@ module _ (short : Bool) (b : Book) (i : InOrder short b) (t : Row) where
           (_≡ set (b .list) (b .day .count) t) (front-joined (b .day .count) (b .list) place t)
 
     -- the first that is equal has the sum
-    module _ (k : ℕ) (f : FirstEqual (b .list) (b .day .count) t k) where
-      held-there : held ≡ entryAt short b k .value
-      held-there = held-first t (holdingsIn b) k (first-holding b fit t k f) ∙ ap (λ (r : Row). r .value) (holding-at b fit k (f .counted))
-
+    module _ (k : ℕ) (f : FirstEqual b t k) where
       no-join : joins (holdingsIn b) t ≡ false
       unfolding joins
-      no-join =
-          let place = place-first t (holdingsIn b) k (first-holding b fit t k f) in
-          ne-eqb (placeIn (holdingsIn b) t) (length (holdingsIn b)) (λ e. omega (arith, f .counted, place, length-holdings b fit))
+      no-join = ne-eqb (placeIn (holdingsIn b) t) (length (holdingsIn b)) (λ e. omega (arith, f .counted, place-at b fit t k f, length-holdings b fit))
 
-      summed : 1 ≤ t .value → entryAt short b k .value + t .value ≤ valueLimit → (r : Row) → Equal r t → r .value ≡ entryAt short b k .value + t .value
-          → Executed short b (Add t) (b .day .date) (b .day .count) (_≡ set (b .list) k r)
+      summed : 1 ≤ t .value → entryAt b k .value + t .value ≤ valueLimit → (r : Row) → Equal r t → r .value ≡ entryAt b k .value + t .value
+          → Executes short b (Add t) (b .day .date) (b .day .count) (_≡ set (b .list) k r)
       unfolding joinFaults dateAfter holdingsAfter
       summed v s r e sum-of =
-          let there = ap (λ (x : Row). x .value) (holding-at b fit k (f .counted)) in
           executed short b (Add t) i
-          (unrefused (no-sum v (omega (arith, held-there))) (rw no-join, (rw no-join, tt)))
-          (set (holdingsIn b) k r) (added-first t r e (holdingsIn b) k (first-holding b fit t k f) (omega (arith, there)))
+          (unrefused (no-sum v (omega (arith, held-at b fit t k f))) (rw no-join, (rw no-join, tt)))
+          (set (holdingsIn b) k r) (added-first t r e (holdingsIn b) k (first-holding b fit t k f) (omega (arith, value-at b fit k (f .counted))))
           (b .day .count) (length-set (holdingsIn b) k r ∙ length-holdings b fit)
           (_≡ set (b .list) k r) (unfold holdingsIn in front-set (b .day .count) (b .list) fit k (f .counted) r)
 
@@ -133,8 +114,8 @@ module _ (short : Bool) (b : Book) (i : InOrder short b) (t : Row) where
     unfolding joinFaults firstOf
     adding = record {
       no-value = λ e. refused-8 (rw (zero-out valueLimit (t .value) e));
-      value = λ h. refused-8 (rw (above-out valueLimit (t .value) h));
-      sum = λ k f h. refused-8 (rw (above-out valueLimit (held + t .value) (omega (arith, held-there k f))) (or-true (not (within 1 valueLimit (t .value)))));
+      great-value = λ h. refused-8 (rw (above-out valueLimit (t .value) h));
+      great-sum = λ k f h. refused-8 (rw (above-out valueLimit (held + t .value) (omega (arith, held-at b fit t k f))) (or-true (not (within 1 valueLimit (t .value)))));
       to-first = summed;
       a-257th = λ n w e. refused-last n w 3 (rw (it-joins n w, le-leb 256 (length (holdingsIn b)) (omega (arith, length-holdings b fit)))) (λ z. omega arith);
       no-place = λ n w few e.

@@ -7,12 +7,12 @@ use native.Mathlib.Omega.{arith}
 use Rattle.lists.specs.Choice.{firstOf}
 use Rattle.lists.proofs.Tests.{true-within}
 use Rattle.lists.proofs.Firsts.{None, none-first, found-first}
-use Rattle.holding.specs.Holding.{identityFaults, termFaults, worthFaults, moneyFaults, rowFaults, faultOf, Identified, Worth, Rated, Ranges}
+use Rattle.holding.specs.Holding.{identityFaults, termFaults, worthFaults, moneyFaults, rowFaults, faultOf, Worth, Ranges}
 use Rattle.holding.specs.declared.{Account.Account, Row.Row}
 use Rattle.holding.proofs.Ranges.{fault-none, none-fault}
-use Rattle.daybook.specs.Book.{valued}
+use Rattle.daybook.specs.Book.{valued, headOf, accountAt, Book}
 use Rattle.daybook.specs.Orders.{descriptionFaults}
-use Rattle.daybook.specs.Bookings.{Equal, Described}
+use Rattle.daybook.specs.Bookings.{Equal, Described, account}
 use Rattle.daybook.proofs.InOrder.{description-listed}
 
 module _ (a : Account) (t : Row) where
@@ -47,14 +47,22 @@ module _ (a : Account) (t : Row) where
   unfolding valued
   itself = record { side = refl; kind = refl; issuer = refl; maturity = refl; currency = refl; rating = refl }
 
-  pub undescribed : (Described a t → ⊥) → (r : Row) → Equal r t → faultOf a r ≡ 0 → ⊥
-  undescribed n r e z = n (ranges-described r e (fault-none a r z))
-
-  -- and its fault comes before what follows
-  pub fault-first : (Described a t → ⊥) → (r : Row) → Equal r t → Worth r → (rest : List (Bool × ℕ)) → faultOf a r ≡ firstOf (descriptionFaults a t ++ rest) 0
-  fault-first n r e w rest = found-first (faultOf a r) (descriptionFaults a t) rest (sym (description-fault r e w)) (undescribed n r e)
-
-  pub described-none : Described a t → None (descriptionFaults a t)
+  described-none : Described a t → None (descriptionFaults a t)
   described-none d =
       let g = one-cent d in
       none-first (λ (n : ℕ). n) (descriptionFaults a t) 0 (description-listed a t) (description-fault (valued t 1) itself (g .value) ∙ none-fault a (valued t 1) g) .0
+
+-- of a trade with a book
+module _ (b : Book) (t : Row) where
+  pub no-description : Described (account b) t → None (descriptionFaults (accountAt (b .day)) t)
+  unfolding accountAt headOf
+  no-description d = described-none (account b) t d
+
+  -- its fault has a number, and comes before what follows
+  pub some-fault : (Described (account b) t → ⊥) → (r : Row) → Equal r t → faultOf (account b) r ≡ 0 → ⊥
+  some-fault n r e z = n (ranges-described (account b) t r e (fault-none (account b) r z))
+
+  pub fault-first : (Described (account b) t → ⊥) → (r : Row) → Equal r t → Worth r → (rest : List (Bool × ℕ))
+      → faultOf (account b) r ≡ firstOf (descriptionFaults (accountAt (b .day)) t ++ rest) 0
+  unfolding accountAt headOf
+  fault-first n r e w rest = found-first (faultOf (account b) r) _ rest (sym (description-fault (account b) t r e w)) (some-fault n r e)

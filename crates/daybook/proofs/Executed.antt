@@ -1,34 +1,30 @@
 -- An order that nothing refuses: its answer, and the book that it leaves. Assumes nothing.
-use mathlib.Core.Path.{_≡_, refl, sym, ap, _∙_}
+use mathlib.Core.Path.{_≡_, ap, _∙_}
 use mathlib.Core.Bool.{Bool}
 use mathlib.Core.List.{List}
 use Prim.Native.Nat.{ℕ}
 use lib.ListN.{length}
-use borrow.Author.Tests.{eq-eqb, ne-eqb}
+use borrow.Author.Tests.{eq-eqb}
 use Rattle.lists.specs.Tables.{front}
 use Rattle.lists.proofs.Firsts.{None, first-of-none}
 use Rattle.holding.specs.declared.Row.{Row}
 use Rattle.article.specs.Answer.{Answer, makeAnswer}
 use Rattle.daybook.specs.Book.{Book, holdingsIn}
 use Rattle.daybook.specs.Orders.{orderFaults, holdingsAfter, dateAfter, stored, dayAfter, bookAfter, acceptedAnswer, outcome, accepted, booked}
-use Rattle.daybook.specs.Bookings.{InOrder, Executed}
+use Rattle.daybook.specs.Bookings.{InOrder, Executes}
 use Rattle.daybook.specs.declared.Order.{Order}
 use Rattle.daybook.proofs.Totals.{totals-afresh}
 use Rattle.daybook.proofs.Written.{take-front}
 use Rattle.daybook.proofs.Checked.{from-order}
 
 module _ (short : Bool) (b : Book) (o : Order) where
-  pub unchanged : (outcome short b o .number ≡ 0 → ⊥) → booked short b o ≡ b
-  unfolding booked accepted
-  unchanged n = rw (ne-eqb (outcome short b o .number) 0 n)
-
   changed : outcome short b o .number ≡ 0 → booked short b o ≡ bookAfter b o
   unfolding booked accepted
   changed e = rw (eq-eqb (outcome short b o .number) 0 e)
 
   -- with these holdings
   pub executed : InOrder short b → None (orderFaults (length (b .list)) (b .day) (holdingsIn b) o) → (rows : List Row) → holdingsAfter o (holdingsIn b) ≡ rows
-      → (count : ℕ) → length rows ≡ count → (Such : List Row → Type 0) → Such (front rows (b .list)) → Executed short b o (dateAfter o (b .day .date)) count Such
+      → (count : ℕ) → length rows ≡ count → (Such : List Row → Type 0) → Such (front rows (b .list)) → Executes short b o (dateAfter o (b .day .date)) count Such
   unfolding bookAfter dayAfter stored acceptedAnswer
   executed i none rows e count c Such s =
       let answer : outcome short b o ≡ makeAnswer 0 count 0

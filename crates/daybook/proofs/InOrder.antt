@@ -1,8 +1,8 @@
 -- An order is accepted in a book that is in order only: every refusal has a number. Assumes nothing.
-use mathlib.Core.Path.{_≡_, sym, _∙_}
+use mathlib.Core.Path.{_≡_}
 use mathlib.Core.Bool.{Bool, true, false}
 use mathlib.Core.List.{List, _++_}
-use Prim.Native.Nat.{ℕ, _≤_, _<_}
+use Prim.Native.Nat.{ℕ}
 use native.Mathlib.Omega.{arith}
 use lib.Dec.{ltb}
 use lib.ListN.{length, getD}
@@ -11,7 +11,7 @@ use Rattle.lists.specs.Choice.{same}
 use Rattle.lists.proofs.Tests.{neither}
 use Rattle.lists.proofs.Entries.{same-true}
 use Rattle.lists.proofs.Firsts.{None, Numbered, Listed, append-none, first-of-none, none-first, in-turn-none, numbered-append, numbered-in-turn}
-use Rattle.holding.specs.Holding.{identityFaults, termFaults, moneyFaults, rowFaults, faultOf, Ranges}
+use Rattle.holding.specs.Holding.{identityFaults, termFaults, moneyFaults, faultOf}
 use Rattle.holding.specs.declared.{Account.Account, Row.Row}
 use Rattle.holding.proofs.Heads.{head-listed, head-of-none, head-valued, head-lettered}
 use Rattle.holding.proofs.Ranges.{row-listed, fault-none}
@@ -21,7 +21,7 @@ use Rattle.proposal.proofs.Places.{at-none, listed-at}
 use Rattle.daybook.specs.Book.{heldIn, totalsOf, headOf, accountAt, Book, holdingsIn}
 use Rattle.daybook.specs.Orders.{lentFaults, atRow, rowsFaults, totalsFaults, descriptionFaults, sumFaults, joinFaults, takingFaults, dateFaults, atMatured, maturedFaults}
 use Rattle.daybook.specs.Orders.{orderFaults, fromTotals, fromRows, faults, outcome}
-use Rattle.daybook.specs.Bookings.{Fits, Headed, InOrder, account, entryAt}
+use Rattle.daybook.specs.Bookings.{Headed, InOrder, account}
 use Rattle.daybook.specs.declared.{Day.Day, Order.Order, Order.the-variants.Add, Order.the-variants.Take, Order.the-variants.MoveTo}
 use Rattle.daybook.proofs.Totals.{totals-afresh}
 use Rattle.daybook.proofs.Holdings.{length-holdings, holding-at}
@@ -93,12 +93,12 @@ module _ (short : Bool) (b : Book) (o : Order) where
       let (totals, _) = append-none (atPlace 0 (totalsFaults (b .day) (holdingsIn b))) (orderFaults room (b .day) (holdingsIn b) o) rest₁ in
       let headed = none-headed (at-none 0 lent at-lent) in
       let fit = headed .fits .entries in
-      let off : same (b .day .totals) (totalsOf (account short b) (holdingsIn b)) ≡ true = not-false _ (at-none 0 _ totals .0) in
+      let off : same (b .day .totals) (totalsOf (account b) (holdingsIn b)) ≡ true = not-false _ (at-none 0 _ totals .0) in
       record {
         headed = headed;
         each-holding = λ k q.
             let none = at-none k _ (in-turn-none (atRow (accountAt (b .day)) (holdingsIn b)) _ rows k (omega (arith, length-holdings b fit))) in
-            rw (holding-at b fit k q) at (fault-none (account short b) (getD (holdingsIn b) k noRow) (first-of-none _ 0 none));
+            rw (holding-at b fit k q) at (fault-none (account b) (getD (holdingsIn b) k noRow) (first-of-none _ 0 none));
         totals = rw (same-true _ _ off) (totals-afresh _ _);
       }
 

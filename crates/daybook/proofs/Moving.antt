@@ -1,21 +1,19 @@
 -- Moving a book in order to a date: 24, 27 and 7 in turn, or the same list with totals on that date. Assumes nothing.
-use mathlib.Core.Path.{_≡_, refl, sym, ap, _∙_}
-use mathlib.Core.Bool.{Bool, true, false}
-use mathlib.Core.List.{List}
+use mathlib.Core.Path.{_≡_, refl, _∙_}
+use mathlib.Core.Bool.{Bool, true}
 use Prim.Native.Nat.{ℕ, _≤_, _<_}
 use native.Mathlib.Omega.{arith}
-use lib.ListN.{length, getD}
+use lib.ListN.{length}
 use borrow.Author.Tests.{le-leb, lt-leb}
 use Rattle.lists.specs.Choice.{firstOf}
 use Rattle.lists.proofs.Firsts.{None, none-append, first-in-turn, none-in-turn}
 use Rattle.dates.specs.Calendar.{isDate}
-use Rattle.holding.specs.declared.Row.{Row}
 use Rattle.article.specs.Answer.{Answer, makeAnswer}
-use Rattle.proposal.specs.{Submission.noRow, Outcome.atPlace}
+use Rattle.proposal.specs.{Outcome.atPlace}
 use Rattle.proposal.proofs.Places.{none-at, first-at}
 use Rattle.daybook.specs.Book.{Book, holdingsIn}
-use Rattle.daybook.specs.Orders.{dateFaults, atMatured, maturedFaults, orderFaults, holdingsAfter, dateAfter, acceptedAnswer, outcome}
-use Rattle.daybook.specs.Bookings.{entryAt, InOrder, Executed, Moving}
+use Rattle.daybook.specs.Orders.{dateFaults, atMatured, maturedFaults, orderFaults, holdingsAfter, dateAfter}
+use Rattle.daybook.specs.Bookings.{entryAt, InOrder, Refuses, Executes, Moving}
 use Rattle.daybook.specs.declared.Order.{Order, the-variants.MoveTo}
 use Rattle.daybook.proofs.Holdings.{length-holdings, holding-at}
 use Rattle.daybook.proofs.Written.{front-same}
@@ -26,7 +24,7 @@ module _ (short : Bool) (b : Book) (i : InOrder short b) (to : ℕ) where
   abbrev fit : b .day .count ≤ length (b .list)
   fit = i .headed .fits .entries
 
-  refused : (n : ℕ) → firstOf (dateFaults (b .day .date) to) 0 ≡ n → 1 ≤ n → outcome short b (MoveTo to) ≡ makeAnswer n 0 0
+  refused : (n : ℕ) → firstOf (dateFaults (b .day .date) to) 0 ≡ n → 1 ≤ n → Refuses short b (MoveTo to) n 0
   unfolding orderFaults
   refused n e some = from-order short b (MoveTo to) i ∙ refused-at (dateFaults (b .day .date) to) (maturedFaults (holdingsIn b) to) _ n e some
 
@@ -36,23 +34,23 @@ module _ (short : Bool) (b : Book) (i : InOrder short b) (to : ℕ) where
     unfolding dateFaults
     later = (rw e, (lt-leb to (b .day .date) h, tt))
 
-    not-matured : (k : ℕ) → k < b .day .count → to < entryAt short b k .maturity → None (atMatured (holdingsIn b) to k)
+    not-matured : (k : ℕ) → k < b .day .count → to < entryAt b k .maturity → None (atMatured (holdingsIn b) to k)
     unfolding atMatured
-    not-matured k q m = rw (holding-at b fit k q) (none-at k _ (lt-leb (entryAt short b k .maturity) to m, tt))
+    not-matured k q m = rw (holding-at b fit k q) (none-at k _ (lt-leb (entryAt b k .maturity) to m, tt))
 
-    matured-at : (k : ℕ) → k < b .day .count → entryAt short b k .maturity ≤ to → (w : Answer) → firstOf (atMatured (holdingsIn b) to k) w ≡ makeAnswer 7 k 0
+    matured-at : (k : ℕ) → k < b .day .count → entryAt b k .maturity ≤ to → (w : Answer) → firstOf (atMatured (holdingsIn b) to k) w ≡ makeAnswer 7 k 0
     unfolding atMatured firstOf
-    matured-at k q m w = rw (holding-at b fit k q) (first-at k _ 7 (rw (le-leb (entryAt short b k .maturity) to m)) (λ z. omega arith) w)
+    matured-at k q m w = rw (holding-at b fit k q) (first-at k _ 7 (rw (le-leb (entryAt b k .maturity) to m)) (λ z. omega arith) w)
 
-    first-matured : (k : ℕ) → k < b .day .count → ((j : ℕ) → j < k → to < entryAt short b j .maturity) → entryAt short b k .maturity ≤ to
-        → outcome short b (MoveTo to) ≡ makeAnswer 7 k 0
+    first-matured : (k : ℕ) → k < b .day .count → ((j : ℕ) → j < k → to < entryAt b j .maturity) → entryAt b k .maturity ≤ to
+        → Refuses short b (MoveTo to) 7 k
     unfolding orderFaults maturedFaults
     first-matured k q before m =
         from-order short b (MoveTo to) i ∙ passed-at (dateFaults (b .day .date) to) (maturedFaults (holdingsIn b) to) _ later
         ∙ first-in-turn (atMatured (holdingsIn b) to) (length (holdingsIn b)) k _ _ (omega (arith, length-holdings b fit))
         (λ j p. not-matured j (omega arith) (before j p)) (matured-at k q m)
 
-    moved : ((k : ℕ) → k < b .day .count → to < entryAt short b k .maturity) → Executed short b (MoveTo to) to (b .day .count) (_≡ b .list)
+    moved : ((k : ℕ) → k < b .day .count → to < entryAt b k .maturity) → Executes short b (MoveTo to) to (b .day .count) (_≡ b .list)
     unfolding orderFaults maturedFaults dateAfter holdingsAfter
     moved all =
         executed short b (MoveTo to) i

@@ -1,23 +1,25 @@
 -- What a trade does to a list of holdings, by the first of them that is equal to it. Assumes nothing.
 use mathlib.Core.Path.{_≡_, refl, ap}
 use mathlib.Core.List.{List, [], _∷_, _++_}
-use Prim.Native.Nat.{ℕ, zero, suc, _+_, _≤_}
+use Prim.Native.Nat.{ℕ, zero, suc, _+_, _≤_, _<_}
 use native.Mathlib.Omega.{arith}
 use lib.ListN.{length, getD, take, drop, set}
 use borrow.Author.Tests.{eq-eqb, ne-eqb}
 use Rattle.holding.specs.declared.Row.{Row}
 use Rattle.proposal.specs.Submission.{noRow}
 use Rattle.daybook.specs.Book.{placeIn, heldIn, added, taken}
-use Rattle.daybook.specs.Bookings.{Equal, FirstEqual, NoneEqual}
+use Rattle.daybook.specs.Bookings.{Equal}
 use Rattle.daybook.proofs.Descriptions.{equal-alike, not-alike, valued-row}
 
 module _ (t : Row) where
-  -- the first of all the rows, and none of them
-  abbrev pub First : List Row → ℕ → Type 0
-  First rows k = FirstEqual rows (length rows) t k
+  -- the first of the rows that is equal to the trade, or none is
+  pub record First (rows : List Row) (k : ℕ) : Type 0 where
+    pub counted : k < length rows
+    pub equal : Equal (getD rows k noRow) t
+    pub first : (j : ℕ) → j < k → Equal (getD rows j noRow) t → ⊥
 
   abbrev pub Nowhere : List Row → Type 0
-  Nowhere rows = NoneEqual rows (length rows) t
+  Nowhere rows = (k : ℕ) → k < length rows → Equal (getD rows k noRow) t → ⊥
 
   -- past a row that is not equal
   later : (r : Row) (rs : List Row) (k : ℕ) → First (r ∷ rs) (suc k) → First rs k
