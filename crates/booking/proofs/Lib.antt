@@ -2,3 +2,4 @@ pub mod Tested
 pub mod Rows
 pub mod Seen
 pub mod Opened
+pub mod Found
