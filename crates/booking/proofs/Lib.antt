@@ -3,3 +3,4 @@ pub mod Rows
 pub mod Seen
 pub mod Opened
 pub mod Found
+pub mod Settled

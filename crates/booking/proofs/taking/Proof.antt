@@ -6,67 +6,67 @@ use Rattle.booking.proofs.taking.Lts as lts
 use Rattle.booking.proofs.accepted.Reads as accepted-reads
 use Rattle.booking.proofs.refused.Reads as refused-reads
 
--- src/lib.rt:299:9
+-- src/lib.rt:302:9
 refused-requires : tie.Need-refused-requires
 refused-requires c κs = search needs
 
--- src/lib.rt:299:9
+-- src/lib.rt:302:9
 returns : tie.Need-returns
 returns c = ?
 
--- src/lib.rt:302:9
+-- src/lib.rt:305:9
 refused-requires-2 : tie.Need-refused-requires-2
 refused-requires-2 c κs = search needs
 
--- src/lib.rt:302:9
+-- src/lib.rt:305:9
 returns-2 : tie.Need-returns-2
 returns-2 c = ?
 
--- src/lib.rt:305:22
+-- src/lib.rt:308:22
 mul-next : tie.Need-mul-next
 mul-next c = search needs
 
--- src/lib.rt:305:22
+-- src/lib.rt:308:22
 element-copy-out-next : tie.Need-element-copy-out-next
 element-copy-out-next c = search needs
 
--- src/lib.rt:305:39
+-- src/lib.rt:308:39
 mul-next-2 : tie.Need-mul-next-2
 mul-next-2 c = ?
 
--- src/lib.rt:305:22
+-- src/lib.rt:308:22
 sub-next : tie.Need-sub-next
 sub-next c = ?
 
--- src/lib.rt:305:5
+-- src/lib.rt:308:5
 mul-next-3 : tie.Need-mul-next-3
 mul-next-3 c = search needs
 
--- src/lib.rt:305:5
+-- src/lib.rt:308:5
 element-write-next : tie.Need-element-write-next
 element-write-next c = search needs
 
--- src/lib.rt:307:22
+-- src/lib.rt:310:22
 sub-next-2 : tie.Need-sub-next-2
 sub-next-2 c = ?
 
--- src/lib.rt:309:20
-add-t23 : tie.Need-add-t23
-add-t23 c = ?
+-- src/lib.rt:312:20
+add-t24 : tie.Need-add-t24
+add-t24 c = ?
 
--- src/lib.rt:314:9
+-- src/lib.rt:317:9
 accepted-requires : tie.Need-accepted-requires
 accepted-requires c κs = search needs
 
--- src/lib.rt:314:9
+-- src/lib.rt:317:9
 returns-3 : tie.Need-returns-3
 returns-3 c = ?
 
--- src/lib.rt:322:5
+-- src/lib.rt:325:5
 accepted-requires-2 : tie.Need-accepted-requires-2
 accepted-requires-2 c κs = search needs
 
--- src/lib.rt:291:1
+-- src/lib.rt:293:1
 returns-4 : tie.Need-returns-4
 returns-4 c = ?
 
@@ -85,7 +85,7 @@ taking-spec =
     mul-next-3
     element-write-next
     sub-next-2
-    add-t23
+    add-t24
     accepted-requires
     returns-3
     accepted-requires-2
