@@ -3,4 +3,5 @@ pub mod Rows
 pub mod Seen
 pub mod Opened
 pub mod Found
+pub mod Changed
 pub mod Settled

@@ -1,22 +1,21 @@
 -- An order settled: refused with all as it was, or accepted. Assumes nothing.
 use mathlib.Core.Path.{_≡_, refl, sym, ap, _∙_}
-use mathlib.Core.Bool.{Bool, true, false, cond}
+use mathlib.Core.Bool.{Bool, true, false, cond, _||_, or-true}
 use mathlib.Core.List.{List, [], _∷_, _++_, append-assoc}
 use Prim.Native.Nat.{ℕ, suc, _+_, _-_, _*_, _≤_, _<_}
 use native.Mathlib.Omega.{arith}
-use lib.Dec.{eqb, leb}
-use lib.ListN.{length, getD, take, drop, set, length-set, length-append}
-use lib.Seq.{set-out, length-take-le}
-use borrow.Author.Tests.{eq-eqb, ne-eqb}
+use lib.Dec.{eqb, leb, ltb}
+use lib.ListN.{length, getD, take, drop, set, length-set, length-append, length-drop}
+use lib.Seq.{length-take-le}
+use borrow.Author.Tests.{eq-eqb, ne-eqb, lt-ltb, le-ltb}
 use Rattle.lists.specs.Choice.{firstOf}
-use Rattle.lists.specs.Tables.{front, overwrite}
+use Rattle.lists.specs.Tables.{front}
 use Rattle.lists.proofs.Firsts.{None, Listed, first-of-none, first-passed, none-first, none-append, numbered-append}
-use Rattle.lists.proofs.Overwrite.{overwrite-none}
 use Rattle.lists.proofs.Tests.{same-or-not}
 use Rattle.holding.specs.declared.{Account.Account, Row.Row}
 use Rattle.article.specs.Answer.{Answer, makeAnswer}
 use Rattle.proposal.specs.{Submission.noRow, Outcome.atPlace}
-use Rattle.proposal.proofs.Places.{first-at, zero-at}
+use Rattle.proposal.proofs.Places.{none-at, first-at, zero-at}
 use Rattle.daybook.specs.Book.{valued, placeIn, heldIn, added, taken, marginOf, totalsOf, headOf, accountAt}
 use Rattle.daybook.specs.Orders.{answerOf, descriptionFaults, sumFaults, joins, joinFaults, takingFaults, orderFaults, holdingsAfter, dateAfter, stored, dayAfter, acceptedAnswer}
 use Rattle.daybook.specs.declared.{Day.Day, Reply.Reply}
@@ -26,18 +25,10 @@ use Rattle.daybook.proofs.Written.{front-set, front-joined}
 use Rattle.booking.specs.Seeing.{tradeOf, Counted, movedUp, changed, Fits}
 use Rattle.booking.specs.Settling.{noChange, refusalOf, acceptanceOf, addingFaults, settlement, Settles, Held, Traded, Rated}
 use Rattle.booking.specs.declared.{Scan.Scan, Change.Change, Outcome.Outcome}
+use Rattle.booking.proofs.Changed.{put-only, unchanged, closes-up}
 use Rattle.booking.proofs.Found.{first-at as first-found-at, nowhere-at, valued-equal, total-held, totals-set, totals-without}
 use Rattle.booking.proofs.Rows.{place-few, totals-more}
 use Rattle.booking.proofs.Tested.{adds-listed, adds-sum, adds-few, adds-room}
-
--- a change that only puts an entry at a place
-module _ {A : Type 0} (x : A) (xs : List A) where
-  put-only : (at value : ℕ) → changed (record { first = 1; end = 0; at = at; value = value }) x xs ≡ set xs at x
-  unfolding changed movedUp
-  put-only at value = ap (λ (l : List A). set l at x) (overwrite-none 0 xs)
-
-  pub unchanged : (room : ℕ) → length xs ≡ room → changed (noChange room) x xs ≡ xs
-  unchanged room e = put-only room 0 ∙ set-out xs room x (omega (arith, e))
 
 module _ {d : Day} {room : ℕ} {rows : List Row} {o : Order} where
   pub settles-refused : {n k : ℕ} {r : Outcome} → r ≡ refusalOf d room n k → (n ≡ 0 → ⊥) → settlement d room rows o ≡ makeAnswer n k 0 → Settles d room rows o r
@@ -69,6 +60,15 @@ pub place-there : {d : Day} {room : ℕ} {t : Row} {s : Scan} {rows : List Row} 
 place-there {d} {room} {t} {s} {rows} traded other =
     let few : s .at ≤ d .count = omega (arith, place-few t rows, traded .counted .at, traded .held .count) in
     same-or-not (s .at) (d .count) (λ e. absurd (other e)) (λ o. omega arith)
+
+-- what refuses a taking
+pub takes-zero : (held value : ℕ) → value ≡ 0 → 27 ≡ firstOf (takingFaults held value) 0
+unfolding takingFaults firstOf
+takes-zero held value e = rw (eq-eqb value 0 e)
+
+pub takes-more : (held value : ℕ) → held < value → 27 ≡ firstOf (takingFaults held value) 0
+unfolding takingFaults firstOf
+takes-more held value h = rw (lt-ltb held value h, or-true (eqb value 0))
 
 -- a trade on holdings without fault
 module _ {d : Day} {room : ℕ} {t : Row} {s : Scan} {rows : List Row} {p rate : ℕ} (traded : Traded d room t s rows) (rated : Rated (accountAt d) t p rate) where
@@ -144,6 +144,21 @@ module _ {d : Day} {room : ℕ} {t : Row} {s : Scan} {rows : List Row} {p rate :
             totals = totals-put total q h i;
           })
 
+    -- without it
+    fewer : d .count - 1 ≡ length (take (s .at) rows ++ drop (suc (s .at)) rows)
+    fewer =
+        let before : length (take (s .at) rows) ≡ s .at = length-take-le (s .at) rows (omega (arith, traded .held .count)) in
+        omega (arith, traded .held .count, length-append (take (s .at) rows) (drop (suc (s .at)) rows), length-drop (suc (s .at)) rows, before)
+
+    moved-up : (xs : List Row) → length xs ≡ room → take (length rows) xs ≡ rows
+        → changed (record { first = s .at + 1; end = d .count; at = room; value = 0 }) (valued t 0) xs ≡ front (take (s .at) rows ++ drop (suc (s .at)) rows) xs
+    moved-up xs l e =
+        let rest = d .count - (s .at + 1) in
+        let whole : s .at + 1 + rest ≡ d .count = omega arith in
+        ap (λ (n : ℕ). changed (record { first = s .at + 1; end = n; at = room; value = 0 }) (valued t 0) xs) (sym whole)
+        ∙ closes-up (valued t 0) xs rows (s .at) rest (omega (arith, l, whole, traded .held .count, traded .held .within))
+            (sym e ∙ ap (λ (n : ℕ). take n xs) (traded .held .count ∙ sym whole)) room 0 l
+
     added-there : added rows t ≡ set rows (s .at) (valued t (s .held + t .value))
     unfolding valued
     added-there = added-first t (valued t (s .held + t .value)) (valued-equal t (s .held + t .value)) rows (s .at) found (omega (arith, held-is))
@@ -202,3 +217,63 @@ module _ {d : Day} {room : ℕ} {t : Row} {s : Scan} {rows : List Row} {p rate :
         ∙ ap (λ (x : Row). set xs (s .at) x) joined-row
         ∙ ap (λ (i : ℕ). set xs i t) (none ∙ sym (traded .held .count))
         ∙ (sym (ap (λ (ys : List Row). front ys xs) (added-none t rows nowhere ∙ ap (λ (ys : List Row). ys ++ (t ∷ [])) (sym k)) ∙ front-joined (length rows) xs (omega (arith, l, traded .held .count)) t)))
+
+  -- what refuses a taking
+  taking-faults : orderFaults room d rows (Take t) ≡ atPlace 0 (descriptionFaults a t ++ takingFaults (s .held) (t .value))
+  unfolding orderFaults
+  taking-faults = ap (λ (h : ℕ). atPlace 0 (descriptionFaults a t ++ takingFaults h (t .value))) (sym held-there)
+
+  described-none : None (descriptionFaults a t)
+  described-none = none-first (λ (m : ℕ). m) (descriptionFaults a t) 0 (description-listed a t) (rated .described) .0
+
+  pub taking-refused : {r : Outcome} → 27 ≡ firstOf (takingFaults (s .held) (t .value)) 0 → r ≡ refusalOf d room 27 0 → Settles d room rows (Take t) r
+  unfolding settlement
+  taking-refused e q =
+      let other : _≡_ {A = ℕ} 27 0 → ⊥ = λ z. omega arith in
+      settles-refused q other
+      (ap (λ (l : List (Bool × Answer)). firstOf l (acceptedAnswer rows (Take t))) taking-faults
+      ∙ first-at 0 _ 27 (e ∙ sym (first-passed (λ (m : ℕ). m) (descriptionFaults a t) _ 0 0 (description-listed a t) (rated .described))) other _)
+
+  -- where it is 1 cent or more, and no more than is held
+  module _ (low : 1 ≤ t .value) (high : t .value ≤ s .held) where
+    taking-none : None (orderFaults room d rows (Take t))
+    unfolding takingFaults
+    taking-none =
+        rw taking-faults
+        (none-at 0 (descriptionFaults a t ++ takingFaults (s .held) (t .value))
+        (none-append (descriptionFaults a t) _ described-none
+        ((ap (λ (b : Bool). b || ltb (s .held) (t .value)) (ne-eqb (t .value) 0 (λ z. omega arith)) ∙ le-ltb (s .held) (t .value) high), tt)))
+
+    pub taking-there : (total : ℕ) {r : Outcome} → s .at < d .count → t .value < s .held → p < 5 → total + rate * t .value ≡ getD (d .totals) p 0
+        → r ≡ acceptanceOf (record { date = d .date; letter = d .letter; count = d .count; totals = set (d .totals) p total })
+            (record { first = 1; end = 0; at = s .at; value = s .held - t .value })
+        → Settles d room rows (Take t) r
+    unfolding dayAfter dateAfter holdingsAfter headOf tradeOf
+    taking-there total there less q h g =
+        let v = s .held - t .value in
+        let split : s .held ≡ v + t .value = omega arith in
+        let rest : rate * s .held ≡ rate * (v + t .value) = ap (λ (x : ℕ). rate * x) split in
+        settles-accepted g taking-none (put-day there v (taken rows t) (taken-there there less) total q (omega (arith, h, rest)))
+        (λ xs l k. put-there there v xs l k ∙ ap (λ (ys : List Row). front ys xs) (sym (taken-there there less)))
+
+    -- the holding leaves, and later ones move up
+    pub taking-whole : (total : ℕ) {r : Outcome} → s .at < d .count → t .value ≡ s .held → p < 5 → total + rate * t .value ≡ getD (d .totals) p 0
+        → r ≡ acceptanceOf (record { date = d .date; letter = d .letter; count = d .count - 1; totals = set (d .totals) p total })
+            (record { first = s .at + 1; end = d .count; at = room; value = 0 })
+        → Settles d room rows (Take t) r
+    unfolding dayAfter dateAfter holdingsAfter headOf tradeOf stored accountAt
+    taking-whole total there whole q h g =
+        let f = found there in
+        let is : taken rows t ≡ take (s .at) rows ++ drop (suc (s .at)) rows = taken-whole t rows (s .at) f (whole ∙ sym (held-is there)) in
+        settles-accepted g taking-none
+        (λ i. record {
+          date = d .date;
+          letter = d .letter;
+          count = (fewer there ∙ ap (λ (ys : List Row). length ys) (sym is)) i;
+          totals =
+              (ap (λ (l : List ℕ). set l p total) totals-there
+              ∙ totals-without a t p rate (rated .place) (rated .units) rows (s .at) f total q
+                  (ap (λ (x : ℕ). total + rate * x) (held-is there ∙ sym whole) ∙ h ∙ ap (λ (l : List ℕ). getD l p 0) totals-there)
+              ∙ ap (totalsOf a) (sym is)) i;
+        })
+        (λ xs l k. moved-up there xs l k ∙ ap (λ (ys : List Row). front ys xs) (sym is))

@@ -79,6 +79,7 @@ pub record Raisable (d : Day) (p rate : ℕ) : Type 0 where
 -- a total has the margin of what is held, by a holding of the book
 pub record Lowerable (d : Day) (s : Scan) (p rate : ℕ) : Type 0 where
   pub place : p < 5
+  pub low : getD (d .totals) p 0 ≤ 256 * marginLimit
   pub enough : rate * s .held ≤ getD (d .totals) p 0
   pub there : 1 ≤ s .held → s .at < d .count
 
