@@ -26,6 +26,7 @@ pub record Opens (short : Bool) (room : ℕ) (d : Day) (r : Opening) : Type 0 wh
   pub count : r .number ≡ 0 → r .count ≡ d .count
   pub account : r .number ≡ 0 → r .account ≡ accountAt d
   pub none : (r .number ≡ 0 → ⊥) → r .count ≡ 0
+  pub valued : isDate (r .account .date) ≡ true
   pub few : r .count ≤ 256
   pub within : r .count ≤ room
 
@@ -37,6 +38,7 @@ onDate to a = record { date = to; letter = a .letter }
 pub record OpensAgain (o : Order) (before r : Opening) : Type 0 where
   pub count : (to : ℕ) → o ≡ MoveTo to → isDate to ≡ true → r .count ≡ before .count
   pub account : (to : ℕ) → o ≡ MoveTo to → isDate to ≡ true → r .account ≡ onDate to (before .account)
+  pub valued : isDate (r .account .date) ≡ true
   pub few : r .count ≤ before .count
 
 -- what was counted of holdings without fault: the first one equal to a trade, what it holds, and the totals
@@ -54,8 +56,9 @@ pub record Seen (a : Account) (t : Row) (rows : List Row) (s : Scan) : Type 0 wh
 abbrev pub Unseen : Scan → Type 0
 Unseen s = (a : Account) (t : Row) → Seen a t [] s
 
--- there is room for one more holding in what was counted of i
-pub record Countable (i : ℕ) (s : Scan) : Type 0 where
+-- an account valued on a date, and room for one more holding in what was counted of i
+pub record Countable (a : Account) (i : ℕ) (s : Scan) : Type 0 where
+  pub valued : isDate (a .date) ≡ true
   pub few : i < 256
   pub low : s .number ≡ 0 → (k : ℕ) → getD (s .totals) k 0 ≤ i * marginLimit
 
@@ -81,6 +84,7 @@ pub record Examined (short : Bool) (b : Book) (o : Order) (opening : Opening) (s
 pub record Known (d : Day) (room : ℕ) (o : Order) (opening : Opening) (scan : Scan) : Type 0 where
   pub rows : List Row
   pub few : length rows ≤ 256
+  pub valued : isDate (opening .account .date) ≡ true
   pub seen : Seen (opening .account) (tradeOf o) rows scan
   pub within : opening .number ≡ 0 → d .count ≤ room
 
