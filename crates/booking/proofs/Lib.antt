@@ -5,3 +5,4 @@ pub mod Opened
 pub mod Found
 pub mod Changed
 pub mod Settled
+pub mod Moved

@@ -36,12 +36,11 @@ module _ {d : Day} {room : ℕ} {rows : List Row} {o : Order} where
       let no : eqb (settlement d room rows o .number) 0 ≡ false = ap (λ (a : Answer). eqb (a .number) 0) e ∙ ne-eqb n 0 other in
       rw s (record { answer = sym e; day = rw no; list = λ xs l _. rw no (unchanged _ xs room l) })
 
-  pub settles-accepted : {d′ : Day} {c : Change} {r : Outcome} → r ≡ acceptanceOf d′ c → None (orderFaults room d rows o) → d′ ≡ dayAfter d rows o
+  pub settles-accepted : {d′ : Day} {c : Change} {r : Outcome} → r ≡ acceptanceOf d′ c → settlement d room rows o ≡ acceptedAnswer rows o → d′ ≡ dayAfter d rows o
       → ((xs : List Row) → length xs ≡ room → take (length rows) xs ≡ rows → changed c (valued (tradeOf o) (c .value)) xs ≡ front (holdingsAfter o rows) xs)
       → Settles d room rows o r
   unfolding acceptedAnswer dayAfter stored settlement
-  settles-accepted {d′} s none e h =
-      let found : settlement d room rows o ≡ acceptedAnswer rows o = first-of-none (orderFaults room d rows o) _ none in
+  settles-accepted {d′} s found e h =
       let yes : eqb (settlement d room rows o .number) 0 ≡ true = ap (λ (a : Answer). eqb (a .number) 0) found in
       rw s (record {
         answer = ap (λ (x : Day). makeAnswer 0 (x .count) 0) e ∙ sym found;
@@ -103,10 +102,11 @@ module _ {d : Day} {room : ℕ} {t : Row} {s : Scan} {rows : List Row} {p rate :
     adding-refused q other =
         settles-refused q other (ap (λ (l : List (Bool × Answer)). firstOf l (acceptedAnswer rows (Add t))) adding-faults ∙ first-at 0 _ n first-number other _)
 
-    pub adding-none : n ≡ 0 → None (orderFaults room d rows (Add t))
+    adding-none : n ≡ 0 → settlement d room rows (Add t) ≡ acceptedAnswer rows (Add t)
+    unfolding settlement
     adding-none z =
-        rw adding-faults (zero-at 0 (descriptionFaults a t ++ addingFaults (s .held) (t .value) (eqb (s .at) (d .count)) (d .count) room)
-        (numbered-append (λ (m : ℕ). m) (descriptionFaults a t) _ (description-listed a t) (adds-listed (s .held) (t .value) (eqb (s .at) (d .count)) (d .count) room)) (sym first-number ∙ z))
+        first-of-none (orderFaults room d rows (Add t)) _ (rw adding-faults (zero-at 0 (descriptionFaults a t ++ addingFaults (s .held) (t .value) (eqb (s .at) (d .count)) (d .count) room)
+        (numbered-append (λ (m : ℕ). m) (descriptionFaults a t) _ (description-listed a t) (adds-listed (s .held) (t .value) (eqb (s .at) (d .count)) (d .count) room)) (sym first-number ∙ z)))
 
   -- where one is equal to the trade
   module _ (there : s .at < d .count) where
@@ -236,13 +236,13 @@ module _ {d : Day} {room : ℕ} {t : Row} {s : Scan} {rows : List Row} {p rate :
 
   -- where it is 1 cent or more, and no more than is held
   module _ (low : 1 ≤ t .value) (high : t .value ≤ s .held) where
-    taking-none : None (orderFaults room d rows (Take t))
-    unfolding takingFaults
+    taking-none : settlement d room rows (Take t) ≡ acceptedAnswer rows (Take t)
+    unfolding settlement takingFaults
     taking-none =
-        rw taking-faults
+        first-of-none (orderFaults room d rows (Take t)) _ (rw taking-faults
         (none-at 0 (descriptionFaults a t ++ takingFaults (s .held) (t .value))
         (none-append (descriptionFaults a t) _ described-none
-        ((ap (λ (b : Bool). b || ltb (s .held) (t .value)) (ne-eqb (t .value) 0 (λ z. omega arith)) ∙ le-ltb (s .held) (t .value) high), tt)))
+        ((ap (λ (b : Bool). b || ltb (s .held) (t .value)) (ne-eqb (t .value) 0 (λ z. omega arith)) ∙ le-ltb (s .held) (t .value) high), tt))))
 
     pub taking-there : (total : ℕ) {r : Outcome} → s .at < d .count → t .value < s .held → p < 5 → total + rate * t .value ≡ getD (d .totals) p 0
         → r ≡ acceptanceOf (record { date = d .date; letter = d .letter; count = d .count; totals = set (d .totals) p total })
