@@ -6,3 +6,5 @@ pub mod Found
 pub mod Changed
 pub mod Settled
 pub mod Moved
+pub mod Tradable
+pub mod Concluded
