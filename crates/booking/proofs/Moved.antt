@@ -132,6 +132,6 @@ module _ {d : Day} {room to : ℕ} {rows : List Row} (held : Held d room rows) w
             settles-accepted q
             (from-matured _ ∙ sym (same-first _)
             ∙ first-of-none (rowsFaults (onDate to (accountAt d)) rows) _ (none-first number (rowsFaults (onDate to (accountAt d)) rows) (makeAnswer 0 0 0)
-                (rows-numbered (onDate to (accountAt d)) rows) (sym (ap number (seen .fault)) ∙ e) .0))
+            (rows-numbered (onDate to (accountAt d)) rows) (sym (ap number (seen .fault)) ∙ e) .0))
             (λ i. record { date = to; letter = d .letter; count = sym (held .count) i; totals = seen .clear e .totals i })
             (λ xs l k. unchanged _ xs room l ∙ sym (ap (λ (ys : List Row). front ys xs) (sym k) ∙ front-same (length rows) xs (omega (arith, l, held .within))))

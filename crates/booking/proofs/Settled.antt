@@ -157,7 +157,7 @@ module _ {d : Day} {room : ℕ} {t : Row} {s : Scan} {rows : List Row} {p rate :
         let whole : s .at + 1 + rest ≡ d .count = omega arith in
         ap (λ (n : ℕ). changed (record { first = s .at + 1; end = n; at = room; value = 0 }) (valued t 0) xs) (sym whole)
         ∙ closes-up (valued t 0) xs rows (s .at) rest (omega (arith, l, whole, traded .held .count, traded .held .within))
-            (sym e ∙ ap (λ (n : ℕ). take n xs) (traded .held .count ∙ sym whole)) room 0 l
+        (sym e ∙ ap (λ (n : ℕ). take n xs) (traded .held .count ∙ sym whole)) room 0 l
 
     added-there : added rows t ≡ set rows (s .at) (valued t (s .held + t .value))
     unfolding valued
@@ -167,7 +167,7 @@ module _ {d : Day} {room : ℕ} {t : Row} {s : Scan} {rows : List Row} {p rate :
     pub adding-there : {n total : ℕ} {r : Outcome} → n ≡ firstOf (addingFaults (s .held) (t .value) (eqb (s .at) (d .count)) (d .count) room) 0 → n ≡ 0 → p < 5
         → total ≡ getD (d .totals) p 0 + rate * t .value
         → r ≡ acceptanceOf (record { date = d .date; letter = d .letter; count = d .count; totals = set (d .totals) p total })
-            (record { first = 1; end = 0; at = s .at; value = s .held + t .value })
+        (record { first = 1; end = 0; at = s .at; value = s .held + t .value })
         → Settles d room rows (Add t) r
     unfolding dayAfter dateAfter holdingsAfter headOf tradeOf
     adding-there {n} {total} e z q h g =
@@ -199,7 +199,7 @@ module _ {d : Day} {room : ℕ} {t : Row} {s : Scan} {rows : List Row} {p rate :
     pub adding-joined : {n total : ℕ} {r : Outcome} → n ≡ firstOf (addingFaults (s .held) (t .value) (eqb (s .at) (d .count)) (d .count) room) 0 → n ≡ 0 → p < 5
         → total ≡ getD (d .totals) p 0 + rate * t .value
         → r ≡ acceptanceOf (record { date = d .date; letter = d .letter; count = d .count + 1; totals = set (d .totals) p total })
-            (record { first = 1; end = 0; at = s .at; value = s .held + t .value })
+        (record { first = 1; end = 0; at = s .at; value = s .held + t .value })
         → Settles d room rows (Add t) r
     unfolding dayAfter dateAfter holdingsAfter headOf tradeOf stored accountAt
     adding-joined {n} {total} e z q h g =
@@ -246,7 +246,7 @@ module _ {d : Day} {room : ℕ} {t : Row} {s : Scan} {rows : List Row} {p rate :
 
     pub taking-there : (total : ℕ) {r : Outcome} → s .at < d .count → t .value < s .held → p < 5 → total + rate * t .value ≡ getD (d .totals) p 0
         → r ≡ acceptanceOf (record { date = d .date; letter = d .letter; count = d .count; totals = set (d .totals) p total })
-            (record { first = 1; end = 0; at = s .at; value = s .held - t .value })
+        (record { first = 1; end = 0; at = s .at; value = s .held - t .value })
         → Settles d room rows (Take t) r
     unfolding dayAfter dateAfter holdingsAfter headOf tradeOf
     taking-there total there less q h g =
@@ -259,7 +259,7 @@ module _ {d : Day} {room : ℕ} {t : Row} {s : Scan} {rows : List Row} {p rate :
     -- the holding leaves, and later ones move up
     pub taking-whole : (total : ℕ) {r : Outcome} → s .at < d .count → t .value ≡ s .held → p < 5 → total + rate * t .value ≡ getD (d .totals) p 0
         → r ≡ acceptanceOf (record { date = d .date; letter = d .letter; count = d .count - 1; totals = set (d .totals) p total })
-            (record { first = s .at + 1; end = d .count; at = room; value = 0 })
+        (record { first = s .at + 1; end = d .count; at = room; value = 0 })
         → Settles d room rows (Take t) r
     unfolding dayAfter dateAfter holdingsAfter headOf tradeOf stored accountAt
     taking-whole total there whole q h g =
@@ -273,7 +273,7 @@ module _ {d : Day} {room : ℕ} {t : Row} {s : Scan} {rows : List Row} {p rate :
           totals =
               (ap (λ (l : List ℕ). set l p total) totals-there
               ∙ totals-without a t p rate (rated .place) (rated .units) rows (s .at) f total q
-                  (ap (λ (x : ℕ). total + rate * x) (held-is there ∙ sym whole) ∙ h ∙ ap (λ (l : List ℕ). getD l p 0) totals-there)
+              (ap (λ (x : ℕ). total + rate * x) (held-is there ∙ sym whole) ∙ h ∙ ap (λ (l : List ℕ). getD l p 0) totals-there)
               ∙ ap (totalsOf a) (sym is)) i;
         })
         (λ xs l k. moved-up there xs l k ∙ ap (λ (ys : List Row). front ys xs) (sym is))
