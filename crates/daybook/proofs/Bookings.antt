@@ -1,14 +1,25 @@
 -- The page specs/Bookings.antt, proved. Assumes nothing.
 use mathlib.Core.Path.{refl}
+use mathlib.Core.Bool.{Bool}
 use Rattle.holding.specs.declared.Row.{Row}
 use Rattle.daybook.specs.Book.{headOf, accountAt, Book, holdingsIn}
-use Rattle.daybook.specs.Bookings.{Names, Bookings}
-use Rattle.daybook.proofs.Descriptions.{one-description}
+use Rattle.daybook.specs.Orders.{outcome, booked}
+use Rattle.daybook.specs.Bookings.{InOrder, Ordered, Booking, Names}
+use Rattle.daybook.specs.declared.Order.{Order, the-variants.Add, the-variants.Take, the-variants.MoveTo}
 use Rattle.daybook.proofs.Holdings.{place-at, held-at, no-place, nothing-held}
 use Rattle.daybook.proofs.Checked.{checked}
 use Rattle.daybook.proofs.Adding.{add-described, adding}
 use Rattle.daybook.proofs.Taking.{take-described, taking}
 use Rattle.daybook.proofs.Moving.{moving}
+
+module _ (short : Bool) (b : Book) where
+  ordered : (o : Order) → InOrder short b → Ordered b (outcome short b o) (booked short b o) o
+  ordered (Add t) i = (add-described short b i t, adding short b i t)
+  ordered (Take t) i = (take-described short b i t, taking short b i t)
+  ordered (MoveTo to) i = moving short b i to
+
+  booking : (o : Order) → Booking b (outcome short b o) (booked short b o) short o
+  booking o = record { checked = checked short b o; ordered = ordered o }
 
 names : (b : Book) (t : Row) → Names b t
 unfolding accountAt headOf
@@ -19,16 +30,4 @@ names b t = record {
   held = λ fit. held-at b fit t;
   no-place = λ fit. no-place b fit t;
   none-held = λ fit. nothing-held b fit t;
-}
-
-pub bookings : Bookings
-bookings = record {
-  checked = checked;
-  described = λ short b i t. record { to-add = add-described short b i t; to-take = take-described short b i t };
-  adding = adding;
-  taking = taking;
-  moving = moving;
-  names = names;
-  descriptions = one-description;
-  answers = λ m n. record { new-count = refl; refusal = refl };
 }

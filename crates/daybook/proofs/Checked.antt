@@ -7,7 +7,7 @@ use Prim.Native.Nat.{ℕ, _≤_, _<_}
 use native.Mathlib.Omega.{arith}
 use lib.Dec.{ltb}
 use lib.ListN.{length}
-use borrow.Author.Tests.{lt-ltb, le-ltb, eqb-true, eq-eqb, ne-eqb}
+use borrow.Author.Tests.{lt-ltb, le-ltb, ne-eqb}
 use Rattle.lists.specs.Choice.{firstOf, same}
 use Rattle.lists.proofs.Entries.{eq-same, ne-same}
 use Rattle.lists.proofs.Firsts.{None, first-append, skip-none, first-in-turn, none-in-turn}
@@ -21,7 +21,7 @@ use Rattle.proposal.proofs.Places.{none-at, first-at}
 use Rattle.daybook.specs.Book.{totalsOf, headOf, accountAt, Book, holdingsIn}
 use Rattle.daybook.specs.Orders.{lentFaults, atRow, rowsFaults, totalsFaults}
 use Rattle.daybook.specs.Orders.{orderFaults, fromTotals, fromRows, faults, acceptedAnswer, outcome, accepted, booked}
-use Rattle.daybook.specs.Bookings.{entryAt, account, EachInRange, TotalsRight, Fits, Headed, InOrder, Refuses, Checked}
+use Rattle.daybook.specs.Bookings.{entryAt, account, EachInRange, TotalsRight, Fits, Headed, InOrder, Checked}
 use Rattle.daybook.specs.declared.Order.{Order}
 use Rattle.daybook.proofs.Holdings.{length-holdings, holding-at}
 use Rattle.daybook.proofs.Totals.{totals-afresh, afresh-totals}
@@ -45,7 +45,7 @@ module _ (short : Bool) (b : Book) (o : Order) where
   abbrev lent : List (Bool × ℕ)
   lent = lentFaults short room (b .day)
 
-  refused-lent : (n : ℕ) → firstOf lent 0 ≡ n → 1 ≤ n → Refuses short b o n 0
+  refused-lent : (n : ℕ) → firstOf lent 0 ≡ n → 1 ≤ n → outcome short b o ≡ makeAnswer n 0 0
   unfolding outcome faults
   refused-lent n e some = refused-at lent (fromRows room (b .day) (holdingsIn b) o) last n e some
 
@@ -80,7 +80,7 @@ module _ (short : Bool) (b : Book) (o : Order) where
         rw (holding-at b fit k q) (first-at k (rowFaults (account b) (entryAt b k)) _ refl (λ z. n (fault-none _ _ z)) w)
 
     refused-row : (k : ℕ) → k < b .day .count → ((j : ℕ) → j < k → Ranges (account b) (entryAt b j)) → (Ranges (account b) (entryAt b k) → ⊥)
-        → Refuses short b o (faultOf (account b) (entryAt b k)) k
+        → outcome short b o ≡ makeAnswer (faultOf (account b) (entryAt b k)) k 0
     unfolding rowsFaults
     refused-row k q before n =
         from-head ∙ first-append (rowsFaults (accountAt (b .day)) (holdingsIn b)) (fromTotals room (b .day) (holdingsIn b) o) last
@@ -96,7 +96,7 @@ module _ (short : Bool) (b : Book) (o : Order) where
           ∙ skip-none (rowsFaults (accountAt (b .day)) (holdingsIn b)) (fromTotals room (b .day) (holdingsIn b) o) last
           (none-in-turn (atRow (accountAt (b .day)) (holdingsIn b)) _ (λ k q. let below : k < b .day .count = omega (arith, length-holdings b fit) in none-at-row k below (each k below)))
 
-      refused-totals : (TotalsRight b → ⊥) → Refuses short b o 27 0
+      refused-totals : (TotalsRight b → ⊥) → outcome short b o ≡ makeAnswer 27 0 0
       unfolding totalsFaults firstOf holdingsIn accountAt headOf
       refused-totals n =
           from-rows
@@ -111,7 +111,7 @@ module _ (short : Bool) (b : Book) (o : Order) where
       ∙ passed-at (totalsFaults (b .day) (holdingsIn b)) (orderFaults room (b .day) (holdingsIn b) o) last
       (ap not (eq-same (b .day .totals) (totalsOf (account b) (holdingsIn b)) (afresh-totals _ _ _ (i .totals))), tt)
 
-  pub checked : Checked short b o
+  pub checked : Checked b (outcome short b o) (booked short b o) short
   unfolding lentFaults firstOf headOf booked accepted
   checked = record {
     too-many = λ h. refused-lent 3 (rw (lt-ltb 256 (b .day .count) h)) (omega arith);
@@ -122,7 +122,6 @@ module _ (short : Bool) (b : Book) (o : Order) where
     totals-off = refused-totals;
     in-order = accepted-in-order short b o;
     unchanged = λ n. rw (ne-eqb (outcome short b o .number) 0 n);
-    is-accepted = (eqb-true (outcome short b o .number) 0, eq-eqb (outcome short b o .number) 0);
   }
     where
       a-brief : (room < b .day .count) ⊎ (short ≡ true) → (ltb room (b .day .count) || short) ≡ true
