@@ -1,16 +1,19 @@
 -- The page specs/Bookings.antt, proved. Assumes nothing.
 use mathlib.Core.Path.{refl}
 use mathlib.Core.Bool.{Bool}
+use borrow.Author.Tests.{eqb-true, eq-eqb}
 use Rattle.holding.specs.declared.Row.{Row}
 use Rattle.daybook.specs.Book.{headOf, accountAt, Book, holdingsIn}
-use Rattle.daybook.specs.Orders.{outcome, booked}
-use Rattle.daybook.specs.Bookings.{InOrder, Ordered, Booking, Names}
+use Rattle.daybook.specs.Orders.{outcome, accepted, booked}
+use Rattle.daybook.specs.Bookings.{InOrder, Ordered, Booking, Names, Bookings}
 use Rattle.daybook.specs.declared.Order.{Order, the-variants.Add, the-variants.Take, the-variants.MoveTo}
+use Rattle.daybook.proofs.Descriptions.{one-description}
 use Rattle.daybook.proofs.Holdings.{place-at, held-at, no-place, nothing-held}
 use Rattle.daybook.proofs.Checked.{checked}
 use Rattle.daybook.proofs.Adding.{add-described, adding}
 use Rattle.daybook.proofs.Taking.{take-described, taking}
 use Rattle.daybook.proofs.Moving.{moving}
+use Rattle.daybook.proofs.NoOther.{one-only}
 
 module _ (short : Bool) (b : Book) where
   ordered : (o : Order) → InOrder short b → Ordered b (outcome short b o) (booked short b o) o
@@ -30,4 +33,15 @@ names b t = record {
   held = λ fit. held-at b fit t;
   no-place = λ fit. no-place b fit t;
   none-held = λ fit. nothing-held b fit t;
+}
+
+pub bookings : Bookings
+unfolding accepted
+bookings = record {
+  booking = booking;
+  no-other = λ short b o answer after p. one-only short b o answer (outcome short b o) after (booked short b o) p (booking short b o);
+  is-accepted = λ short b o. (eqb-true (outcome short b o .number) 0, eq-eqb (outcome short b o .number) 0);
+  names = names;
+  descriptions = one-description;
+  findings = λ m n. record { new-count = refl; refusal = refl };
 }

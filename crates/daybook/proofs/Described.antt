@@ -1,11 +1,11 @@
 -- A trade's description is refused as a holding of this description is, with a value within the limits. Assumes nothing.
-use mathlib.Core.Path.{_≡_, refl, sym, _∙_}
+use mathlib.Core.Path.{_≡_, sym, _∙_}
 use mathlib.Core.Bool.{Bool}
 use mathlib.Core.List.{List, _++_}
 use Prim.Native.Nat.{ℕ}
 use native.Mathlib.Omega.{arith}
 use Rattle.lists.specs.Choice.{firstOf}
-use Rattle.lists.proofs.Tests.{true-within}
+use Rattle.lists.proofs.Tests.{true-within, same-or-not}
 use Rattle.lists.proofs.Firsts.{None, none-first, found-first}
 use Rattle.holding.specs.Holding.{identityFaults, termFaults, worthFaults, moneyFaults, rowFaults, faultOf, Worth, Ranges}
 use Rattle.holding.specs.declared.{Account.Account, Row.Row}
@@ -13,6 +13,7 @@ use Rattle.holding.proofs.Ranges.{fault-none, none-fault}
 use Rattle.daybook.specs.Book.{valued, headOf, accountAt, Book}
 use Rattle.daybook.specs.Orders.{descriptionFaults}
 use Rattle.daybook.specs.Bookings.{Equal, Described, account}
+use Rattle.daybook.proofs.Descriptions.{valued-equal}
 use Rattle.daybook.proofs.InOrder.{description-listed}
 
 module _ (a : Account) (t : Row) where
@@ -43,14 +44,17 @@ module _ (a : Account) (t : Row) where
     rating = record { government = d .rating .government; corporation = d .rating .corporation };
   }
 
-  itself : Equal (valued t 1) t
-  unfolding valued
-  itself = record { side = refl; kind = refl; issuer = refl; maturity = refl; currency = refl; rating = refl }
+  -- or it is not, and has a fault
+  pub described-or-not : {P : Type 0} → (Described a t → P) → ((Described a t → ⊥) → P) → P
+  described-or-not p q =
+      same-or-not (faultOf a (valued t 1)) 0
+      (λ z. p (ranges-described (valued t 1) (valued-equal t 1) (fault-none a (valued t 1) z)))
+      (λ n. q (λ d. n (none-fault a (valued t 1) (one-cent d))))
 
   described-none : Described a t → None (descriptionFaults a t)
   described-none d =
       let g = one-cent d in
-      none-first (λ (n : ℕ). n) (descriptionFaults a t) 0 (description-listed a t) (description-fault (valued t 1) itself (g .value) ∙ none-fault a (valued t 1) g) .0
+      none-first (λ (n : ℕ). n) (descriptionFaults a t) 0 (description-listed a t) (description-fault (valued t 1) (valued-equal t 1) (g .value) ∙ none-fault a (valued t 1) g) .0
 
 -- of a trade with a book
 module _ (b : Book) (t : Row) where
