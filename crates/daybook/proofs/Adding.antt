@@ -16,7 +16,7 @@ use Rattle.article.specs.Answer.{makeAnswer}
 use Rattle.proposal.proofs.Places.{none-at, first-at}
 use Rattle.daybook.specs.Book.{placeIn, heldIn, accountAt, Book, holdingsIn}
 use Rattle.daybook.specs.Orders.{descriptionFaults, sumFaults, joins, joinFaults, orderFaults, holdingsAfter, dateAfter, outcome, booked}
-use Rattle.daybook.specs.Bookings.{Equal, Described, FirstEqual, NoneEqual, account, entryAt, InOrder, Adding}
+use Rattle.daybook.specs.Bookings.{Equal, Described, FirstEqual, NoneEqual, bookAccount, entryAt, InOrder, Adding}
 use Rattle.daybook.specs.declared.Order.{Order, the-variants.Add}
 use Rattle.daybook.proofs.Trades.{added-first, added-none}
 use Rattle.daybook.proofs.Holdings.{length-holdings, value-at, first-holding, place-at, held-at, no-holding, no-place, nothing-held}
@@ -30,7 +30,7 @@ module _ (short : Bool) (b : Book) (i : InOrder short b) (t : Row) where
   room = length (b .list)
 
   abbrev fit : b .day .count ≤ room
-  fit = i .headed .fits .entries
+  fit = i .head .sizes .entries
 
   abbrev held : ℕ
   held = heldIn (holdingsIn b) t
@@ -49,13 +49,13 @@ module _ (short : Bool) (b : Book) (i : InOrder short b) (t : Row) where
   unfolding orderFaults
   refused n e some = from-order short b (Add t) i ∙ first-at 0 (description ++ sum ++ join) n e some _
 
-  pub add-described : (Described (account b) t → ⊥) → (r : Row) → Equal r t → Worth r → outcome short b (Add t) ≡ makeAnswer (faultOf (account b) r) 0 0
+  pub add-described : (Described (bookAccount b) t → ⊥) → (r : Row) → Equal r t → Worth r → outcome short b (Add t) ≡ makeAnswer (faultOf (bookAccount b) r) 0 0
   add-described n r e w =
       let some = some-fault b t n r e in
       refused _ (found-first _ (description ++ sum) join (fault-first b t n r e w sum) some) some
 
   -- of a trade that is described
-  module _ (d : Described (account b) t) where
+  module _ (d : Described (bookAccount b) t) where
     refused-next : (n : ℕ) → firstOf sum (firstOf join 0) ≡ n → (n ≡ 0 → ⊥) → outcome short b (Add t) ≡ makeAnswer n 0 0
     refused-next n e some = refused n (sym (first-append (description ++ sum) join 0 ∙ skip-none description sum _ (no-description b t d) ∙ e)) some
 

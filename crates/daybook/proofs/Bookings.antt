@@ -5,7 +5,7 @@ use borrow.Author.Tests.{eqb-true, eq-eqb}
 use Rattle.holding.specs.declared.Row.{Row}
 use Rattle.daybook.specs.Book.{headOf, accountAt, Book, holdingsIn}
 use Rattle.daybook.specs.Orders.{outcome, accepted, booked}
-use Rattle.daybook.specs.Bookings.{InOrder, Ordered, Booking, Names, Bookings}
+use Rattle.daybook.specs.Bookings.{InOrder, OfOrder, Booking, BookNames, Bookings}
 use Rattle.daybook.specs.declared.Order.{Order, the-variants.Add, the-variants.Take, the-variants.MoveTo}
 use Rattle.daybook.proofs.Descriptions.{one-description}
 use Rattle.daybook.proofs.Holdings.{place-at, held-at, no-place, nothing-held}
@@ -16,15 +16,15 @@ use Rattle.daybook.proofs.Moving.{moving}
 use Rattle.daybook.proofs.NoOther.{one-only}
 
 module _ (short : Bool) (b : Book) where
-  ordered : (o : Order) → InOrder short b → Ordered b (outcome short b o) (booked short b o) o
+  ordered : (o : Order) → InOrder short b → OfOrder b (outcome short b o) (booked short b o) o
   ordered (Add t) i = (add-described short b i t, adding short b i t)
   ordered (Take t) i = (take-described short b i t, taking short b i t)
   ordered (MoveTo to) i = moving short b i to
 
   booking : (o : Order) → Booking b (outcome short b o) (booked short b o) short o
-  booking o = record { checked = checked short b o; ordered = ordered o }
+  booking o = record { at-first = checked short b o; next = ordered o }
 
-names : (b : Book) (t : Row) → Names b t
+names : (b : Book) (t : Row) → BookNames b t
 unfolding accountAt headOf
 names b t = record {
   account-at = refl;
@@ -38,7 +38,7 @@ names b t = record {
 pub bookings : Bookings
 unfolding accepted
 bookings = record {
-  booking = booking;
+  outcomes = booking;
   no-other = λ short b o answer after p. one-only short b o answer (outcome short b o) after (booked short b o) p (booking short b o);
   is-accepted = λ short b o. (eqb-true (outcome short b o .number) 0, eq-eqb (outcome short b o .number) 0);
   names = names;

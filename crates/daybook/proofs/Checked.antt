@@ -21,14 +21,15 @@ use Rattle.proposal.proofs.Places.{none-at, first-at}
 use Rattle.daybook.specs.Book.{totalsOf, headOf, accountAt, Book, holdingsIn}
 use Rattle.daybook.specs.Orders.{lentFaults, atRow, rowsFaults, totalsFaults}
 use Rattle.daybook.specs.Orders.{orderFaults, fromTotals, fromRows, faults, acceptedAnswer, outcome, accepted, booked}
-use Rattle.daybook.specs.Bookings.{entryAt, account, EachInRange, TotalsRight, Fits, Headed, InOrder, Checked}
+use Rattle.daybook.specs.Bookings.{entryAt, bookAccount, EachInRange, TotalsRight, Fits, Headed, InOrder, Checked}
 use Rattle.daybook.specs.declared.Order.{Order}
 use Rattle.daybook.proofs.Holdings.{length-holdings, holding-at}
 use Rattle.daybook.proofs.Totals.{totals-afresh, afresh-totals}
 use Rattle.daybook.proofs.InOrder.{accepted-in-order}
 
 -- refusals at place 0: the first decides, and where none holds what follows does
-pub refused-at : (fs : List (Bool × ℕ)) (rest : List (Bool × Answer)) (z : Answer) (n : ℕ) → firstOf fs 0 ≡ n → 1 ≤ n → firstOf (atPlace 0 fs ++ rest) z ≡ makeAnswer n 0 0
+pub refused-at : (fs : List (Bool × ℕ)) (rest : List (Bool × Answer)) (z : Answer) (n : ℕ) → firstOf fs 0 ≡ n → 1 ≤ n
+    → firstOf (atPlace 0 fs ++ rest) z ≡ makeAnswer n 0 0
 refused-at fs rest z n e some = first-append (atPlace 0 fs) rest z ∙ first-at 0 fs n (sym e) (λ none. omega arith) _
 
 pub passed-at : (fs : List (Bool × ℕ)) (rest : List (Bool × Answer)) (z : Answer) → None fs → firstOf (atPlace 0 fs ++ rest) z ≡ firstOf rest z
@@ -56,7 +57,7 @@ module _ (short : Bool) (b : Book) (o : Order) where
   -- with a date and a letter
   module _ (h : Headed short b) where
     abbrev fit : b .day .count ≤ room
-    fit = h .fits .entries
+    fit = h .sizes .entries
 
     no-fault : headFault (headOf (b .day)) ≡ 0
     unfolding headOf
@@ -66,21 +67,21 @@ module _ (short : Bool) (b : Book) (o : Order) where
     unfolding outcome faults lentFaults
     from-head =
         passed-at lent (fromRows room (b .day) (holdingsIn b) o) last
-        (le-ltb 256 (b .day .count) (h .fits .holdings), (rw (le-ltb room (b .day .count) fit, h .fits .others), none-of-head (headOf (b .day)) no-fault))
+        (le-ltb 256 (b .day .count) (h .sizes .holdings), (rw (le-ltb room (b .day .count) fit, h .sizes .others), none-of-head (headOf (b .day)) no-fault))
 
     -- the first holding outside its ranges
-    none-at-row : (k : ℕ) → k < b .day .count → Ranges (account b) (entryAt b k) → None (atRow (accountAt (b .day)) (holdingsIn b) k)
+    none-at-row : (k : ℕ) → k < b .day .count → Ranges (bookAccount b) (entryAt b k) → None (atRow (accountAt (b .day)) (holdingsIn b) k)
     unfolding atRow accountAt headOf
     none-at-row k q g = rw (holding-at b fit k q) (none-at k _ (none-of-row _ _ (none-fault _ _ g)))
 
-    fault-at-row : (k : ℕ) → k < b .day .count → (Ranges (account b) (entryAt b k) → ⊥) → (w : Answer)
-        → firstOf (atRow (accountAt (b .day)) (holdingsIn b) k) w ≡ makeAnswer (faultOf (account b) (entryAt b k)) k 0
+    fault-at-row : (k : ℕ) → k < b .day .count → (Ranges (bookAccount b) (entryAt b k) → ⊥) → (w : Answer)
+        → firstOf (atRow (accountAt (b .day)) (holdingsIn b) k) w ≡ makeAnswer (faultOf (bookAccount b) (entryAt b k)) k 0
     unfolding atRow accountAt headOf faultOf
     fault-at-row k q n w =
-        rw (holding-at b fit k q) (first-at k (rowFaults (account b) (entryAt b k)) _ refl (λ z. n (fault-none _ _ z)) w)
+        rw (holding-at b fit k q) (first-at k (rowFaults (bookAccount b) (entryAt b k)) _ refl (λ z. n (fault-none _ _ z)) w)
 
-    refused-row : (k : ℕ) → k < b .day .count → ((j : ℕ) → j < k → Ranges (account b) (entryAt b j)) → (Ranges (account b) (entryAt b k) → ⊥)
-        → outcome short b o ≡ makeAnswer (faultOf (account b) (entryAt b k)) k 0
+    refused-row : (k : ℕ) → k < b .day .count → ((j : ℕ) → j < k → Ranges (bookAccount b) (entryAt b j)) → (Ranges (bookAccount b) (entryAt b k) → ⊥)
+        → outcome short b o ≡ makeAnswer (faultOf (bookAccount b) (entryAt b k)) k 0
     unfolding rowsFaults
     refused-row k q before n =
         from-head ∙ first-append (rowsFaults (accountAt (b .day)) (holdingsIn b)) (fromTotals room (b .day) (holdingsIn b) o) last
@@ -94,22 +95,23 @@ module _ (short : Bool) (b : Book) (o : Order) where
       from-rows =
           from-head
           ∙ skip-none (rowsFaults (accountAt (b .day)) (holdingsIn b)) (fromTotals room (b .day) (holdingsIn b) o) last
-          (none-in-turn (atRow (accountAt (b .day)) (holdingsIn b)) _ (λ k q. let below : k < b .day .count = omega (arith, length-holdings b fit) in none-at-row k below (each k below)))
+          (none-in-turn (atRow (accountAt (b .day)) (holdingsIn b)) _
+          (λ k q. let below : k < b .day .count = omega (arith, length-holdings b fit) in none-at-row k below (each k below)))
 
       refused-totals : (TotalsRight b → ⊥) → outcome short b o ≡ makeAnswer 27 0 0
       unfolding totalsFaults firstOf holdingsIn accountAt headOf
       refused-totals n =
           from-rows
           ∙ refused-at (totalsFaults (b .day) (holdingsIn b)) (orderFaults room (b .day) (holdingsIn b) o) last 27
-          (rw (ne-same (b .day .totals) (totalsOf (account b) (holdingsIn b)) (λ e. n (rw e (totals-afresh _ _))))) (omega arith)
+          (rw (ne-same (b .day .totals) (totalsOf (bookAccount b) (holdingsIn b)) (λ e. n (rw e (totals-afresh _ _))))) (omega arith)
 
   -- a book in order: the order decides
   pub from-order : InOrder short b → outcome short b o ≡ firstOf (orderFaults room (b .day) (holdingsIn b) o) last
   unfolding totalsFaults holdingsIn accountAt headOf
   from-order i =
-      from-rows (i .headed) (i .each-holding)
+      from-rows (i .head) (i .each-holding)
       ∙ passed-at (totalsFaults (b .day) (holdingsIn b)) (orderFaults room (b .day) (holdingsIn b) o) last
-      (ap not (eq-same (b .day .totals) (totalsOf (account b) (holdingsIn b)) (afresh-totals _ _ _ (i .totals))), tt)
+      (ap not (eq-same (b .day .totals) (totalsOf (bookAccount b) (holdingsIn b)) (afresh-totals _ _ _ (i .totals))), tt)
 
   pub checked : Checked b (outcome short b o) (booked short b o) short
   unfolding lentFaults firstOf headOf booked accepted

@@ -12,7 +12,7 @@ use Rattle.holding.specs.declared.{Account.Account, Row.Row}
 use Rattle.holding.proofs.Ranges.{fault-none, none-fault}
 use Rattle.daybook.specs.Book.{valued, headOf, accountAt, Book}
 use Rattle.daybook.specs.Orders.{descriptionFaults}
-use Rattle.daybook.specs.Bookings.{Equal, Described, account}
+use Rattle.daybook.specs.Bookings.{Equal, Described, bookAccount}
 use Rattle.daybook.proofs.Descriptions.{valued-equal}
 use Rattle.daybook.proofs.InOrder.{description-listed}
 
@@ -25,7 +25,11 @@ module _ (a : Account) (t : Row) where
   -- a holding within its ranges is described, and a description has holdings within the ranges
   ranges-described : (r : Row) → Equal r t → Ranges a r → Described a t
   ranges-described r e g = record {
-    identity = record { side = omega (arith, g .identity .side, e .side); kind = omega (arith, g .identity .kind, e .kind); issuer = rw (e .issuer) at (g .identity .issuer) };
+    identity = record {
+      side = omega (arith, g .identity .side, e .side);
+      kind = omega (arith, g .identity .kind, e .kind);
+      issuer = rw (e .issuer) at (g .identity .issuer);
+    };
     maturity = rw (e .maturity) at (g .maturity);
     currency = omega (arith, g .currency, e .currency);
     rating = record {
@@ -54,19 +58,20 @@ module _ (a : Account) (t : Row) where
   described-none : Described a t → None (descriptionFaults a t)
   described-none d =
       let g = one-cent d in
-      none-first (λ (n : ℕ). n) (descriptionFaults a t) 0 (description-listed a t) (description-fault (valued t 1) (valued-equal t 1) (g .value) ∙ none-fault a (valued t 1) g) .0
+      let zero = description-fault (valued t 1) (valued-equal t 1) (g .value) ∙ none-fault a (valued t 1) g in
+      none-first (λ (n : ℕ). n) (descriptionFaults a t) 0 (description-listed a t) zero .0
 
 -- of a trade with a book
 module _ (b : Book) (t : Row) where
-  pub no-description : Described (account b) t → None (descriptionFaults (accountAt (b .day)) t)
+  pub no-description : Described (bookAccount b) t → None (descriptionFaults (accountAt (b .day)) t)
   unfolding accountAt headOf
-  no-description d = described-none (account b) t d
+  no-description d = described-none (bookAccount b) t d
 
   -- its fault has a number, and comes before what follows
-  pub some-fault : (Described (account b) t → ⊥) → (r : Row) → Equal r t → faultOf (account b) r ≡ 0 → ⊥
-  some-fault n r e z = n (ranges-described (account b) t r e (fault-none (account b) r z))
+  pub some-fault : (Described (bookAccount b) t → ⊥) → (r : Row) → Equal r t → faultOf (bookAccount b) r ≡ 0 → ⊥
+  some-fault n r e z = n (ranges-described (bookAccount b) t r e (fault-none (bookAccount b) r z))
 
-  pub fault-first : (Described (account b) t → ⊥) → (r : Row) → Equal r t → Worth r → (rest : List (Bool × ℕ))
-      → faultOf (account b) r ≡ firstOf (descriptionFaults (accountAt (b .day)) t ++ rest) 0
+  pub fault-first : (Described (bookAccount b) t → ⊥) → (r : Row) → Equal r t → Worth r → (rest : List (Bool × ℕ))
+      → faultOf (bookAccount b) r ≡ firstOf (descriptionFaults (accountAt (b .day)) t ++ rest) 0
   unfolding accountAt headOf
-  fault-first n r e w rest = found-first (faultOf (account b) r) _ rest (sym (description-fault (account b) t r e w)) (some-fault n r e)
+  fault-first n r e w rest = found-first (faultOf (bookAccount b) r) _ rest (sym (description-fault (bookAccount b) t r e w)) (some-fault n r e)

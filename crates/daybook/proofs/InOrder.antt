@@ -19,9 +19,9 @@ use Rattle.article.specs.Answer.{Answer}
 use Rattle.proposal.specs.{Submission.noRow, Outcome.atPlace}
 use Rattle.proposal.proofs.Places.{at-none, listed-at}
 use Rattle.daybook.specs.Book.{heldIn, totalsOf, headOf, accountAt, Book, holdingsIn}
-use Rattle.daybook.specs.Orders.{lentFaults, atRow, rowsFaults, totalsFaults, descriptionFaults, sumFaults, joinFaults, takingFaults, dateFaults, atMatured, maturedFaults}
-use Rattle.daybook.specs.Orders.{orderFaults, fromTotals, fromRows, faults, outcome}
-use Rattle.daybook.specs.Bookings.{Headed, InOrder, account}
+use Rattle.daybook.specs.Orders.{lentFaults, atRow, rowsFaults, totalsFaults, descriptionFaults, sumFaults, joinFaults, takingFaults}
+use Rattle.daybook.specs.Orders.{dateFaults, atMatured, maturedFaults, orderFaults, fromTotals, fromRows, faults, outcome}
+use Rattle.daybook.specs.Bookings.{Headed, InOrder, bookAccount}
 use Rattle.daybook.specs.declared.{Day.Day, Order.Order, Order.the-variants.Add, Order.the-variants.Take, Order.the-variants.MoveTo}
 use Rattle.daybook.proofs.Totals.{totals-afresh}
 use Rattle.daybook.proofs.Holdings.{length-holdings, holding-at}
@@ -80,7 +80,7 @@ module _ (short : Bool) (b : Book) (o : Order) where
       let (brief, others) = neither (ltb room (b .day .count)) short (h .1 .0) in
       let none = head-of-none (headOf (b .day)) (h .1 .1) in
       record {
-        fits = record { holdings = ltb-false 256 (b .day .count) (h .0); entries = ltb-false room (b .day .count) brief; others = others };
+        sizes = record { holdings = ltb-false 256 (b .day .count) (h .0); entries = ltb-false room (b .day .count) brief; others = others };
         dated = head-valued (headOf (b .day)) none;
         lettered = head-lettered (headOf (b .day)) none;
       }
@@ -92,13 +92,13 @@ module _ (short : Bool) (b : Book) (o : Order) where
       let (rows, rest₁) = append-none (rowsFaults (accountAt (b .day)) (holdingsIn b)) (fromTotals room (b .day) (holdingsIn b) o) rest in
       let (totals, _) = append-none (atPlace 0 (totalsFaults (b .day) (holdingsIn b))) (orderFaults room (b .day) (holdingsIn b) o) rest₁ in
       let headed = none-headed (at-none 0 lent at-lent) in
-      let fit = headed .fits .entries in
-      let off : same (b .day .totals) (totalsOf (account b) (holdingsIn b)) ≡ true = not-false _ (at-none 0 _ totals .0) in
+      let fit = headed .sizes .entries in
+      let off : same (b .day .totals) (totalsOf (bookAccount b) (holdingsIn b)) ≡ true = not-false _ (at-none 0 _ totals .0) in
       record {
-        headed = headed;
+        head = headed;
         each-holding = λ k q.
             let none = at-none k _ (in-turn-none (atRow (accountAt (b .day)) (holdingsIn b)) _ rows k (omega (arith, length-holdings b fit))) in
-            rw (holding-at b fit k q) at (fault-none (account b) (getD (holdingsIn b) k noRow) (first-of-none _ 0 none));
+            rw (holding-at b fit k q) at (fault-none (bookAccount b) (getD (holdingsIn b) k noRow) (first-of-none _ 0 none));
         totals = rw (same-true _ _ off) (totals-afresh _ _);
       }
 

@@ -22,7 +22,7 @@ use Rattle.daybook.proofs.Executed.{Executes, executed}
 
 module _ (short : Bool) (b : Book) (i : InOrder short b) (to : ℕ) where
   abbrev fit : b .day .count ≤ length (b .list)
-  fit = i .headed .fits .entries
+  fit = i .head .sizes .entries
 
   refused : (n : ℕ) → firstOf (dateFaults (b .day .date) to) 0 ≡ n → 1 ≤ n → outcome short b (MoveTo to) ≡ makeAnswer n 0 0
   unfolding orderFaults
@@ -55,7 +55,8 @@ module _ (short : Bool) (b : Book) (i : InOrder short b) (to : ℕ) where
     moves all =
         executed short b (MoveTo to) i
         (none-append (atPlace 0 (dateFaults (b .day .date) to)) (maturedFaults (holdingsIn b) to) (none-at 0 _ later)
-        (none-in-turn (atMatured (holdingsIn b) to) _ (λ k q. let below : k < b .day .count = omega (arith, length-holdings b fit) in not-matured k below (all k below))))
+        (none-in-turn (atMatured (holdingsIn b) to) _
+        (λ k q. let below : k < b .day .count = omega (arith, length-holdings b fit) in not-matured k below (all k below))))
         (holdingsIn b) refl (b .day .count) (length-holdings b fit)
         (_≡ b .list) (unfold holdingsIn in front-same (b .day .count) (b .list) fit)
 

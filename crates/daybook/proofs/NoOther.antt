@@ -18,7 +18,7 @@ use Rattle.holding.proofs.Ranges.{fault-none, none-fault}
 use Rattle.article.specs.Answer.{Answer, makeAnswer}
 use Rattle.proposal.specs.Submission.{noRow}
 use Rattle.daybook.specs.Book.{alike, valued, totalsOf, Book}
-use Rattle.daybook.specs.Bookings.{Equal, Described, entryAt, accountOn, account, EachInRange, FirstEqual, NoneEqual, Without, Fits, Headed, InOrder}
+use Rattle.daybook.specs.Bookings.{Equal, Described, entryAt, accountOn, bookAccount, EachInRange, FirstEqual, NoneEqual, Without, Fits, Headed, InOrder}
 use Rattle.daybook.specs.Bookings.{Executed, DescribedFirst, Booking}
 use Rattle.daybook.specs.declared.Order.{Order, the-variants.Add, the-variants.Take, the-variants.MoveTo}
 use Rattle.daybook.proofs.Descriptions.{equal-alike, alike-equal, valued-equal, value-of}
@@ -41,7 +41,7 @@ none-or-first : {P : Type 0} (b : Book) (t : Row) → (NoneEqual b t → P) → 
 none-or-first b t none first =
     each-or-first (λ k. not (alike (entryAt b k) t)) (b .day .count)
     (λ h. none (λ k q. differ k (h k q)))
-    (λ k q before e. first k (record { counted = q; equal = alike-equal (entryAt b k) t (not-false _ e); first = λ j p. differ j (before j p) }))
+    (λ k q before e. first k (record { counted = q; matches = alike-equal (entryAt b k) t (not-false _ e); first = λ j p. differ j (before j p) }))
   where
     differ : (k : ℕ) → not (alike (entryAt b k) t) ≡ true → Equal (entryAt b k) t → ⊥
     differ k e q = false≢true (sym (not-true (alike (entryAt b k) t) e) ∙ equal-alike (entryAt b k) t q)
@@ -66,7 +66,7 @@ module _ (short : Bool) (b : Book) where
     refused : (n p : ℕ) → (n ≡ 0 → ⊥) → ((x : Answer) (c : Book) → Booking b x c short o → x ≡ makeAnswer n p 0) → OneOnly
     refused n p some so x y c d g h =
         let kept : (x : Answer) (c : Book) → Booking b x c short o → c ≡ b
-        = λ x c g. g .checked .unchanged (λ z. some (sym (ap (λ (a : Answer). a .number) (so x c g)) ∙ z)) in
+        = λ x c g. g .at-first .unchanged (λ z. some (sym (ap (λ (a : Answer). a .number) (so x c g)) ∙ z)) in
         (so x c g ∙ sym (so y d h), kept x c g ∙ sym (kept y d h))
 
     -- where it is executed, date, letter, count and list are given, and the totals are those of the list
@@ -96,28 +96,28 @@ module _ (short : Bool) (b : Book) where
 
   module _ (i : InOrder short b) where
     -- a described trade that adds
-    module _ (t : Row) (e : Described (account b) t) where
+    module _ (t : Row) (e : Described (bookAccount b) t) where
       to-first : 1 ≤ t .value → (k : ℕ) → FirstEqual b t k → OneOnly (Add t)
       to-first v k f =
           let sum = entryAt b k .value + t .value in
           either-way (ltb 100000000000 sum)
-          (λ s. refused (Add t) 8 0 (λ z. omega arith) (λ x c g. g .ordered i .1 e .great-sum k f (ltb-true 100000000000 sum s)))
-          (λ s. listed (Add t) _ _ _ (λ x c g. g .ordered i .1 e .to-first k f v (ltb-false 100000000000 sum s) (valued t sum) (valued-equal t sum) (value-of t sum)))
+          (λ s. refused (Add t) 8 0 (λ z. omega arith) (λ x c g. g .next i .1 e .great-sum k f (ltb-true 100000000000 sum s)))
+          (λ s. listed (Add t) _ _ _ (λ x c g. g .next i .1 e .to-first k f v (ltb-false 100000000000 sum s) (valued t sum) (valued-equal t sum) (value-of t sum)))
 
       joining : Worth t → NoneEqual b t → OneOnly (Add t)
       joining w n =
-          let few = i .headed .fits .holdings in
-          let fit = i .headed .fits .entries in
-          same-or-not (b .day .count) 256 (λ s. refused (Add t) 3 0 (λ z. omega arith) (λ x c g. g .ordered i .1 e .a-257th n w s))
+          let few = i .head .sizes .holdings in
+          let fit = i .head .sizes .entries in
+          same-or-not (b .day .count) 256 (λ s. refused (Add t) 3 0 (λ z. omega arith) (λ x c g. g .next i .1 e .a-257th n w s))
           (λ less. same-or-not (length (b .list)) (b .day .count)
-          (λ s. refused (Add t) 2 0 (λ z. omega arith) (λ x c g. g .ordered i .1 e .no-place n w (omega arith) s))
-          (λ more. listed (Add t) _ _ _ (λ x c g. g .ordered i .1 e .at-end n w (omega arith) (omega arith))))
+          (λ s. refused (Add t) 2 0 (λ z. omega arith) (λ x c g. g .next i .1 e .no-place n w (omega arith) s))
+          (λ more. listed (Add t) _ _ _ (λ x c g. g .next i .1 e .at-end n w (omega arith) (omega arith))))
 
       adding : OneOnly (Add t)
       adding =
-          same-or-not (t .value) 0 (λ s. refused (Add t) 8 0 (λ z. omega arith) (λ x c g. g .ordered i .1 e .no-value s))
+          same-or-not (t .value) 0 (λ s. refused (Add t) 8 0 (λ z. omega arith) (λ x c g. g .next i .1 e .no-value s))
           (λ some. either-way (ltb 100000000000 (t .value))
-          (λ s. refused (Add t) 8 0 (λ z. omega arith) (λ x c g. g .ordered i .1 e .great-value (ltb-true 100000000000 (t .value) s)))
+          (λ s. refused (Add t) 8 0 (λ z. omega arith) (λ x c g. g .next i .1 e .great-value (ltb-true 100000000000 (t .value) s)))
           (λ s. none-or-first b t (joining (record { low = omega arith; high = ltb-false 100000000000 (t .value) s })) (to-first (omega arith))))
 
       -- and one that takes
@@ -125,17 +125,18 @@ module _ (short : Bool) (b : Book) where
       from-first v k f =
           let held = entryAt b k .value in
           either-way (ltb held (t .value))
-          (λ s. refused (Take t) 27 0 (λ z. omega arith) (λ x c g. g .ordered i .1 e .more k f (ltb-true held (t .value) s)))
+          (λ s. refused (Take t) 27 0 (λ z. omega arith) (λ x c g. g .next i .1 e .more k f (ltb-true held (t .value) s)))
           (λ s. let enough = ltb-false held (t .value) s in
           same-or-not (t .value) held
-          (λ all. executed (Take t) _ _ (Without b k) (without-one b k) (λ x c g. g .ordered i .1 e .to-zero k f all (b .day .count - 1) (omega (arith, f .counted))))
-          (λ part. let rest = value-of t (held - t .value) in
-          listed (Take t) _ _ _ (λ x c g. g .ordered i .1 e .from-first k f v (valued t (held - t .value)) (valued-equal t (held - t .value)) (omega arith) (omega arith))))
+          (λ all. executed (Take t) _ _ (Without b k) (without-one b k) (λ x c g. g .next i .1 e .to-zero k f all (b .day .count - 1) (omega (arith, f .counted))))
+          (λ part. let rest = held - t .value in
+          let value = value-of t rest in
+          listed (Take t) _ _ _ (λ x c g. g .next i .1 e .from-first k f v (valued t rest) (valued-equal t rest) (omega arith) (omega arith))))
 
       taking : OneOnly (Take t)
       taking =
-          same-or-not (t .value) 0 (λ s. refused (Take t) 27 0 (λ z. omega arith) (λ x c g. g .ordered i .1 e .no-value s))
-          (λ some. none-or-first b t (λ n. refused (Take t) 27 0 (λ z. omega arith) (λ x c g. g .ordered i .1 e .none-held n)) (from-first (omega arith)))
+          same-or-not (t .value) 0 (λ s. refused (Take t) 27 0 (λ z. omega arith) (λ x c g. g .next i .1 e .no-value s))
+          (λ some. none-or-first b t (λ n. refused (Take t) 27 0 (λ z. omega arith) (λ x c g. g .next i .1 e .none-held n)) (from-first (omega arith)))
 
     -- a move
     module _ (to : ℕ) where
@@ -145,61 +146,62 @@ module _ (short : Bool) (b : Book) where
       later : isDate to ≡ true → b .day .date < to → OneOnly (MoveTo to)
       later real l =
           each-or-first (λ k. ltb to (entryAt b k .maturity)) (b .day .count)
-          (λ each. listed (MoveTo to) _ _ _ (λ x c g. g .ordered i .moved real l (λ k m. after k (each k m))))
+          (λ each. listed (MoveTo to) _ _ _ (λ x c g. g .next i .moved real l (λ k m. after k (each k m))))
           (λ k m before s. let matured = ltb-false to (entryAt b k .maturity) s in
-          refused (MoveTo to) 7 k (λ z. omega arith) (λ x c g. g .ordered i .matured real l k m (λ j n. after j (before j n)) matured))
+          refused (MoveTo to) 7 k (λ z. omega arith) (λ x c g. g .next i .matured real l k m (λ j n. after j (before j n)) matured))
 
       moving : OneOnly (MoveTo to)
       moving =
           either-way (isDate to)
           (λ real. either-way (leb to (b .day .date))
-          (λ s. refused (MoveTo to) 27 0 (λ z. omega arith) (λ x c g. g .ordered i .not-later real (leb-true to (b .day .date) s)))
+          (λ s. refused (MoveTo to) 27 0 (λ z. omega arith) (λ x c g. g .next i .not-later real (leb-true to (b .day .date) s)))
           (λ s. later real (leb-false to (b .day .date) s)))
-          (λ s. refused (MoveTo to) 24 0 (λ z. omega arith) (λ x c g. g .ordered i .unreal s))
+          (λ s. refused (MoveTo to) 24 0 (λ z. omega arith) (λ x c g. g .next i .unreal s))
 
     -- a description with a fault
-    undescribed : (o : Order) (t : Row) → (Described (account b) t → ⊥) → ((x : Answer) (c : Book) → Booking b x c short o → DescribedFirst b x c t) → OneOnly o
+    undescribed : (o : Order) (t : Row) → (Described (bookAccount b) t → ⊥) → ((x : Answer) (c : Book) → Booking b x c short o → DescribedFirst b x c t) → OneOnly o
     undescribed o t n so =
         let r = valued t 1 in
         let same = valued-equal t 1 in
         let w : Worth r = record { low = rw (value-of t 1) (omega arith); high = rw (value-of t 1) (omega arith) } in
-        refused o (faultOf (account b) r) 0 (some-fault b t n r same) (λ x c g. so x c g n r same w)
+        refused o (faultOf (bookAccount b) r) 0 (some-fault b t n r same) (λ x c g. so x c g n r same w)
 
     ordered : (o : Order) → OneOnly o
-    ordered (Add t) = described-or-not (account b) t (adding t) (λ n. undescribed (Add t) t n (λ x c g. g .ordered i .0))
-    ordered (Take t) = described-or-not (account b) t (taking t) (λ n. undescribed (Take t) t n (λ x c g. g .ordered i .0))
+    ordered (Add t) = described-or-not (bookAccount b) t (adding t) (λ n. undescribed (Add t) t n (λ x c g. g .next i .0))
+    ordered (Take t) = described-or-not (bookAccount b) t (taking t) (λ n. undescribed (Take t) t n (λ x c g. g .next i .0))
     ordered (MoveTo to) = moving to
 
   -- the lent book
   module _ (o : Order) where
     in-range : Headed short b → EachInRange b → OneOnly o
     in-range h each =
-        one-or-not (b .day .totals) (totalsOf (account b) (take (b .day .count) (b .list)))
-        (λ s. ordered (record { headed = h; each-holding = each; totals = rw s (totals-afresh _ _) }) o)
-        (λ n. refused o 27 0 (λ z. omega arith) (λ x c g. g .checked .totals-off h each (λ right. n (afresh-totals _ _ _ right))))
+        one-or-not (b .day .totals) (totalsOf (bookAccount b) (take (b .day .count) (b .list)))
+        (λ s. ordered (record { head = h; each-holding = each; totals = rw s (totals-afresh _ _) }) o)
+        (λ n. refused o 27 0 (λ z. omega arith) (λ x c g. g .at-first .totals-off h each (λ right. n (afresh-totals _ _ _ right))))
 
     headed : Headed short b → OneOnly o
     headed h =
-        let fault : ℕ → ℕ = λ k. faultOf (account b) (entryAt b k) in
+        let fault : ℕ → ℕ = λ k. faultOf (bookAccount b) (entryAt b k) in
         each-or-first (λ k. eqb (fault k) 0) (b .day .count)
-        (λ each. in-range h (λ k q. fault-none (account b) (entryAt b k) (eqb-true _ _ (each k q))))
+        (λ each. in-range h (λ k q. fault-none (bookAccount b) (entryAt b k) (eqb-true _ _ (each k q))))
         (λ k q before s. let some = eqb-false (fault k) 0 s in
         refused o (fault k) k some
-        (λ x c g. g .checked .bad-record h k q (λ j p. fault-none (account b) (entryAt b j) (eqb-true _ _ (before j p))) (λ r. some (none-fault (account b) (entryAt b k) r))))
+        (λ x c g. g .at-first .bad-record h k q (λ j p. fault-none (bookAccount b) (entryAt b j) (eqb-true _ _ (before j p)))
+        (λ r. some (none-fault (bookAccount b) (entryAt b k) r))))
 
     fitting : Fits short b → OneOnly o
     fitting f =
         either-way (isDate (b .day .date))
         (λ dated. either-way (leb (b .day .letter) 1)
-        (λ s. headed (record { fits = f; dated = dated; lettered = leb-true (b .day .letter) 1 s }))
-        (λ s. refused o 26 0 (λ z. omega arith) (λ x c g. g .checked .unlettered f dated (leb-false (b .day .letter) 1 s))))
-        (λ s. refused o 24 0 (λ z. omega arith) (λ x c g. g .checked .undated f s))
+        (λ s. headed (record { sizes = f; dated = dated; lettered = leb-true (b .day .letter) 1 s }))
+        (λ s. refused o 26 0 (λ z. omega arith) (λ x c g. g .at-first .unlettered f dated (leb-false (b .day .letter) 1 s))))
+        (λ s. refused o 24 0 (λ z. omega arith) (λ x c g. g .at-first .undated f s))
 
     pub one-only : OneOnly o
     one-only =
-        either-way (ltb 256 (b .day .count)) (λ s. refused o 3 0 (λ z. omega arith) (λ x c g. g .checked .too-many (ltb-true 256 (b .day .count) s)))
+        either-way (ltb 256 (b .day .count)) (λ s. refused o 3 0 (λ z. omega arith) (λ x c g. g .at-first .too-many (ltb-true 256 (b .day .count) s)))
         (λ few-s. let few = ltb-false 256 (b .day .count) few-s in
         either-way (ltb (length (b .list)) (b .day .count))
-        (λ s. refused o 2 0 (λ z. omega arith) (λ x c g. g .checked .too-short few (inl (ltb-true (length (b .list)) (b .day .count) s))))
-        (λ fit-s. either-way short (λ s. refused o 2 0 (λ z. omega arith) (λ x c g. g .checked .too-short few (inr s)))
+        (λ s. refused o 2 0 (λ z. omega arith) (λ x c g. g .at-first .too-short few (inl (ltb-true (length (b .list)) (b .day .count) s))))
+        (λ fit-s. either-way short (λ s. refused o 2 0 (λ z. omega arith) (λ x c g. g .at-first .too-short few (inr s)))
         (λ s. fitting (record { holdings = few; entries = ltb-false (length (b .list)) (b .day .count) fit-s; others = s }))))

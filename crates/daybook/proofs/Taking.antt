@@ -18,7 +18,7 @@ use Rattle.proposal.specs.Submission.{noRow}
 use Rattle.proposal.proofs.Places.{none-at, first-at}
 use Rattle.daybook.specs.Book.{heldIn, accountAt, Book, holdingsIn}
 use Rattle.daybook.specs.Orders.{descriptionFaults, takingFaults, orderFaults, holdingsAfter, dateAfter, outcome, booked}
-use Rattle.daybook.specs.Bookings.{Equal, Described, FirstEqual, NoneEqual, account, entryAt, InOrder, Without, Taking}
+use Rattle.daybook.specs.Bookings.{Equal, Described, FirstEqual, NoneEqual, bookAccount, entryAt, InOrder, Without, Taking}
 use Rattle.daybook.specs.declared.Order.{Order, the-variants.Take}
 use Rattle.daybook.proofs.Trades.{taken-part, taken-whole}
 use Rattle.daybook.proofs.Holdings.{length-holdings, value-at, first-holding, held-at, nothing-held}
@@ -29,7 +29,7 @@ use Rattle.daybook.proofs.Executed.{Executes, executed}
 
 module _ (short : Bool) (b : Book) (i : InOrder short b) (t : Row) where
   abbrev fit : b .day .count ≤ length (b .list)
-  fit = i .headed .fits .entries
+  fit = i .head .sizes .entries
 
   abbrev held : ℕ
   held = heldIn (holdingsIn b) t
@@ -45,11 +45,11 @@ module _ (short : Bool) (b : Book) (i : InOrder short b) (t : Row) where
   unfolding orderFaults
   refused n e some = from-order short b (Take t) i ∙ first-at 0 (description ++ amount) n e some _
 
-  pub take-described : (Described (account b) t → ⊥) → (r : Row) → Equal r t → Worth r → outcome short b (Take t) ≡ makeAnswer (faultOf (account b) r) 0 0
+  pub take-described : (Described (bookAccount b) t → ⊥) → (r : Row) → Equal r t → Worth r → outcome short b (Take t) ≡ makeAnswer (faultOf (bookAccount b) r) 0 0
   take-described n r e w = refused _ (fault-first b t n r e w amount) (some-fault b t n r e)
 
   -- of a trade that is described
-  module _ (d : Described (account b) t) where
+  module _ (d : Described (bookAccount b) t) where
     -- 27 nothing, or more than is held
     refused-27 : (eqb (t .value) 0 || ltb held (t .value)) ≡ true → outcome short b (Take t) ≡ makeAnswer 27 0 0
     unfolding takingFaults firstOf
