@@ -1,7 +1,7 @@
 -- A lent book is checked first: the refusal of its first fault, whatever the order; and past it, what the order is given. Assumes nothing.
 use mathlib.Core.Path.{_≡_, refl, sym, ap, _∙_}
 use mathlib.Core.Logic.{_⊎_, inl, inr}
-use mathlib.Core.Bool.{Bool, true, not, _||_, or-true}
+use mathlib.Core.Bool.{Bool, true, false, not, _||_, or-true}
 use mathlib.Core.List.{List, _++_}
 use Prim.Native.Nat.{ℕ, _≤_, _<_}
 use native.Mathlib.Omega.{arith}
@@ -11,6 +11,7 @@ use borrow.Author.Tests.{lt-ltb, le-ltb, ne-eqb}
 use Rattle.lists.specs.Choice.{firstOf, same}
 use Rattle.lists.proofs.Entries.{eq-same, ne-same}
 use Rattle.lists.proofs.Firsts.{None, first-append, skip-none, first-in-turn, none-in-turn}
+use Rattle.dates.specs.Calendar.{isDate}
 use Rattle.holding.specs.Holding.{headFault, rowFaults, faultOf, Ranges}
 use Rattle.holding.specs.declared.{Row.Row}
 use Rattle.holding.proofs.Heads.{sound-head, unvalued-head, unlettered-head, none-of-head}
@@ -25,7 +26,7 @@ use Rattle.daybook.specs.Bookings.{entryAt, bookAccount, EachInRange, To
 use Rattle.daybook.specs.declared.Order.{Order}
 use Rattle.daybook.proofs.Holdings.{length-holdings, holding-at}
 use Rattle.daybook.proofs.Totals.{totals-afresh, afresh-totals}
-use Rattle.daybook.proofs.InOrder.{accepted-in-order}
+use Rattle.daybook.proofs.Cases.{lent-cases}
 
 -- refusals at place 0: the first decides, and where none holds what follows does
 pub refused-at : (fs : List (Bool × ℕ)) (rest : List (Bool × Answer)) (z : Answer) (n : ℕ) → firstOf fs 0 ≡ n → 1 ≤ n
@@ -53,6 +54,26 @@ module _ (short : Bool) (b : Book) (o : Order) where
   fits-head : Fits short b → firstOf lent 0 ≡ headFault (headOf (b .day))
   unfolding lentFaults headFault firstOf
   fits-head f = rw (le-ltb 256 (b .day .count) (f .holdings), le-ltb room (b .day .count) (f .entries), f .others)
+
+  refused-many : 256 < b .day .count → outcome short b o ≡ makeAnswer 3 0 0
+  unfolding lentFaults firstOf
+  refused-many h = refused-lent 3 (rw (lt-ltb 256 (b .day .count) h)) (omega arith)
+
+  refused-brief : b .day .count ≤ 256 → (room < b .day .count) ⊎ (short ≡ true) → outcome short b o ≡ makeAnswer 2 0 0
+  unfolding lentFaults firstOf
+  refused-brief h s = refused-lent 2 (rw (le-ltb 256 (b .day .count) h, brief s)) (omega arith)
+    where
+      brief : (room < b .day .count) ⊎ (short ≡ true) → (ltb room (b .day .count) || short) ≡ true
+      brief (inl h) = rw (lt-ltb room (b .day .count) h)
+      brief (inr e) = rw e (or-true (ltb room (b .day .count)))
+
+  refused-undated : Fits short b → isDate (b .day .date) ≡ false → outcome short b o ≡ makeAnswer 24 0 0
+  unfolding headOf
+  refused-undated f e = refused-lent 24 (fits-head f ∙ unvalued-head (headOf (b .day)) e) (omega arith)
+
+  refused-unlettered : Fits short b → isDate (b .day .date) ≡ true → 1 < b .day .letter → outcome short b o ≡ makeAnswer 26 0 0
+  unfolding headOf
+  refused-unlettered f e l = refused-lent 26 (fits-head f ∙ unlettered-head (headOf (b .day)) e l) (omega arith)
 
   -- with a date and a letter
   module _ (h : Headed short b) where
@@ -113,19 +134,30 @@ module _ (short : Bool) (b : Book) (o : Order) where
       ∙ passed-at (totalsFaults (b .day) (holdingsIn b)) (orderFaults room (b .day) (holdingsIn b) o) last
       (ap not (eq-same (b .day .totals) (totalsOf (bookAccount b) (holdingsIn b)) (afresh-totals _ _ _ (i .totals))), tt)
 
+  -- an order that is accepted has none of these refusals
+  pub accepted-in-order : outcome short b o .number ≡ 0 → InOrder short b
+  accepted-in-order e =
+      lent-cases short b
+      (λ many. never (refused-many many) (λ z. omega arith))
+      (λ few brief. never (refused-brief few brief) (λ z. omega arith))
+      (λ fits date. never (refused-undated fits date) (λ z. omega arith))
+      (λ fits date letter. never (refused-unlettered fits date letter) (λ z. omega arith))
+      (λ h k q before bad. never (refused-row h k q before bad) (λ z. bad (fault-none _ _ z)))
+      (λ h each off. never (refused-totals h each off) (λ z. omega arith))
+      (λ i. i)
+    where
+      never : {n p : ℕ} → outcome short b o ≡ makeAnswer n p 0 → (n ≡ 0 → ⊥) → InOrder short b
+      never r some = absurd (some (sym (ap (λ (a : Answer). a .number) r) ∙ e))
+
   pub checked : Checked b (outcome short b o) (booked short b o) short
-  unfolding lentFaults firstOf headOf booked accepted
+  unfolding booked accepted
   checked = record {
-    too-many = λ h. refused-lent 3 (rw (lt-ltb 256 (b .day .count) h)) (omega arith);
-    too-short = λ h s. refused-lent 2 (rw (le-ltb 256 (b .day .count) h, a-brief s)) (omega arith);
-    undated = λ f e. refused-lent 24 (fits-head f ∙ unvalued-head (headOf (b .day)) e) (omega arith);
-    unlettered = λ f e l. refused-lent 26 (fits-head f ∙ unlettered-head (headOf (b .day)) e l) (omega arith);
+    too-many = refused-many;
+    too-short = refused-brief;
+    undated = refused-undated;
+    unlettered = refused-unlettered;
     bad-record = refused-row;
     totals-off = refused-totals;
-    in-order = accepted-in-order short b o;
+    in-order = accepted-in-order;
     unchanged = λ n. rw (ne-eqb (outcome short b o .number) 0 n);
   }
-    where
-      a-brief : (room < b .day .count) ⊎ (short ≡ true) → (ltb room (b .day .count) || short) ≡ true
-      a-brief (inl h) = rw (lt-ltb room (b .day .count) h)
-      a-brief (inr e) = rw e (or-true (ltb room (b .day .count)))

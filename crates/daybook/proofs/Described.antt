@@ -6,15 +6,14 @@ use Prim.Native.Nat.{ℕ}
 use native.Mathlib.Omega.{arith}
 use Rattle.lists.specs.Choice.{firstOf}
 use Rattle.lists.proofs.Tests.{true-within, same-or-not}
-use Rattle.lists.proofs.Firsts.{None, none-first, found-first}
+use Rattle.lists.proofs.Firsts.{None, found-first}
 use Rattle.holding.specs.Holding.{identityFaults, termFaults, worthFaults, moneyFaults, rowFaults, faultOf, Worth, Ranges}
 use Rattle.holding.specs.declared.{Account.Account, Row.Row}
-use Rattle.holding.proofs.Ranges.{fault-none, none-fault}
+use Rattle.holding.proofs.Ranges.{none-of-row, fault-none, none-fault}
 use Rattle.daybook.specs.Book.{valued, headOf, accountAt, Book}
 use Rattle.daybook.specs.Orders.{descriptionFaults}
 use Rattle.daybook.specs.Bookings.{Equal, Described, bookAccount}
 use Rattle.daybook.proofs.Descriptions.{valued-equal}
-use Rattle.daybook.proofs.InOrder.{description-listed}
 
 module _ (a : Account) (t : Row) where
   description-fault : (r : Row) → Equal r t → Worth r → firstOf (descriptionFaults a t) 0 ≡ faultOf a r
@@ -56,10 +55,10 @@ module _ (a : Account) (t : Row) where
       (λ n. q (λ d. n (none-fault a (valued t 1) (one-cent d))))
 
   described-none : Described a t → None (descriptionFaults a t)
+  unfolding descriptionFaults identityFaults termFaults worthFaults moneyFaults rowFaults valued
   described-none d =
-      let g = one-cent d in
-      let zero = description-fault (valued t 1) (valued-equal t 1) (g .value) ∙ none-fault a (valued t 1) g in
-      none-first (λ (n : ℕ). n) (descriptionFaults a t) 0 (description-listed a t) zero .0
+      let (side, (kind, (issuer, (unreal, (term, (_, money)))))) = none-of-row a (valued t 1) (none-fault a (valued t 1) (one-cent d)) in
+      (side, (kind, (issuer, (unreal, (term, money)))))
 
 -- of a trade with a book
 module _ (b : Book) (t : Row) where

@@ -3,7 +3,7 @@ pub mod Trades
 pub mod Holdings
 pub mod Totals
 pub mod Written
-pub mod InOrder
+pub mod Cases
 pub mod Checked
 pub mod Described
 pub mod Executed

@@ -1,50 +1,28 @@
 -- What the page demands of an answer and of the book after leaves no choice: one case of it holds of every order to every lent book. Assumes nothing.
 use mathlib.Core.Path.{_≡_, sym, ap, _∙_}
-use mathlib.Core.Logic.{inl, inr}
-use mathlib.Core.Bool.{Bool, true, false, not, false≢true}
+use mathlib.Core.Bool.{Bool, true, false, not}
 use mathlib.Core.List.{List}
-use Prim.Native.Nat.{ℕ, zero, suc, _+_, _-_, _≤_, _<_}
+use Prim.Native.Nat.{ℕ, zero, _+_, _-_, _≤_, _<_}
 use native.Mathlib.Omega.{arith}
-use lib.Dec.{leb, ltb, eqb}
+use lib.Dec.{leb, ltb}
 use lib.ListN.{length, getD, take}
 use lib.Seq.{ext-getD}
-use borrow.Author.Tests.{leb-true, leb-false, ltb-true, ltb-false, eqb-true, eqb-false, not-true, not-false}
+use borrow.Author.Tests.{leb-true, leb-false, ltb-true, ltb-false}
 use Rattle.lists.proofs.Tests.{either-way, same-or-not, by-end}
-use Rattle.lists.proofs.Entries.{one-or-not}
 use Rattle.dates.specs.Calendar.{isDate}
 use Rattle.holding.specs.Holding.{faultOf, Worth}
 use Rattle.holding.specs.declared.Row.{Row}
-use Rattle.holding.proofs.Ranges.{fault-none, none-fault}
+use Rattle.holding.proofs.Ranges.{fault-none}
 use Rattle.article.specs.Answer.{Answer, makeAnswer}
 use Rattle.proposal.specs.Submission.{noRow}
-use Rattle.daybook.specs.Book.{alike, valued, totalsOf, Book}
-use Rattle.daybook.specs.Bookings.{Equal, Described, entryAt, accountOn, bookAccount, EachInRange, FirstEqual, NoneEqual, Without, Fits, Headed, InOrder}
+use Rattle.daybook.specs.Book.{valued, totalsOf, Book}
+use Rattle.daybook.specs.Bookings.{Equal, Described, entryAt, accountOn, bookAccount, FirstEqual, NoneEqual, Without, InOrder}
 use Rattle.daybook.specs.Bookings.{Executed, DescribedFirst, Booking}
 use Rattle.daybook.specs.declared.Order.{Order, the-variants.Add, the-variants.Take, the-variants.MoveTo}
-use Rattle.daybook.proofs.Descriptions.{equal-alike, alike-equal, valued-equal, value-of}
+use Rattle.daybook.proofs.Descriptions.{valued-equal, value-of}
+use Rattle.daybook.proofs.Cases.{each-or-first, none-or-first, lent-cases}
 use Rattle.daybook.proofs.Described.{described-or-not, some-fault}
-use Rattle.daybook.proofs.Totals.{totals-afresh, afresh-totals}
-
--- each number below n passes a test, or there is a first that does not
-each-or-first : {P : Type 0} (test : ℕ → Bool) (n : ℕ) → (((k : ℕ) → k < n → test k ≡ true) → P)
-    → ((k : ℕ) → k < n → ((j : ℕ) → j < k → test j ≡ true) → test k ≡ false → P) → P
-each-or-first test zero each first = each (λ k h. absurd (omega arith))
-each-or-first test (suc n) each first =
-    each-or-first test n
-    (λ before. either-way (test n)
-    (λ e. each (λ k h. same-or-not k n (λ s. rw s e) (λ s. before k (omega arith))))
-    (λ e. first n (omega arith) before e))
-    (λ k h before e. first k (omega arith) before e)
-
--- none of a book's holdings is equal to a trade, or one is the first
-none-or-first : {P : Type 0} (b : Book) (t : Row) → (NoneEqual b t → P) → ((k : ℕ) → FirstEqual b t k → P) → P
-none-or-first b t none first =
-    each-or-first (λ k. not (alike (entryAt b k) t)) (b .day .count)
-    (λ h. none (λ k q. differ k (h k q)))
-    (λ k q before e. first k (record { counted = q; matches = alike-equal (entryAt b k) t (not-false _ e); first = λ j p. differ j (before j p) }))
-  where
-    differ : (k : ℕ) → not (alike (entryAt b k) t) ≡ true → Equal (entryAt b k) t → ⊥
-    differ k e q = false≢true (sym (not-true (alike (entryAt b k) t) e) ∙ equal-alike (entryAt b k) t q)
+use Rattle.daybook.proofs.Totals.{afresh-totals}
 
 -- lists that a holding has left are one
 without-one : (b : Book) (k : ℕ) (l m : List Row) → Without b k l → Without b k m → l ≡ m
@@ -171,37 +149,14 @@ module _ (short : Bool) (b : Book) where
     ordered (Take t) = described-or-not (bookAccount b) t (taking t) (λ n. undescribed (Take t) t n (λ x c g. g .next i .0))
     ordered (MoveTo to) = moving to
 
-  -- the lent book
-  module _ (o : Order) where
-    in-range : Headed short b → EachInRange b → OneOnly o
-    in-range h each =
-        one-or-not (b .day .totals) (totalsOf (bookAccount b) (take (b .day .count) (b .list)))
-        (λ s. ordered (record { head = h; each-holding = each; totals = rw s (totals-afresh _ _) }) o)
-        (λ n. refused o 27 0 (λ z. omega arith) (λ x c g. g .at-first .totals-off h each (λ right. n (afresh-totals _ _ _ right))))
-
-    headed : Headed short b → OneOnly o
-    headed h =
-        let fault : ℕ → ℕ = λ k. faultOf (bookAccount b) (entryAt b k) in
-        each-or-first (λ k. eqb (fault k) 0) (b .day .count)
-        (λ each. in-range h (λ k q. fault-none (bookAccount b) (entryAt b k) (eqb-true _ _ (each k q))))
-        (λ k q before s. let some = eqb-false (fault k) 0 s in
-        refused o (fault k) k some
-        (λ x c g. g .at-first .bad-record h k q (λ j p. fault-none (bookAccount b) (entryAt b j) (eqb-true _ _ (before j p)))
-        (λ r. some (none-fault (bookAccount b) (entryAt b k) r))))
-
-    fitting : Fits short b → OneOnly o
-    fitting f =
-        either-way (isDate (b .day .date))
-        (λ dated. either-way (leb (b .day .letter) 1)
-        (λ s. headed (record { sizes = f; dated = dated; lettered = leb-true (b .day .letter) 1 s }))
-        (λ s. refused o 26 0 (λ z. omega arith) (λ x c g. g .at-first .unlettered f dated (leb-false (b .day .letter) 1 s))))
-        (λ s. refused o 24 0 (λ z. omega arith) (λ x c g. g .at-first .undated f s))
-
-    pub one-only : OneOnly o
-    one-only =
-        either-way (ltb 256 (b .day .count)) (λ s. refused o 3 0 (λ z. omega arith) (λ x c g. g .at-first .too-many (ltb-true 256 (b .day .count) s)))
-        (λ few-s. let few = ltb-false 256 (b .day .count) few-s in
-        either-way (ltb (length (b .list)) (b .day .count))
-        (λ s. refused o 2 0 (λ z. omega arith) (λ x c g. g .at-first .too-short few (inl (ltb-true (length (b .list)) (b .day .count) s))))
-        (λ fit-s. either-way short (λ s. refused o 2 0 (λ z. omega arith) (λ x c g. g .at-first .too-short few (inr s)))
-        (λ s. fitting (record { holdings = few; entries = ltb-false (length (b .list)) (b .day .count) fit-s; others = s }))))
+  -- the lent book has a fault, or the order decides
+  pub one-only : (o : Order) → OneOnly o
+  one-only o =
+      lent-cases short b
+      (λ many. refused o 3 0 (λ z. omega arith) (λ x c g. g .at-first .too-many many))
+      (λ few brief. refused o 2 0 (λ z. omega arith) (λ x c g. g .at-first .too-short few brief))
+      (λ fits date. refused o 24 0 (λ z. omega arith) (λ x c g. g .at-first .undated fits date))
+      (λ fits date letter. refused o 26 0 (λ z. omega arith) (λ x c g. g .at-first .unlettered fits date letter))
+      (λ h k q before bad. refused o _ k (λ z. bad (fault-none _ _ z)) (λ x c g. g .at-first .bad-record h k q before bad))
+      (λ h each off. refused o 27 0 (λ z. omega arith) (λ x c g. g .at-first .totals-off h each off))
+      (λ i. ordered i o)

@@ -89,7 +89,7 @@ module _ (short : Bool) (b : Book) (i : InOrder short b) (t : Row) where
         long = fewer-long (b .day .count) (b .list) fit rest e k (f .counted);
         before = fewer-before (b .day .count) (b .list) fit rest e k (f .counted) noRow;
         moved-up = fewer-moved (b .day .count) (b .list) fit rest e k (f .counted) noRow;
-        kept = fewer-kept (b .day .count) (b .list) fit rest e k (f .counted) noRow;
+        kept = λ j h. fewer-kept (b .day .count) (b .list) fit rest e k (f .counted) noRow j (omega arith);
       }
 
       whole : t .value ≡ entryAt b k .value → (rest : ℕ) → rest + 1 ≡ b .day .count → Executes short b (Take t) (b .day .date) rest (Without b k)
