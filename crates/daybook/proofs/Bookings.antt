@@ -8,7 +8,8 @@ use Rattle.daybook.specs.Orders.{outcome, accepted, booked}
 use Rattle.daybook.specs.Bookings.{InOrder, OfOrder, Booking, BookNames, Bookings}
 use Rattle.daybook.specs.declared.Order.{Order, the-variants.Add, the-variants.Take, the-variants.MoveTo}
 use Rattle.daybook.proofs.Descriptions.{one-description}
-use Rattle.daybook.proofs.Holdings.{place-at, held-at, no-place, nothing-held}
+use Rattle.daybook.proofs.Trades.{taken-none}
+use Rattle.daybook.proofs.Holdings.{place-at, held-at, no-holding, no-place, nothing-held}
 use Rattle.daybook.proofs.Checked.{checked}
 use Rattle.daybook.proofs.Adding.{add-described, adding}
 use Rattle.daybook.proofs.Taking.{take-described, taking}
@@ -33,6 +34,7 @@ names b t = record {
   held = λ fit. held-at b fit t;
   no-place = λ fit. no-place b fit t;
   none-held = λ fit. nothing-held b fit t;
+  none-taken = λ fit n. taken-none t (holdingsIn b) (no-holding b fit t n);
 }
 
 pub bookings : Bookings

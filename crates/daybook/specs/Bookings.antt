@@ -9,7 +9,7 @@ use Rattle.holding.specs.declared.{Account.Account, Row.Row}
 use Rattle.rates.specs.Rate.{periodOf, rateOf}
 use Rattle.article.specs.Answer.{Answer, makeAnswer}
 use Rattle.proposal.specs.Submission.{noRow}
-use Rattle.daybook.specs.Book.{descriptionOf, alike, placeIn, heldIn, accountAt, Book, holdingsIn}
+use Rattle.daybook.specs.Book.{descriptionOf, alike, placeIn, heldIn, taken, accountAt, Book, holdingsIn}
 use Rattle.daybook.specs.Orders.{answerOf, outcome, accepted, booked}
 use Rattle.daybook.specs.declared.Order.{Order, the-variants.Add, the-variants.Take, the-variants.MoveTo}
 use Rattle.daybook.specs.declared.Finding.{the-variants.Accepted, the-variants.Refused}
@@ -171,7 +171,7 @@ module _ (b : Book) (the-answer : Answer) (after : Book) where
     pub at-first : Checked short
     pub next : InOrder short b → OfOrder o
 
--- the names that contracts use: a book's account and its holdings, and the place and the value of the first one equal to a trade
+-- the names that contracts use: a book's account and its holdings, and the place and the value of the first one equal to a trade; where none is, nothing is taken
 pub record BookNames (b : Book) (t : Row) : Type 0 where
   pub account-at : accountAt (b .day) ≡ bookAccount b
   pub holdings-in : holdingsIn b ≡ take (b .day .count) (b .list)
@@ -179,6 +179,7 @@ pub record BookNames (b : Book) (t : Row) : Type 0 where
   pub held : b .day .count ≤ length (b .list) → (k : ℕ) → FirstEqual b t k → heldIn (holdingsIn b) t ≡ entryAt b k .value
   pub no-place : b .day .count ≤ length (b .list) → NoneEqual b t → placeIn (holdingsIn b) t ≡ b .day .count
   pub none-held : b .day .count ≤ length (b .list) → NoneEqual b t → heldIn (holdingsIn b) t ≡ 0
+  pub none-taken : b .day .count ≤ length (b .list) → NoneEqual b t → taken (holdingsIn b) t ≡ holdingsIn b
 
 -- two rows have one description, and are found alike, exactly when they are equal in the six
 pub record OneDescription (r t : Row) : Type 0 where
