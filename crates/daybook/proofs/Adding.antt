@@ -17,7 +17,7 @@ use Rattle.proposal.proofs.Places.{none-at, first-at}
 use Rattle.daybook.specs.Book.{placeIn, heldIn, accountAt, Book, holdingsIn}
 use Rattle.daybook.specs.Orders.{descriptionFaults, sumFaults, joins, joinFaults, orderFaults, holdingsAfter, dateAfter, outcome, booked}
 use Rattle.daybook.specs.Bookings.{Equal, Described, FirstEqual, NoneEqual, bookAccount, entryAt, InOrder, Adding}
-use Rattle.daybook.specs.declared.Order.{Order, the-variants.Add}
+use Rattle.daybook.specs.declared.Order.{the-variants.Add}
 use Rattle.daybook.proofs.Trades.{added-first, added-none}
 use Rattle.daybook.proofs.Holdings.{length-holdings, value-at, first-holding, place-at, held-at, no-holding, no-place, nothing-held}
 use Rattle.daybook.proofs.Written.{front-set, front-joined, length-more}

@@ -8,12 +8,11 @@ use native.Mathlib.Omega.{arith}
 use lib.Dec.{ltb}
 use lib.ListN.{length}
 use borrow.Author.Tests.{lt-ltb, le-ltb, ne-eqb}
-use Rattle.lists.specs.Choice.{firstOf, same}
+use Rattle.lists.specs.Choice.{firstOf}
 use Rattle.lists.proofs.Entries.{eq-same, ne-same}
 use Rattle.lists.proofs.Firsts.{None, first-append, skip-none, first-in-turn, none-in-turn}
 use Rattle.dates.specs.Calendar.{isDate}
 use Rattle.holding.specs.Holding.{headFault, rowFaults, faultOf, Ranges}
-use Rattle.holding.specs.declared.{Row.Row}
 use Rattle.holding.proofs.Heads.{sound-head, unvalued-head, unlettered-head, none-of-head}
 use Rattle.holding.proofs.Ranges.{none-of-row, fault-none, none-fault}
 use Rattle.article.specs.Answer.{Answer, makeAnswer}

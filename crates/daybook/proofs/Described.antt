@@ -16,6 +16,7 @@ use Rattle.daybook.specs.Bookings.{Equal, Described, bookAccount}
 use Rattle.daybook.proofs.Descriptions.{valued-equal}
 
 module _ (a : Account) (t : Row) where
+  -- the first fault of the description is that of the holding
   description-fault : (r : Row) → Equal r t → Worth r → firstOf (descriptionFaults a t) 0 ≡ faultOf a r
   unfolding descriptionFaults identityFaults termFaults worthFaults moneyFaults rowFaults faultOf firstOf
   description-fault r e w =
@@ -47,13 +48,14 @@ module _ (a : Account) (t : Row) where
     rating = record { government = d .rating .government; corporation = d .rating .corporation };
   }
 
-  -- or it is not, and has a fault
+  -- a trade is described, or it is not
   pub described-or-not : {P : Type 0} → (Described a t → P) → ((Described a t → ⊥) → P) → P
   described-or-not p q =
       same-or-not (faultOf a (valued t 1)) 0
       (λ z. p (ranges-described (valued t 1) (valued-equal t 1) (fault-none a (valued t 1) z)))
       (λ n. q (λ d. n (none-fault a (valued t 1) (one-cent d))))
 
+  -- a trade that is described has no fault
   described-none : Described a t → None (descriptionFaults a t)
   unfolding descriptionFaults identityFaults termFaults worthFaults moneyFaults rowFaults valued
   described-none d =

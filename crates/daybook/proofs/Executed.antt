@@ -18,6 +18,7 @@ use Rattle.daybook.proofs.Written.{take-front}
 use Rattle.daybook.proofs.Checked.{from-order}
 
 module _ (short : Bool) (b : Book) (o : Order) where
+  -- the order, by its outcome and the book that is left
   abbrev pub Executes : ℕ → ℕ → (List Row → Type 0) → Type 0
   Executes new-date new-count Such = Executed b (outcome short b o) (booked short b o) new-date new-count Such
 
@@ -25,7 +26,7 @@ module _ (short : Bool) (b : Book) (o : Order) where
   unfolding booked accepted
   changed e = rw (eq-eqb (outcome short b o .number) 0 e)
 
-  -- with these holdings
+  -- none of its refusals holds, and the holdings after it are these
   pub executed : InOrder short b → None (orderFaults (length (b .list)) (b .day) (holdingsIn b) o) → (rows : List Row) → holdingsAfter o (holdingsIn b) ≡ rows
       → (count : ℕ) → length rows ≡ count → (Such : List Row → Type 0) → Such (front rows (b .list)) → Executes (dateAfter o (b .day .date)) count Such
   unfolding bookAfter dayAfter stored acceptedAnswer

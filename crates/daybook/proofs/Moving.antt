@@ -14,7 +14,7 @@ use Rattle.proposal.proofs.Places.{none-at, first-at}
 use Rattle.daybook.specs.Book.{Book, holdingsIn}
 use Rattle.daybook.specs.Orders.{dateFaults, atMatured, maturedFaults, orderFaults, holdingsAfter, dateAfter, outcome, booked}
 use Rattle.daybook.specs.Bookings.{entryAt, InOrder, Moving}
-use Rattle.daybook.specs.declared.Order.{Order, the-variants.MoveTo}
+use Rattle.daybook.specs.declared.Order.{the-variants.MoveTo}
 use Rattle.daybook.proofs.Holdings.{length-holdings, holding-at}
 use Rattle.daybook.proofs.Written.{front-same}
 use Rattle.daybook.proofs.Checked.{refused-at, passed-at, from-order}

@@ -1,8 +1,8 @@
 -- What the page demands of an answer and of the book after leaves no choice: one case of it holds of every order to every lent book. Assumes nothing.
 use mathlib.Core.Path.{_≡_, sym, ap, _∙_}
-use mathlib.Core.Bool.{Bool, true, false, not}
+use mathlib.Core.Bool.{Bool, true}
 use mathlib.Core.List.{List}
-use Prim.Native.Nat.{ℕ, zero, _+_, _-_, _≤_, _<_}
+use Prim.Native.Nat.{ℕ, _+_, _-_, _≤_, _<_}
 use native.Mathlib.Omega.{arith}
 use lib.Dec.{leb, ltb}
 use lib.ListN.{length, getD, take}
@@ -16,7 +16,7 @@ use Rattle.holding.proofs.Ranges.{fault-none}
 use Rattle.article.specs.Answer.{Answer, makeAnswer}
 use Rattle.proposal.specs.Submission.{noRow}
 use Rattle.daybook.specs.Book.{valued, totalsOf, Book}
-use Rattle.daybook.specs.Bookings.{Equal, Described, entryAt, accountOn, bookAccount, FirstEqual, NoneEqual, Without, InOrder}
+use Rattle.daybook.specs.Bookings.{Described, entryAt, accountOn, bookAccount, FirstEqual, NoneEqual, Without, InOrder}
 use Rattle.daybook.specs.Bookings.{Executed, DescribedFirst, Booking}
 use Rattle.daybook.specs.declared.Order.{Order, the-variants.Add, the-variants.Take, the-variants.MoveTo}
 use Rattle.daybook.proofs.Descriptions.{valued-equal, value-of}

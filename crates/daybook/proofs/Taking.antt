@@ -19,7 +19,7 @@ use Rattle.proposal.proofs.Places.{none-at, first-at}
 use Rattle.daybook.specs.Book.{heldIn, accountAt, Book, holdingsIn}
 use Rattle.daybook.specs.Orders.{descriptionFaults, takingFaults, orderFaults, holdingsAfter, dateAfter, outcome, booked}
 use Rattle.daybook.specs.Bookings.{Equal, Described, FirstEqual, NoneEqual, bookAccount, entryAt, InOrder, Without, Taking}
-use Rattle.daybook.specs.declared.Order.{Order, the-variants.Take}
+use Rattle.daybook.specs.declared.Order.{the-variants.Take}
 use Rattle.daybook.proofs.Trades.{taken-part, taken-whole}
 use Rattle.daybook.proofs.Holdings.{length-holdings, value-at, first-holding, held-at, nothing-held}
 use Rattle.daybook.proofs.Written.{front-set, length-fewer, fewer-long, fewer-before, fewer-moved, fewer-kept}
