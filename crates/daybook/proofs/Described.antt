@@ -6,7 +6,7 @@ use Prim.Native.Nat.{ℕ}
 use native.Mathlib.Omega.{arith}
 use Rattle.lists.specs.Choice.{firstOf}
 use Rattle.lists.proofs.Tests.{true-within, same-or-not}
-use Rattle.lists.proofs.Firsts.{None, found-first}
+use Rattle.lists.proofs.Firsts.{None, Listed, found-first}
 use Rattle.holding.specs.Holding.{identityFaults, termFaults, worthFaults, moneyFaults, rowFaults, faultOf, Worth, Ranges}
 use Rattle.holding.specs.declared.{Account.Account, Row.Row}
 use Rattle.holding.proofs.Ranges.{none-of-row, fault-none, none-fault}
@@ -14,6 +14,11 @@ use Rattle.daybook.specs.Book.{valued, headOf, accountAt, Book}
 use Rattle.daybook.specs.Orders.{descriptionFaults}
 use Rattle.daybook.specs.Bookings.{Equal, Described, bookAccount}
 use Rattle.daybook.proofs.Descriptions.{valued-equal}
+
+-- the refusals of a description have numbers, from 1
+pub description-listed : (a : Account) (t : Row) → Listed (descriptionFaults a t)
+unfolding descriptionFaults identityFaults termFaults moneyFaults
+description-listed a t = (omega arith, (omega arith, (omega arith, (omega arith, (omega arith, (omega arith, (omega arith, tt)))))))
 
 module _ (a : Account) (t : Row) where
   -- the first fault of the description is that of the holding

@@ -38,7 +38,7 @@ module _ (r t : Row) where
   not-alike n = either-way (alike r t) (λ e. absurd (n (alike-equal e))) (λ e. e)
 
   pub one-description : OneDescription r t
-  one-description = record { description = (from-description, to-description); test = (alike-equal, equal-alike) }
+  one-description = record { description = (from-description, to-description); found = (alike-equal, equal-alike) }
 
   -- the row of a description and a value
   pub valued-row : (s : Row) → Equal s t → Equal r t → (v : ℕ) → r .value ≡ v → valued s v ≡ r

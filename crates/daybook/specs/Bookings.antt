@@ -184,7 +184,7 @@ pub record BookNames (b : Book) (t : Row) : Type 0 where
 -- two rows have one description, and are found alike, exactly when they are equal in the six
 pub record OneDescription (r t : Row) : Type 0 where
   pub description : (descriptionOf r ≡ descriptionOf t) ↔ Equal r t
-  pub test : (alike r t ≡ true) ↔ Equal r t
+  pub found : (alike r t ≡ true) ↔ Equal r t
 
 -- the paper's numbers of a finding: 0 and the new count, or the refusal's number and its place
 pub record FindingAnswers (m n : ℕ) : Type 0 where
