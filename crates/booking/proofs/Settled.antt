@@ -20,7 +20,7 @@ use Rattle.daybook.specs.Book.{valued, placeIn, heldIn, added, taken, marginOf,
 use Rattle.daybook.specs.Orders.{answerOf, descriptionFaults, sumFaults, joins, joinFaults, takingFaults, orderFaults, holdingsAfter, dateAfter, stored, dayAfter, acceptedAnswer}
 use Rattle.daybook.specs.declared.{Day.Day, Reply.Reply}
 use Rattle.daybook.specs.declared.Order.{Order, the-variants.Add, the-variants.Take, the-variants.MoveTo}
-use Rattle.daybook.proofs.{InOrder.description-listed, Trades.First, Trades.held-first, Trades.added-first, Trades.Nowhere, Trades.held-none, Trades.added-none, Trades.taken-part, Trades.taken-whole}
+use Rattle.daybook.proofs.{Described.description-listed, Trades.First, Trades.held-first, Trades.added-first, Trades.Nowhere, Trades.held-none, Trades.added-none, Trades.taken-part, Trades.taken-whole}
 use Rattle.daybook.proofs.Written.{front-set, front-joined}
 use Rattle.booking.specs.Seeing.{tradeOf, Counted, movedUp, changed, Fits}
 use Rattle.booking.specs.Settling.{noChange, refusalOf, acceptanceOf, addingFaults, settlement, Settles, Held, Traded, Rated}
