@@ -1,0 +1,4 @@
+pub mod Tested
+pub mod Rows
+pub mod Seen
+pub mod Opened

@@ -1,0 +1,81 @@
+-- THE PAGE OF THE EXPORTED BOOKINGS. Document 02 f), "The book is the caller's list of holding records, changed in place": a record is 56 bytes, seven numbers. Assumes nothing.
+use mathlib.Core.{Path._≡_, Bool.Bool, Bool.cond, Bool._||_, List.List, List.[], List._∷_, List._++_}
+use Prim.Native.Nat.{ℕ, _+_, _*_, _/_}
+use lib.{Dec.ltb, ListN.length, ListN.take}
+use Rattle.lists.specs.Tables.{listTo, front}
+use Rattle.holding.specs.Holding.{numbersOf, rowBy}
+use Rattle.holding.specs.declared.{Head.Head, Row.Row}
+use Rattle.words.specs.Words.{wordAt, decode, encode}
+use Rattle.lent.specs.Boundary.{Answers}
+use Rattle.daybook.specs.Book.{Book, makeBook, holdingsIn}
+use Rattle.daybook.specs.Orders.{holdingsAfter, dateAfter, dayAfter, outcome, accepted, booked}
+use Rattle.daybook.specs.declared.Day.{Day}
+use Rattle.daybook.specs.declared.Order.{Order}
+
+-- as many records as there are whole 56 bytes
+unfoldable pub recordsIn : List ℕ → ℕ
+recordsIn bytes = length bytes / 56
+
+-- the numbers of record k, in the order of the columns, and its row
+unfoldable pub numbersAt : List ℕ → ℕ → List ℕ
+numbersAt bytes k = listTo 7 (λ j. wordAt bytes (7 * k + j))
+
+unfoldable pub rowAt : List ℕ → ℕ → Row
+rowAt bytes k = rowBy (numbersAt bytes k)
+
+-- the rows of a list of records
+unfoldable pub rowsIn : List ℕ → List Row
+rowsIn bytes = listTo (recordsIn bytes) (rowAt bytes)
+
+-- and the bytes of rows
+unfoldable pub encodeRows : List Row → List ℕ
+encodeRows [] = []
+encodeRows (r ∷ rs) = encode (numbersOf r) ++ encodeRows rs
+
+-- the totals: the first five numbers of their list
+unfoldable pub totalsIn : List ℕ → List ℕ
+totalsIn bytes = take 5 (decode bytes)
+
+-- what is stored with a book, and the book, as they are lent
+unfoldable pub dayIn : ℕ → List ℕ → Head → Day
+dayIn count totals h = record { date = h .date; letter = h .letter; count = count; totals = totalsIn totals }
+
+unfoldable pub lentBook : ℕ → List ℕ → Head → List ℕ → Book
+lentBook count totals h list = makeBook (dayIn count totals h) (rowsIn list)
+
+-- 2 holds of another list: fewer than 40 bytes of totals, or an answer slice of fewer than 16
+unfoldable pub tooShort : ℕ → ℕ → Bool
+tooShort totals answer = ltb totals 40 || ltb answer 16
+
+-- the lists that are lent, as bytes
+pub record Slices : Type 0 where
+  pub list : List ℕ
+  pub totals : List ℕ
+  pub answer : List ℕ
+
+abbrev pub makeSlices : List ℕ → List ℕ → List ℕ → Slices
+makeSlices list totals answer = record { list = list; totals = totals; answer = answer }
+
+-- the head of the book after an order: only a move changes its date
+unfoldable pub headAfter : Order → Head → Head
+headAfter o h = record { date = dateAfter o (h .date); letter = h .letter }
+
+-- what an exported booking promises of an order to what is lent, before and after, and of the number that it returns
+module _ (o : Order) (count : ℕ) (h : Head) (before after : Slices) (r : ℕ) where
+  abbrev pub bookOf : Book
+  bookOf = lentBook count (before .totals) h (before .list)
+
+  abbrev pub shortOf : Bool
+  shortOf = tooShort (length (before .totals)) (length (before .answer))
+
+  pub record Books : Type 0 where
+    -- the refusal number, 0 for accepted, is returned; the new count and 0, or the place and 0, stand in the answer slice
+    pub returned : Answers (outcome shortOf bookOf o) (before .answer) (after .answer) r
+    -- the records after an accepted order stand first in the list; bytes past them keep what they held
+    pub list : after .list ≡ cond (accepted shortOf bookOf o) (front (encodeRows (holdingsAfter o (holdingsIn bookOf))) (before .list)) (before .list)
+    -- the totals after it stand first in theirs
+    pub totals : after .totals ≡ cond (accepted shortOf bookOf o) (front (encode (dayAfter (bookOf .day) (holdingsIn bookOf) o .totals)) (before .totals)) (before .totals)
+    -- the book that is then lent, with the count that was answered, is the one that the order leaves
+    pub next : r ≡ 0 → lentBook (wordAt (after .answer) 0) (after .totals) (headAfter o h) (after .list) ≡ booked shortOf bookOf o
+    -- a refusal writes to neither
+    pub untouched : (r ≡ 0 → ⊥) → (after .list ≡ before .list) × (after .totals ≡ before .totals)
