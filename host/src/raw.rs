@@ -326,13 +326,13 @@ pub fn margin_leis(text: &[u8], leis: &mut [u8], answer: &mut [u8]) -> u64 {
 ///     rating: 2,
 /// };
 /// let (mut list, mut totals, mut answer) = ([0; 56], [0; 40], [0; 16]);
-/// let mut add = |count, trade| {
-///     raw::margin_add(&mut list, count, &mut totals, 2025_01_01, 0, trade, &mut answer)
+/// let mut add = |count, trade: Row| {
+///     raw::margin_add(&mut list, count, &mut totals, 2025_01_01, 0, &trade, &mut answer)
 /// };
-/// assert_eq!(add(0, &bond), 0);
-/// assert_eq!(add(1, &Row { value: 500, ..bond }), 0);
-/// assert_eq!(add(1, &Row { value: 0, ..bond }), 8);
-/// assert_eq!(add(1, &Row { side: 1, ..bond }), 2);
+/// assert_eq!(add(0, bond), 0);
+/// assert_eq!(add(1, Row { value: 500, ..bond }), 0);
+/// assert_eq!(add(1, Row { value: 0, ..bond }), 8);
+/// assert_eq!(add(1, Row { side: 1, ..bond }), 2);
 /// assert_eq!(list, Row { value: 1_500, ..bond }.to_bytes());
 /// assert_eq!(totals[..8], (4 * 365 * 1_500_u64).to_le_bytes());
 /// ```
