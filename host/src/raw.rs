@@ -313,6 +313,8 @@ pub fn margin_leis(text: &[u8], leis: &mut [u8], answer: &mut [u8]) -> u64 {
 /// joins at the end. Records past the holdings are kept, and a refusal keeps the list and the totals.
 /// An answer slice of 16 bytes or more gets the new count and 0, or the place and 0; a shorter one is kept.
 ///
+/// The call needs less than 16 KiB of stack: the tests make it on a thread of that size, with 256 holdings.
+///
 /// ```
 /// use margin_host::{Row, raw};
 ///

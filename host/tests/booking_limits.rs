@@ -2,11 +2,16 @@
 
 mod support;
 
+use std::thread;
+
 use margin_calculator::samples::{ANY, DOMESTIC, holdings};
 use margin_calculator::{NOT_RATED, Order, Row, VALUED, client, participant};
+use margin_host::raw;
 use support::booking::{ANSWER, LentBook, Orders, TOTALS};
 
 const MOST: u64 = 100_000_000_000;
+/// The bytes of a thread's stack on which all three are called.
+const STACK: usize = 16 * 1_024;
 const BOND: Row = Row {
     side: 0,
     kind: 0,
@@ -349,6 +354,28 @@ fn each_place_of_a_full_book() {
         short.change(place, |row| row.value += 1);
         orders.refused(&short, &Order::Take(all[0]), (27, 0), what);
     }
+}
+
+#[test]
+fn a_small_stack_is_enough() {
+    let all = rows(256);
+    let mut book = LentBook::of(participant(VALUED), &all, 256);
+    let calls = move || {
+        let (list, totals, answer) = (&mut book.list, &mut book.totals, &mut [0; ANSWER]);
+        let trade = Row {
+            value: 1,
+            ..all[255]
+        };
+        [
+            raw::margin_add(list, 256, totals, VALUED, 0, &trade, answer),
+            raw::margin_take(list, 256, totals, VALUED, 0, &trade, answer),
+            raw::margin_take(list, 256, totals, VALUED, 0, &all[0], answer),
+            raw::margin_move(list, 255, totals, VALUED, 0, 2025_01_02, answer),
+        ]
+    };
+    let small = thread::Builder::new().stack_size(STACK);
+    let numbers = small.spawn(calls).expect("a thread").join();
+    assert_eq!(numbers.expect("numbers"), [0; 4]);
 }
 
 #[test]

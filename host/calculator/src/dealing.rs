@@ -1,7 +1,7 @@
 //! Orders made from a seed, for the tests and for the histories that the program `bookings` is given.
 
 use crate::samples::{Random, Shape, holdings};
-use crate::{Ledger, Order, Row, calendar};
+use crate::{Ledger, NOT_RATED, Order, Row, calendar};
 
 const HIGHEST_VALUE: u64 = 100_000_000_000;
 /// Up to this valuation date every maturity of a shape is a date.
@@ -32,7 +32,10 @@ pub struct Dealer {
 impl Dealer {
     /// Draws what is dealt in first, on the book's date.
     pub fn new(random: &mut Random, style: Style, ledger: &Ledger) -> Dealer {
-        let dealt = holdings(random, &style.shape, ledger.head().date, style.different);
+        let mut dealt = holdings(random, &style.shape, ledger.head().date, style.different);
+        for at in (1..dealt.len()).step_by(2) {
+            dealt[at] = nearly(random, dealt[at - 1], dealt[at]);
+        }
         Dealer { style, dealt }
     }
 
@@ -77,7 +80,12 @@ impl Dealer {
             return self.trade(random);
         }
         let place = random.place(self.dealt.len());
-        self.dealt[place] = holdings(random, &self.style.shape, date, 1)[0];
+        let drawn = holdings(random, &self.style.shape, date, 1)[0];
+        let known = random.pick(&self.dealt);
+        self.dealt[place] = match random.below(2) {
+            0 => drawn,
+            _ => nearly(random, known, drawn),
+        };
         self.dealt[place]
     }
 
@@ -95,6 +103,37 @@ impl Dealer {
             value: 1 + random.below(row.value),
             ..row
         }
+    }
+}
+
+/// A row that differs from one in a single part of its description, which another may give.
+fn nearly(random: &mut Random, row: Row, other: Row) -> Row {
+    let fits = (row.rating == NOT_RATED) == (other.rating == NOT_RATED);
+    match random.below(6) {
+        0 => Row {
+            side: 1 - row.side,
+            ..row
+        },
+        1 => Row {
+            kind: (row.kind + random.within(&[(1, 2)])) % 3,
+            ..row
+        },
+        2 => Row {
+            currency: (row.currency + random.within(&[(1, 2)])) % 3,
+            ..row
+        },
+        3 if row.rating != NOT_RATED => Row {
+            rating: 1 - row.rating,
+            ..row
+        },
+        4 if fits => Row {
+            issuer: other.issuer,
+            ..row
+        },
+        _ => Row {
+            maturity: other.maturity,
+            ..row
+        },
     }
 }
 
