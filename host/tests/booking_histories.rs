@@ -2,8 +2,11 @@
 
 mod support;
 
+use std::fs;
+use std::path::Path;
+
 use margin_calculator::dealing::{Dealer, Style, fault_of_numbers};
-use margin_calculator::histories::{Desk, PLACES, Step, all};
+use margin_calculator::histories::{Desk, PLACES, Step, all, stdin, stdout};
 use margin_calculator::samples::{
     ANY, CORPORATE, DOMESTIC, GOVERNMENTS, PERIODS, SHAPES, Shape, valuation_date,
 };
@@ -178,6 +181,20 @@ fn the_histories_of_the_program() {
     }
     let count: usize = orders.seen.iter().sum();
     assert!((1_500..3_000).contains(&count), "{count} orders");
+}
+
+#[test]
+fn the_files_are_those_of_the_histories() {
+    let folder = Path::new(env!("CARGO_MANIFEST_DIR")).join("../crates/bookings");
+    for (name, bytes) in [("stdin", stdin(&all())), ("stdout", stdout(&all()))] {
+        let path = folder.join(name);
+        let kept = fs::read(&path).expect("the file is there");
+        assert!(
+            kept == bytes,
+            "{} is old: write it with `cargo run --release --bin bookings -- {name}`",
+            path.display()
+        );
+    }
 }
 
 #[test]
