@@ -7,7 +7,7 @@ use crate::{
 };
 
 /// How many numbers corporations can have, from [`Issuer::FIRST_CORPORATION`] on.
-const CORPORATIONS: u64 = 256;
+const CORPORATIONS: usize = 256;
 /// No date: a book without fault refuses to be moved to it, with 24.
 const NO_DATE: u64 = 0;
 
@@ -321,13 +321,10 @@ impl DayBook {
             // holding does not have makes a trade that is judged as this one is, and that equals no holding either.
             None => {
                 let issuer = Issuer::FIRST_CORPORATION;
-                let held = self.list.iter().map(|numbers| Row::from_numbers(*numbers));
-                let side = held
-                    .filter(|row| row.issuer == issuer)
-                    .map(|row| 1 - row.side)
-                    .next();
+                let mut held = self.list.iter().map(|numbers| Row::from_numbers(*numbers));
+                let first = held.find(|row| row.issuer == issuer);
                 Row {
-                    side: side.unwrap_or_default(),
+                    side: first.map_or(0, |row| 1 - row.side),
                     ..row(trade, issuer)
                 }
             }
@@ -345,7 +342,7 @@ impl DayBook {
             .iter()
             .map(|numbers| Row::from_numbers(*numbers).issuer)
             .collect();
-        let place = (0..CORPORATIONS as usize).find(|place| !held.contains(&number(*place)))?;
+        let place = (0..CORPORATIONS).find(|place| !held.contains(&number(*place)))?;
         match self.corporations.get_mut(place) {
             Some(former) => *former = lei,
             None => self.corporations.push(lei),

@@ -5,8 +5,8 @@
 //! byte, [`margin_read`] the same of the file's reader, [`margin_leis`] of what gives the LEIs of a file, and
 //! [`margin_add`], [`margin_take`] and [`margin_move`] of the bookings. A [`Ledger`] says what a history of bookings comes
 //! to. [`print()`] says what the program prints for a file. [`optimise`] finds the pairing with the largest saving, and
-//! prices that show it. [`calendar`] counts days, [`samples`] makes books from seeds and [`dealing`] orders, [`texts`] writes files, and
-//! [`cases`] and [`histories`] have what the programs `cases` and `bookings` are given.
+//! prices that show it. [`calendar`] counts days, [`samples`] makes books from seeds and [`dealing`] orders, [`texts`]
+//! writes files, and [`cases`] and [`histories`] have what the programs `cases` and `bookings` are given.
 
 #![deny(missing_docs)]
 

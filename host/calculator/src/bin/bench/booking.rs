@@ -52,7 +52,7 @@ pub fn run() {
         "{:>8}  {:<13} {:<33} {:>6}  {:>12}  {:>12}  {:>14}",
         "holdings", "book", "orders", "number", "booking", "plain", "booking/plain"
     );
-    for size in [1, 16, 64, 256] {
+    for size in [1, 16, 256] {
         for (name, shape) in [("any issuer", ANY), ("first period", FIRST_PERIOD)] {
             print_lines(name, &shape, size);
         }
