@@ -6,10 +6,11 @@ use Prim.Native.Nat.{ℕ, _+_, _-_, _≤_, _<_}
 use native.Mathlib.Omega.{arith}
 use lib.Dec.{eqb, leb}
 use lib.ListN.{length, getD}
-use borrow.Author.Tests.{lt-leb, le-leb}
+use borrow.Author.Tests.{lt-leb, le-leb, leb-false, not-false}
 use Rattle.lists.specs.Choice.{same, firstOf, within}
 use Rattle.lists.specs.Tables.{listTo}
-use Rattle.lists.proofs.Tests.{true-within, none-out, above-out}
+use Rattle.lists.proofs.Firsts.{None, Listed, none-first}
+use Rattle.lists.proofs.Tests.{within-true, true-within, none-out, above-out, neither}
 use Rattle.lists.proofs.Tables.{to-back}
 use Rattle.holding.specs.declared.Row.{Row}
 use Rattle.daybook.specs.Book.{descriptionOf, alike}
@@ -86,3 +87,33 @@ module _ (held value : ℕ) (joins : Bool) (count room : ℕ) where
       pub adds-place : joins ≡ true → count < 256 → count < room → 0 ≡ number
       unfolding addingFaults sumFaults firstOf
       adds-place e h k = rw (true-within 1 100000000000 value low high, within-sum, e, lt-leb 256 count h, lt-leb room count k)
+
+  pub adds-listed : Listed (addingFaults held value joins count room)
+  unfolding addingFaults sumFaults
+  adds-listed = (omega arith, (omega arith, (omega arith, tt)))
+
+  -- and what is known where nothing does
+  module _ (e : number ≡ 0) where
+    unrefused : None (addingFaults held value joins count room)
+    unrefused = none-first (λ (n : ℕ). n) (addingFaults held value joins count room) 0 adds-listed e .0
+
+    both-within : (within 1 100000000000 value ≡ true) × (within 1 100000000000 (held + value) ≡ true)
+    unfolding addingFaults sumFaults
+    both-within =
+        let (a, b) = neither _ _ (unrefused .0) in
+        (not-false _ a, not-false _ b)
+
+    pub adds-value : value ≤ 100000000000
+    adds-value = within-true 1 100000000000 value (both-within .0) .1
+
+    pub adds-sum : held + value ≤ 100000000000
+    adds-sum = within-true 1 100000000000 (held + value) (both-within .1) .1
+
+    module _ (j : joins ≡ true) where
+      pub adds-few : count < 256
+      unfolding addingFaults sumFaults
+      adds-few = leb-false 256 count (rw j at (unrefused .1 .0))
+
+      pub adds-room : count < room
+      unfolding addingFaults sumFaults
+      adds-room = leb-false room count (rw j at (unrefused .1 .1 .0))

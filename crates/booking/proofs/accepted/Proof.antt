@@ -1,11 +1,9 @@
 -- `accepted` is `acceptanceOf`. Assumes nothing.
 use borrow.Author.Needs.{needs}
-use Rattle.booking.specs.Settling.{acceptanceOf}
 use Rattle.booking.proofs.accepted.Statement.{statement}
 use Rattle.booking.proofs.accepted.Tie as tie
 
 returns : tie.Need-returns
-unfolding acceptanceOf
 returns c = search needs
 
 pub accepted-spec : {M : Type 1} → statement M

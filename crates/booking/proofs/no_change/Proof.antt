@@ -1,11 +1,9 @@
 -- `no_change` is `noChange`. Assumes nothing.
 use borrow.Author.Needs.{needs}
-use Rattle.booking.specs.Settling.{noChange}
 use Rattle.booking.proofs.no_change.Statement.{statement}
 use Rattle.booking.proofs.no_change.Tie as tie
 
 returns : tie.Need-returns
-unfolding noChange
 returns c = search needs
 
 pub no-change-spec : {M : Type 1} → statement M

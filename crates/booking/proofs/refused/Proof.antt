@@ -1,11 +1,9 @@
 -- `refused` is `refusalOf`. Assumes nothing.
 use borrow.Author.Needs.{needs}
-use Rattle.booking.specs.Settling.{refusalOf}
 use Rattle.booking.proofs.refused.Statement.{statement}
 use Rattle.booking.proofs.refused.Tie as tie
 
 returns : tie.Need-returns
-unfolding refusalOf
 returns c = rw (c .no-change .ensures)
 
 pub refused-spec : {M : Type 1} → statement M

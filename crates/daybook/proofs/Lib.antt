@@ -1,0 +1,13 @@
+pub mod Descriptions
+pub mod Trades
+pub mod Holdings
+pub mod Totals
+pub mod Written
+pub mod Checked
+pub mod InOrder
+pub mod Described
+pub mod Executed
+pub mod Adding
+pub mod Taking
+pub mod Moving
+pub mod Bookings
