@@ -70,5 +70,10 @@ module _ {A : Type 0} where
       closes-up room value l =
           ap (λ (ys : List A). set ys room x) moved
           ∙ set-out (front (take k rows ++ drop (suc k) rows) xs) room x
-          (omega (arith, l, length-append (take k rows ++ drop (suc k) rows) (drop (length (take k rows ++ drop (suc k) rows)) xs), length-drop (length (take k rows ++ drop (suc k) rows)) xs,
-          ap (λ (ys : List A). length ys) without ∙ without-long))
+          (omega (
+            arith,
+            l,
+            length-append (take k rows ++ drop (suc k) rows) (drop (length (take k rows ++ drop (suc k) rows)) xs),
+            length-drop (length (take k rows ++ drop (suc k) rows)) xs,
+            ap (λ (ys : List A). length ys) without ∙ without-long,
+          ))

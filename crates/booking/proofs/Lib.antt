@@ -5,3 +5,6 @@ pub mod Opened
 pub mod Found
 pub mod Changed
 pub mod Settled
+pub mod Moved
+pub mod Tradable
+pub mod Concluded

@@ -20,7 +20,7 @@ use Rattle.daybook.specs.Book.{valued, placeIn, heldIn, added, taken, marginOf,
 use Rattle.daybook.specs.Orders.{answerOf, descriptionFaults, sumFaults, joins, joinFaults, takingFaults, orderFaults, holdingsAfter, dateAfter, stored, dayAfter, acceptedAnswer}
 use Rattle.daybook.specs.declared.{Day.Day, Reply.Reply}
 use Rattle.daybook.specs.declared.Order.{Order, the-variants.Add, the-variants.Take, the-variants.MoveTo}
-use Rattle.daybook.proofs.{InOrder.description-listed, Trades.First, Trades.held-first, Trades.added-first, Trades.Nowhere, Trades.held-none, Trades.added-none, Trades.taken-part, Trades.taken-whole}
+use Rattle.daybook.proofs.{Described.description-listed, Trades.First, Trades.held-first, Trades.added-first, Trades.Nowhere, Trades.held-none, Trades.added-none, Trades.taken-part, Trades.taken-whole}
 use Rattle.daybook.proofs.Written.{front-set, front-joined}
 use Rattle.booking.specs.Seeing.{tradeOf, Counted, movedUp, changed, Fits}
 use Rattle.booking.specs.Settling.{noChange, refusalOf, acceptanceOf, addingFaults, settlement, Settles, Held, Traded, Rated}
@@ -36,12 +36,11 @@ module _ {d : Day} {room : ℕ} {rows : List Row} {o : Order} where
       let no : eqb (settlement d room rows o .number) 0 ≡ false = ap (λ (a : Answer). eqb (a .number) 0) e ∙ ne-eqb n 0 other in
       rw s (record { answer = sym e; day = rw no; list = λ xs l _. rw no (unchanged _ xs room l) })
 
-  pub settles-accepted : {d′ : Day} {c : Change} {r : Outcome} → r ≡ acceptanceOf d′ c → None (orderFaults room d rows o) → d′ ≡ dayAfter d rows o
+  pub settles-accepted : {d′ : Day} {c : Change} {r : Outcome} → r ≡ acceptanceOf d′ c → settlement d room rows o ≡ acceptedAnswer rows o → d′ ≡ dayAfter d rows o
       → ((xs : List Row) → length xs ≡ room → take (length rows) xs ≡ rows → changed c (valued (tradeOf o) (c .value)) xs ≡ front (holdingsAfter o rows) xs)
       → Settles d room rows o r
   unfolding acceptedAnswer dayAfter stored settlement
-  settles-accepted {d′} s none e h =
-      let found : settlement d room rows o ≡ acceptedAnswer rows o = first-of-none (orderFaults room d rows o) _ none in
+  settles-accepted {d′} s found e h =
       let yes : eqb (settlement d room rows o .number) 0 ≡ true = ap (λ (a : Answer). eqb (a .number) 0) found in
       rw s (record {
         answer = ap (λ (x : Day). makeAnswer 0 (x .count) 0) e ∙ sym found;
@@ -103,10 +102,11 @@ module _ {d : Day} {room : ℕ} {t : Row} {s : Scan} {rows : List Row} {p rate :
     adding-refused q other =
         settles-refused q other (ap (λ (l : List (Bool × Answer)). firstOf l (acceptedAnswer rows (Add t))) adding-faults ∙ first-at 0 _ n first-number other _)
 
-    pub adding-none : n ≡ 0 → None (orderFaults room d rows (Add t))
+    adding-none : n ≡ 0 → settlement d room rows (Add t) ≡ acceptedAnswer rows (Add t)
+    unfolding settlement
     adding-none z =
-        rw adding-faults (zero-at 0 (descriptionFaults a t ++ addingFaults (s .held) (t .value) (eqb (s .at) (d .count)) (d .count) room)
-        (numbered-append (λ (m : ℕ). m) (descriptionFaults a t) _ (description-listed a t) (adds-listed (s .held) (t .value) (eqb (s .at) (d .count)) (d .count) room)) (sym first-number ∙ z))
+        first-of-none (orderFaults room d rows (Add t)) _ (rw adding-faults (zero-at 0 (descriptionFaults a t ++ addingFaults (s .held) (t .value) (eqb (s .at) (d .count)) (d .count) room)
+        (numbered-append (λ (m : ℕ). m) (descriptionFaults a t) _ (description-listed a t) (adds-listed (s .held) (t .value) (eqb (s .at) (d .count)) (d .count) room)) (sym first-number ∙ z)))
 
   -- where one is equal to the trade
   module _ (there : s .at < d .count) where
@@ -157,7 +157,7 @@ module _ {d : Day} {room : ℕ} {t : Row} {s : Scan} {rows : List Row} {p rate :
         let whole : s .at + 1 + rest ≡ d .count = omega arith in
         ap (λ (n : ℕ). changed (record { first = s .at + 1; end = n; at = room; value = 0 }) (valued t 0) xs) (sym whole)
         ∙ closes-up (valued t 0) xs rows (s .at) rest (omega (arith, l, whole, traded .held .count, traded .held .within))
-            (sym e ∙ ap (λ (n : ℕ). take n xs) (traded .held .count ∙ sym whole)) room 0 l
+        (sym e ∙ ap (λ (n : ℕ). take n xs) (traded .held .count ∙ sym whole)) room 0 l
 
     added-there : added rows t ≡ set rows (s .at) (valued t (s .held + t .value))
     unfolding valued
@@ -167,7 +167,7 @@ module _ {d : Day} {room : ℕ} {t : Row} {s : Scan} {rows : List Row} {p rate :
     pub adding-there : {n total : ℕ} {r : Outcome} → n ≡ firstOf (addingFaults (s .held) (t .value) (eqb (s .at) (d .count)) (d .count) room) 0 → n ≡ 0 → p < 5
         → total ≡ getD (d .totals) p 0 + rate * t .value
         → r ≡ acceptanceOf (record { date = d .date; letter = d .letter; count = d .count; totals = set (d .totals) p total })
-            (record { first = 1; end = 0; at = s .at; value = s .held + t .value })
+        (record { first = 1; end = 0; at = s .at; value = s .held + t .value })
         → Settles d room rows (Add t) r
     unfolding dayAfter dateAfter holdingsAfter headOf tradeOf
     adding-there {n} {total} e z q h g =
@@ -199,7 +199,7 @@ module _ {d : Day} {room : ℕ} {t : Row} {s : Scan} {rows : List Row} {p rate :
     pub adding-joined : {n total : ℕ} {r : Outcome} → n ≡ firstOf (addingFaults (s .held) (t .value) (eqb (s .at) (d .count)) (d .count) room) 0 → n ≡ 0 → p < 5
         → total ≡ getD (d .totals) p 0 + rate * t .value
         → r ≡ acceptanceOf (record { date = d .date; letter = d .letter; count = d .count + 1; totals = set (d .totals) p total })
-            (record { first = 1; end = 0; at = s .at; value = s .held + t .value })
+        (record { first = 1; end = 0; at = s .at; value = s .held + t .value })
         → Settles d room rows (Add t) r
     unfolding dayAfter dateAfter holdingsAfter headOf tradeOf stored accountAt
     adding-joined {n} {total} e z q h g =
@@ -236,17 +236,17 @@ module _ {d : Day} {room : ℕ} {t : Row} {s : Scan} {rows : List Row} {p rate :
 
   -- where it is 1 cent or more, and no more than is held
   module _ (low : 1 ≤ t .value) (high : t .value ≤ s .held) where
-    taking-none : None (orderFaults room d rows (Take t))
-    unfolding takingFaults
+    taking-none : settlement d room rows (Take t) ≡ acceptedAnswer rows (Take t)
+    unfolding settlement takingFaults
     taking-none =
-        rw taking-faults
+        first-of-none (orderFaults room d rows (Take t)) _ (rw taking-faults
         (none-at 0 (descriptionFaults a t ++ takingFaults (s .held) (t .value))
         (none-append (descriptionFaults a t) _ described-none
-        ((ap (λ (b : Bool). b || ltb (s .held) (t .value)) (ne-eqb (t .value) 0 (λ z. omega arith)) ∙ le-ltb (s .held) (t .value) high), tt)))
+        ((ap (λ (b : Bool). b || ltb (s .held) (t .value)) (ne-eqb (t .value) 0 (λ z. omega arith)) ∙ le-ltb (s .held) (t .value) high), tt))))
 
     pub taking-there : (total : ℕ) {r : Outcome} → s .at < d .count → t .value < s .held → p < 5 → total + rate * t .value ≡ getD (d .totals) p 0
         → r ≡ acceptanceOf (record { date = d .date; letter = d .letter; count = d .count; totals = set (d .totals) p total })
-            (record { first = 1; end = 0; at = s .at; value = s .held - t .value })
+        (record { first = 1; end = 0; at = s .at; value = s .held - t .value })
         → Settles d room rows (Take t) r
     unfolding dayAfter dateAfter holdingsAfter headOf tradeOf
     taking-there total there less q h g =
@@ -259,7 +259,7 @@ module _ {d : Day} {room : ℕ} {t : Row} {s : Scan} {rows : List Row} {p rate :
     -- the holding leaves, and later ones move up
     pub taking-whole : (total : ℕ) {r : Outcome} → s .at < d .count → t .value ≡ s .held → p < 5 → total + rate * t .value ≡ getD (d .totals) p 0
         → r ≡ acceptanceOf (record { date = d .date; letter = d .letter; count = d .count - 1; totals = set (d .totals) p total })
-            (record { first = s .at + 1; end = d .count; at = room; value = 0 })
+        (record { first = s .at + 1; end = d .count; at = room; value = 0 })
         → Settles d room rows (Take t) r
     unfolding dayAfter dateAfter holdingsAfter headOf tradeOf stored accountAt
     taking-whole total there whole q h g =
@@ -273,7 +273,7 @@ module _ {d : Day} {room : ℕ} {t : Row} {s : Scan} {rows : List Row} {p rate :
           totals =
               (ap (λ (l : List ℕ). set l p total) totals-there
               ∙ totals-without a t p rate (rated .place) (rated .units) rows (s .at) f total q
-                  (ap (λ (x : ℕ). total + rate * x) (held-is there ∙ sym whole) ∙ h ∙ ap (λ (l : List ℕ). getD l p 0) totals-there)
+              (ap (λ (x : ℕ). total + rate * x) (held-is there ∙ sym whole) ∙ h ∙ ap (λ (l : List ℕ). getD l p 0) totals-there)
               ∙ ap (totalsOf a) (sym is)) i;
         })
         (λ xs l k. moved-up there xs l k ∙ ap (λ (ys : List Row). front ys xs) (sym is))

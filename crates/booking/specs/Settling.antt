@@ -101,6 +101,8 @@ pub record Moves (d : Day) (room to : ℕ) (moved : Scan) (r : Outcome) : Type 0
 pub record Tradable (d : Day) (s : Scan) (a : Account) (t : Row) : Type 0 where
   pub rows : List Row
   pub few : length rows ≤ 256
+  pub count : length rows ≡ d .count
+  pub valued : isDate (a .date) ≡ true
   pub clear : firstFault (rowsFaults a rows) .number ≡ 0
   pub counted : Counted a t rows s
   pub totals : d .totals ≡ s .totals

@@ -12,24 +12,25 @@ use Rattle.lists.proofs.Tests.{zero-out, above-out, true-within}
 use Rattle.lists.proofs.Firsts.{None, none-append, first-append, first-of-none, skip-none, found-first}
 use Rattle.holding.specs.Holding.{valueLimit, faultOf, Worth}
 use Rattle.holding.specs.declared.{Row.Row}
+use Rattle.article.specs.Answer.{makeAnswer}
 use Rattle.proposal.proofs.Places.{none-at, first-at}
 use Rattle.daybook.specs.Book.{placeIn, heldIn, accountAt, Book, holdingsIn}
-use Rattle.daybook.specs.Orders.{descriptionFaults, sumFaults, joins, joinFaults, orderFaults, holdingsAfter, dateAfter}
-use Rattle.daybook.specs.Bookings.{Equal, Described, FirstEqual, NoneEqual, account, entryAt, InOrder, Refuses, Executes, Adding}
-use Rattle.daybook.specs.declared.Order.{Order, the-variants.Add}
+use Rattle.daybook.specs.Orders.{descriptionFaults, sumFaults, joins, joinFaults, orderFaults, holdingsAfter, dateAfter, outcome, booked}
+use Rattle.daybook.specs.Bookings.{Equal, Described, FirstEqual, NoneEqual, bookAccount, entryAt, InOrder, Adding}
+use Rattle.daybook.specs.declared.Order.{the-variants.Add}
 use Rattle.daybook.proofs.Trades.{added-first, added-none}
 use Rattle.daybook.proofs.Holdings.{length-holdings, value-at, first-holding, place-at, held-at, no-holding, no-place, nothing-held}
 use Rattle.daybook.proofs.Written.{front-set, front-joined, length-more}
 use Rattle.daybook.proofs.Checked.{from-order}
 use Rattle.daybook.proofs.Described.{no-description, some-fault, fault-first}
-use Rattle.daybook.proofs.Executed.{executed}
+use Rattle.daybook.proofs.Executed.{Executes, executed}
 
 module _ (short : Bool) (b : Book) (i : InOrder short b) (t : Row) where
   abbrev room : ℕ
   room = length (b .list)
 
   abbrev fit : b .day .count ≤ room
-  fit = i .headed .fits .entries
+  fit = i .head .sizes .entries
 
   abbrev held : ℕ
   held = heldIn (holdingsIn b) t
@@ -44,22 +45,22 @@ module _ (short : Bool) (b : Book) (i : InOrder short b) (t : Row) where
   abbrev join : List (Bool × ℕ)
   join = joinFaults room (holdingsIn b) t
 
-  refused : (n : ℕ) → n ≡ firstOf (description ++ sum ++ join) 0 → (n ≡ 0 → ⊥) → Refuses short b (Add t) n 0
+  refused : (n : ℕ) → n ≡ firstOf (description ++ sum ++ join) 0 → (n ≡ 0 → ⊥) → outcome short b (Add t) ≡ makeAnswer n 0 0
   unfolding orderFaults
   refused n e some = from-order short b (Add t) i ∙ first-at 0 (description ++ sum ++ join) n e some _
 
-  pub add-described : (Described (account b) t → ⊥) → (r : Row) → Equal r t → Worth r → Refuses short b (Add t) (faultOf (account b) r) 0
+  pub add-described : (Described (bookAccount b) t → ⊥) → (r : Row) → Equal r t → Worth r → outcome short b (Add t) ≡ makeAnswer (faultOf (bookAccount b) r) 0 0
   add-described n r e w =
       let some = some-fault b t n r e in
       refused _ (found-first _ (description ++ sum) join (fault-first b t n r e w sum) some) some
 
   -- of a trade that is described
-  module _ (d : Described (account b) t) where
-    refused-next : (n : ℕ) → firstOf sum (firstOf join 0) ≡ n → (n ≡ 0 → ⊥) → Refuses short b (Add t) n 0
+  module _ (d : Described (bookAccount b) t) where
+    refused-next : (n : ℕ) → firstOf sum (firstOf join 0) ≡ n → (n ≡ 0 → ⊥) → outcome short b (Add t) ≡ makeAnswer n 0 0
     refused-next n e some = refused n (sym (first-append (description ++ sum) join 0 ∙ skip-none description sum _ (no-description b t d) ∙ e)) some
 
     -- 8 a value or a sum outside the limits
-    refused-8 : (not (within 1 valueLimit (t .value)) || not (within 1 valueLimit (held + t .value))) ≡ true → Refuses short b (Add t) 8 0
+    refused-8 : (not (within 1 valueLimit (t .value)) || not (within 1 valueLimit (held + t .value))) ≡ true → outcome short b (Add t) ≡ makeAnswer 8 0 0
     unfolding sumFaults firstOf
     refused-8 e = refused-next 8 (rw e) (λ z. omega arith)
 
@@ -81,7 +82,7 @@ module _ (short : Bool) (b : Book) (i : InOrder short b) (t : Row) where
       worth : None sum
       worth = no-sum (w .low) (omega (arith, nothing-held b fit t n, w .high))
 
-      refused-last : (m : ℕ) → firstOf join 0 ≡ m → (m ≡ 0 → ⊥) → Refuses short b (Add t) m 0
+      refused-last : (m : ℕ) → firstOf join 0 ≡ m → (m ≡ 0 → ⊥) → outcome short b (Add t) ≡ makeAnswer m 0 0
       refused-last m e some = refused-next m (first-of-none sum (firstOf join 0) worth ∙ e) some
 
       joined : b .day .count < 256 → b .day .count < room → Executes short b (Add t) (b .day .date) (b .day .count + 1) (_≡ set (b .list) (b .day .count) t)
@@ -110,7 +111,7 @@ module _ (short : Bool) (b : Book) (i : InOrder short b) (t : Row) where
           (b .day .count) (length-set (holdingsIn b) k r ∙ length-holdings b fit)
           (_≡ set (b .list) k r) (unfold holdingsIn in front-set (b .day .count) (b .list) fit k (f .counted) r)
 
-    pub adding : Adding short b t
+    pub adding : Adding b (outcome short b (Add t)) (booked short b (Add t)) t
     unfolding joinFaults firstOf
     adding = record {
       no-value = λ e. refused-8 (rw (zero-out valueLimit (t .value) e));

@@ -1,18 +1,18 @@
 -- A lent book is checked first: the refusal of its first fault, whatever the order; and past it, what the order is given. Assumes nothing.
 use mathlib.Core.Path.{_≡_, refl, sym, ap, _∙_}
 use mathlib.Core.Logic.{_⊎_, inl, inr}
-use mathlib.Core.Bool.{Bool, true, not, _||_, or-true}
+use mathlib.Core.Bool.{Bool, true, false, not, _||_, or-true}
 use mathlib.Core.List.{List, _++_}
 use Prim.Native.Nat.{ℕ, _≤_, _<_}
 use native.Mathlib.Omega.{arith}
 use lib.Dec.{ltb}
 use lib.ListN.{length}
-use borrow.Author.Tests.{lt-ltb, le-ltb, eqb-true, eq-eqb, ne-eqb}
-use Rattle.lists.specs.Choice.{firstOf, same}
+use borrow.Author.Tests.{lt-ltb, le-ltb, ne-eqb}
+use Rattle.lists.specs.Choice.{firstOf}
 use Rattle.lists.proofs.Entries.{eq-same, ne-same}
 use Rattle.lists.proofs.Firsts.{None, first-append, skip-none, first-in-turn, none-in-turn}
+use Rattle.dates.specs.Calendar.{isDate}
 use Rattle.holding.specs.Holding.{headFault, rowFaults, faultOf, Ranges}
-use Rattle.holding.specs.declared.{Row.Row}
 use Rattle.holding.proofs.Heads.{sound-head, unvalued-head, unlettered-head, none-of-head}
 use Rattle.holding.proofs.Ranges.{none-of-row, fault-none, none-fault}
 use Rattle.article.specs.Answer.{Answer, makeAnswer}
@@ -21,14 +21,15 @@ use Rattle.proposal.proofs.Places.{none-at, first-at}
 use Rattle.daybook.specs.Book.{totalsOf, headOf, accountAt, Book, holdingsIn}
 use Rattle.daybook.specs.Orders.{lentFaults, atRow, rowsFaults, totalsFaults}
 use Rattle.daybook.specs.Orders.{orderFaults, fromTotals, fromRows, faults, acceptedAnswer, outcome, accepted, booked}
-use Rattle.daybook.specs.Bookings.{entryAt, account, EachInRange, TotalsRight, Fits, Headed, InOrder, Refuses, Checked}
+use Rattle.daybook.specs.Bookings.{entryAt, bookAccount, EachInRange, TotalsRight, Fits, Headed, InOrder, Checked}
 use Rattle.daybook.specs.declared.Order.{Order}
 use Rattle.daybook.proofs.Holdings.{length-holdings, holding-at}
 use Rattle.daybook.proofs.Totals.{totals-afresh, afresh-totals}
-use Rattle.daybook.proofs.InOrder.{accepted-in-order}
+use Rattle.daybook.proofs.Cases.{lent-cases}
 
 -- refusals at place 0: the first decides, and where none holds what follows does
-pub refused-at : (fs : List (Bool × ℕ)) (rest : List (Bool × Answer)) (z : Answer) (n : ℕ) → firstOf fs 0 ≡ n → 1 ≤ n → firstOf (atPlace 0 fs ++ rest) z ≡ makeAnswer n 0 0
+pub refused-at : (fs : List (Bool × ℕ)) (rest : List (Bool × Answer)) (z : Answer) (n : ℕ) → firstOf fs 0 ≡ n → 1 ≤ n
+    → firstOf (atPlace 0 fs ++ rest) z ≡ makeAnswer n 0 0
 refused-at fs rest z n e some = first-append (atPlace 0 fs) rest z ∙ first-at 0 fs n (sym e) (λ none. omega arith) _
 
 pub passed-at : (fs : List (Bool × ℕ)) (rest : List (Bool × Answer)) (z : Answer) → None fs → firstOf (atPlace 0 fs ++ rest) z ≡ firstOf rest z
@@ -45,7 +46,7 @@ module _ (short : Bool) (b : Book) (o : Order) where
   abbrev lent : List (Bool × ℕ)
   lent = lentFaults short room (b .day)
 
-  refused-lent : (n : ℕ) → firstOf lent 0 ≡ n → 1 ≤ n → Refuses short b o n 0
+  refused-lent : (n : ℕ) → firstOf lent 0 ≡ n → 1 ≤ n → outcome short b o ≡ makeAnswer n 0 0
   unfolding outcome faults
   refused-lent n e some = refused-at lent (fromRows room (b .day) (holdingsIn b) o) last n e some
 
@@ -53,10 +54,30 @@ module _ (short : Bool) (b : Book) (o : Order) where
   unfolding lentFaults headFault firstOf
   fits-head f = rw (le-ltb 256 (b .day .count) (f .holdings), le-ltb room (b .day .count) (f .entries), f .others)
 
+  refused-many : 256 < b .day .count → outcome short b o ≡ makeAnswer 3 0 0
+  unfolding lentFaults firstOf
+  refused-many h = refused-lent 3 (rw (lt-ltb 256 (b .day .count) h)) (omega arith)
+
+  refused-brief : b .day .count ≤ 256 → (room < b .day .count) ⊎ (short ≡ true) → outcome short b o ≡ makeAnswer 2 0 0
+  unfolding lentFaults firstOf
+  refused-brief h s = refused-lent 2 (rw (le-ltb 256 (b .day .count) h, brief s)) (omega arith)
+    where
+      brief : (room < b .day .count) ⊎ (short ≡ true) → (ltb room (b .day .count) || short) ≡ true
+      brief (inl h) = rw (lt-ltb room (b .day .count) h)
+      brief (inr e) = rw e (or-true (ltb room (b .day .count)))
+
+  refused-undated : Fits short b → isDate (b .day .date) ≡ false → outcome short b o ≡ makeAnswer 24 0 0
+  unfolding headOf
+  refused-undated f e = refused-lent 24 (fits-head f ∙ unvalued-head (headOf (b .day)) e) (omega arith)
+
+  refused-unlettered : Fits short b → isDate (b .day .date) ≡ true → 1 < b .day .letter → outcome short b o ≡ makeAnswer 26 0 0
+  unfolding headOf
+  refused-unlettered f e l = refused-lent 26 (fits-head f ∙ unlettered-head (headOf (b .day)) e l) (omega arith)
+
   -- with a date and a letter
   module _ (h : Headed short b) where
     abbrev fit : b .day .count ≤ room
-    fit = h .fits .entries
+    fit = h .sizes .entries
 
     no-fault : headFault (headOf (b .day)) ≡ 0
     unfolding headOf
@@ -66,21 +87,21 @@ module _ (short : Bool) (b : Book) (o : Order) where
     unfolding outcome faults lentFaults
     from-head =
         passed-at lent (fromRows room (b .day) (holdingsIn b) o) last
-        (le-ltb 256 (b .day .count) (h .fits .holdings), (rw (le-ltb room (b .day .count) fit, h .fits .others), none-of-head (headOf (b .day)) no-fault))
+        (le-ltb 256 (b .day .count) (h .sizes .holdings), (rw (le-ltb room (b .day .count) fit, h .sizes .others), none-of-head (headOf (b .day)) no-fault))
 
     -- the first holding outside its ranges
-    none-at-row : (k : ℕ) → k < b .day .count → Ranges (account b) (entryAt b k) → None (atRow (accountAt (b .day)) (holdingsIn b) k)
+    none-at-row : (k : ℕ) → k < b .day .count → Ranges (bookAccount b) (entryAt b k) → None (atRow (accountAt (b .day)) (holdingsIn b) k)
     unfolding atRow accountAt headOf
     none-at-row k q g = rw (holding-at b fit k q) (none-at k _ (none-of-row _ _ (none-fault _ _ g)))
 
-    fault-at-row : (k : ℕ) → k < b .day .count → (Ranges (account b) (entryAt b k) → ⊥) → (w : Answer)
-        → firstOf (atRow (accountAt (b .day)) (holdingsIn b) k) w ≡ makeAnswer (faultOf (account b) (entryAt b k)) k 0
+    fault-at-row : (k : ℕ) → k < b .day .count → (Ranges (bookAccount b) (entryAt b k) → ⊥) → (w : Answer)
+        → firstOf (atRow (accountAt (b .day)) (holdingsIn b) k) w ≡ makeAnswer (faultOf (bookAccount b) (entryAt b k)) k 0
     unfolding atRow accountAt headOf faultOf
     fault-at-row k q n w =
-        rw (holding-at b fit k q) (first-at k (rowFaults (account b) (entryAt b k)) _ refl (λ z. n (fault-none _ _ z)) w)
+        rw (holding-at b fit k q) (first-at k (rowFaults (bookAccount b) (entryAt b k)) _ refl (λ z. n (fault-none _ _ z)) w)
 
-    refused-row : (k : ℕ) → k < b .day .count → ((j : ℕ) → j < k → Ranges (account b) (entryAt b j)) → (Ranges (account b) (entryAt b k) → ⊥)
-        → Refuses short b o (faultOf (account b) (entryAt b k)) k
+    refused-row : (k : ℕ) → k < b .day .count → ((j : ℕ) → j < k → Ranges (bookAccount b) (entryAt b j)) → (Ranges (bookAccount b) (entryAt b k) → ⊥)
+        → outcome short b o ≡ makeAnswer (faultOf (bookAccount b) (entryAt b k)) k 0
     unfolding rowsFaults
     refused-row k q before n =
         from-head ∙ first-append (rowsFaults (accountAt (b .day)) (holdingsIn b)) (fromTotals room (b .day) (holdingsIn b) o) last
@@ -94,37 +115,48 @@ module _ (short : Bool) (b : Book) (o : Order) where
       from-rows =
           from-head
           ∙ skip-none (rowsFaults (accountAt (b .day)) (holdingsIn b)) (fromTotals room (b .day) (holdingsIn b) o) last
-          (none-in-turn (atRow (accountAt (b .day)) (holdingsIn b)) _ (λ k q. let below : k < b .day .count = omega (arith, length-holdings b fit) in none-at-row k below (each k below)))
+          (none-in-turn (atRow (accountAt (b .day)) (holdingsIn b)) _
+          (λ k q. let below : k < b .day .count = omega (arith, length-holdings b fit) in none-at-row k below (each k below)))
 
-      refused-totals : (TotalsRight b → ⊥) → Refuses short b o 27 0
+      refused-totals : (TotalsRight b → ⊥) → outcome short b o ≡ makeAnswer 27 0 0
       unfolding totalsFaults firstOf holdingsIn accountAt headOf
       refused-totals n =
           from-rows
           ∙ refused-at (totalsFaults (b .day) (holdingsIn b)) (orderFaults room (b .day) (holdingsIn b) o) last 27
-          (rw (ne-same (b .day .totals) (totalsOf (account b) (holdingsIn b)) (λ e. n (rw e (totals-afresh _ _))))) (omega arith)
+          (rw (ne-same (b .day .totals) (totalsOf (bookAccount b) (holdingsIn b)) (λ e. n (rw e (totals-afresh _ _))))) (omega arith)
 
   -- a book in order: the order decides
   pub from-order : InOrder short b → outcome short b o ≡ firstOf (orderFaults room (b .day) (holdingsIn b) o) last
   unfolding totalsFaults holdingsIn accountAt headOf
   from-order i =
-      from-rows (i .headed) (i .each-holding)
+      from-rows (i .head) (i .each-holding)
       ∙ passed-at (totalsFaults (b .day) (holdingsIn b)) (orderFaults room (b .day) (holdingsIn b) o) last
-      (ap not (eq-same (b .day .totals) (totalsOf (account b) (holdingsIn b)) (afresh-totals _ _ _ (i .totals))), tt)
+      (ap not (eq-same (b .day .totals) (totalsOf (bookAccount b) (holdingsIn b)) (afresh-totals _ _ _ (i .totals))), tt)
 
-  pub checked : Checked short b o
-  unfolding lentFaults firstOf headOf booked accepted
+  -- an order that is accepted has none of these refusals
+  pub accepted-in-order : outcome short b o .number ≡ 0 → InOrder short b
+  accepted-in-order e =
+      lent-cases short b
+      (λ many. never (refused-many many) (λ z. omega arith))
+      (λ few brief. never (refused-brief few brief) (λ z. omega arith))
+      (λ fits date. never (refused-undated fits date) (λ z. omega arith))
+      (λ fits date letter. never (refused-unlettered fits date letter) (λ z. omega arith))
+      (λ h k q before bad. never (refused-row h k q before bad) (λ z. bad (fault-none _ _ z)))
+      (λ h each off. never (refused-totals h each off) (λ z. omega arith))
+      (λ i. i)
+    where
+      never : {n p : ℕ} → outcome short b o ≡ makeAnswer n p 0 → (n ≡ 0 → ⊥) → InOrder short b
+      never r some = absurd (some (sym (ap (λ (a : Answer). a .number) r) ∙ e))
+
+  pub checked : Checked b (outcome short b o) (booked short b o) short
+  unfolding booked accepted
   checked = record {
-    too-many = λ h. refused-lent 3 (rw (lt-ltb 256 (b .day .count) h)) (omega arith);
-    too-short = λ h s. refused-lent 2 (rw (le-ltb 256 (b .day .count) h, a-brief s)) (omega arith);
-    undated = λ f e. refused-lent 24 (fits-head f ∙ unvalued-head (headOf (b .day)) e) (omega arith);
-    unlettered = λ f e l. refused-lent 26 (fits-head f ∙ unlettered-head (headOf (b .day)) e l) (omega arith);
+    too-many = refused-many;
+    too-short = refused-brief;
+    undated = refused-undated;
+    unlettered = refused-unlettered;
     bad-record = refused-row;
     totals-off = refused-totals;
-    in-order = accepted-in-order short b o;
+    in-order = accepted-in-order;
     unchanged = λ n. rw (ne-eqb (outcome short b o .number) 0 n);
-    is-accepted = (eqb-true (outcome short b o .number) 0, eq-eqb (outcome short b o .number) 0);
   }
-    where
-      a-brief : (room < b .day .count) ⊎ (short ≡ true) → (ltb room (b .day .count) || short) ≡ true
-      a-brief (inl h) = rw (lt-ltb room (b .day .count) h)
-      a-brief (inr e) = rw e (or-true (ltb room (b .day .count)))

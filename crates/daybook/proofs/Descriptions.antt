@@ -1,5 +1,5 @@
 -- Rows are equal exactly when they have one description; and a row is its description and its value. Assumes nothing.
-use mathlib.Core.Path.{_≡_, sym, ap, _∙_}
+use mathlib.Core.Path.{_≡_, refl, sym, ap, _∙_}
 use mathlib.Core.Bool.{true, false}
 use mathlib.Core.List.{List}
 use Prim.Native.Nat.{ℕ}
@@ -30,7 +30,7 @@ module _ (r t : Row) where
   unfolding alike
   equal-alike e = eq-same (descriptionOf r) (descriptionOf t) (to-description e)
 
-  alike-equal : alike r t ≡ true → Equal r t
+  pub alike-equal : alike r t ≡ true → Equal r t
   unfolding alike
   alike-equal e = from-description (same-true (descriptionOf r) (descriptionOf t) e)
 
@@ -52,3 +52,12 @@ module _ (r t : Row) where
     currency = (f .currency ∙ sym (e .currency)) i;
     rating = (f .rating ∙ sym (e .rating)) i;
   }
+
+-- a row with another value is equal to it
+pub valued-equal : (t : Row) (v : ℕ) → Equal (valued t v) t
+unfolding valued
+valued-equal t v = record { side = refl; kind = refl; issuer = refl; maturity = refl; currency = refl; rating = refl }
+
+pub value-of : (t : Row) (v : ℕ) → valued t v .value ≡ v
+unfolding valued
+value-of t v = refl

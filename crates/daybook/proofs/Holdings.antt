@@ -27,7 +27,7 @@ module _ (b : Book) (h : b .day .count ≤ length (b .list)) where
       let q : k < b .day .count = f .counted in
       record {
         counted = omega (arith, length-holdings);
-        equal = rw (holding-at k q) (f .equal);
+        equal = rw (holding-at k q) (f .matches);
         first = λ j i e. f .first j i (rw (holding-at j (omega arith)) at e);
       }
 

@@ -3,9 +3,8 @@ use mathlib.Core.Path.{_≡_, refl, sym, _∙_}
 use mathlib.Core.List.{List, [], _∷_}
 use Prim.Native.Nat.{ℕ, suc, _+_, _<_}
 use native.Mathlib.Omega.{arith}
-use lib.ListN.{getD}
 use lib.Seq.{ext-getD}
-use Rattle.lists.specs.Tables.{sumOf, only}
+use Rattle.lists.specs.Tables.{sumOf}
 use Rattle.lists.proofs.Tests.{same-or-not}
 use Rattle.lists.proofs.Tables.{length-to, getD-to}
 use Rattle.lists.proofs.Sums.{only-same, only-other}

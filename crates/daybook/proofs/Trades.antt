@@ -80,3 +80,8 @@ module _ (t : Row) where
   unfolding added
   added-none [] n = refl
   added-none (r ∷ rs) n = rw (not-alike r t (n 0 (omega arith))) (ap (r ∷_) (added-none rs (nowhere-else r rs n)))
+
+  pub taken-none : (rows : List Row) → Nowhere rows → taken rows t ≡ rows
+  unfolding taken
+  taken-none [] n = refl
+  taken-none (r ∷ rs) n = rw (not-alike r t (n 0 (omega arith))) (ap (r ∷_) (taken-none rs (nowhere-else r rs n)))

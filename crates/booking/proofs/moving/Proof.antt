@@ -1,64 +1,62 @@
+-- `moving`: to no date, not later, past a maturity, or on. Assumes nothing.
+use mathlib.Core.Path.{_≡_, sym, _∙_}
+use mathlib.Core.Bool.{true}
+use native.Mathlib.Omega.{arith}
 use borrow.Author.Needs.{needs}
+use borrow.Author.Tests.{not-true, not-false}
+use Rattle.dates.specs.Calendar.{isDate}
+use Rattle.booking.proofs.Settled.{fits-put, refusal-fits}
+use Rattle.booking.proofs.Moved.{moving-unreal, moving-back, moving-matured, moving-on}
 use Rattle.booking.proofs.moving.Statement.{statement}
 use Rattle.booking.proofs.moving.Tie as tie
-use Rattle.booking.proofs.moving.Reads as reads
-use Rattle.booking.proofs.moving.Lts as lts
-use Rattle.booking.proofs.accepted.Reads as accepted-reads
-use Rattle.booking.proofs.no_change.Reads as no-change-reads
-use Rattle.booking.proofs.refused.Reads as refused-reads
-use Rattle.dates.proofs.is_date.Reads as is-date-reads
 
--- src/lib.rt:329:9
-is-date-requires : tie.Need-is-date-requires
-is-date-requires c κs = search needs
-
--- src/lib.rt:330:9
-refused-requires : tie.Need-refused-requires
-refused-requires c κs = search needs
-
--- src/lib.rt:330:9
 returns : tie.Need-returns
-returns c = ?
+returns c = record {
+  fits = refusal-fits (c .refused .ensures);
+  settled = λ rows held seen. moving-unreal held (sym (c .before .before .is-date .ensures) ∙ not-true _ (c .before .if1 .taken)) (c .refused .ensures);
+}
 
--- src/lib.rt:333:9
-refused-requires-2 : tie.Need-refused-requires-2
-refused-requires-2 c κs = search needs
+-- to a date
+module _ (c : tie.Else1) where
+  real : isDate (c .before .before .args .to) ≡ true
+  real = sym (c .before .is-date .ensures) ∙ not-false _ (c .if1 .left)
 
--- src/lib.rt:333:9
 returns-2 : tie.Need-returns-2
-returns-2 c = ?
+returns-2 c = record {
+  fits = refusal-fits (c .refused2 .ensures);
+  settled = λ rows held seen. moving-back held (real (c .before .before .before)) (c .before .if2 .taken) (c .refused2 .ensures);
+}
 
--- src/lib.rt:337:9
-refused-requires-3 : tie.Need-refused-requires-3
-refused-requires-3 c κs = search needs
-
--- src/lib.rt:337:9
 returns-3 : tie.Need-returns-3
-returns-3 c = ?
+returns-3 c =
+    let at = c .before .before in
+    let date = real (at .before .before) in
+    record {
+      fits = refusal-fits (c .refused3 .ensures);
+      settled = λ rows held seen. moving-matured held date (omega (arith, at .if2 .left)) (seen date) (c .before .if3 .taken) (c .refused3 .ensures);
+    }
 
--- src/lib.rt:343:9
-no-change-requires : tie.Need-no-change-requires
-no-change-requires c κs = search needs
-
--- src/lib.rt:344:5
-accepted-requires : tie.Need-accepted-requires
-accepted-requires c κs = search needs
-
--- src/lib.rt:326:1
 returns-4 : tie.Need-returns-4
-returns-4 c = ?
+returns-4 c =
+    let at = c .before .before .before .before in
+    let date = real (at .before .before) in
+    record {
+      fits = rw (c .accepted .ensures, c .before .no-change .ensures) fits-put;
+      settled = λ rows held seen.
+          moving-on held date (omega (arith, at .if2 .left)) (seen date) (c .before .before .before .if3 .left) (c .accepted .ensures ∙ rw (c .before .no-change .ensures));
+    }
 
 pub moving-spec : {M : Type 1} → statement M
 moving-spec =
     tie.close
     (tie.spec
-    is-date-requires
-    refused-requires
+    (λ c κs. search needs)
+    (λ c κs. search needs)
     returns
-    refused-requires-2
+    (λ c κs. search needs)
     returns-2
-    refused-requires-3
+    (λ c κs. search needs)
     returns-3
-    no-change-requires
-    accepted-requires
+    (λ c κs. search needs)
+    (λ c κs. search needs)
     returns-4)

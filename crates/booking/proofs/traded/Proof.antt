@@ -1,75 +1,89 @@
+-- `traded`: a description with a fault, an adding, or a taking. Assumes nothing.
+use mathlib.Core.Path.{_≡_, subst}
+use Prim.Native.Nat.{_-_}
+use native.Mathlib.Omega.{arith}
 use borrow.Author.Needs.{needs}
+use Rattle.lists.proofs.Tests.{by-test}
+use Rattle.holding.specs.declared.Account.{Account}
+use Rattle.daybook.specs.declared.Order.{Order}
+use Rattle.booking.specs.Settling.{tradeOrder, Settles, Rated}
+use Rattle.booking.proofs.Settled.{refusal-fits}
+use Rattle.booking.proofs.Tradable.{adding-undescribed, taking-undescribed, described-rated, raisable, lowerable}
 use Rattle.booking.proofs.traded.Statement.{statement}
 use Rattle.booking.proofs.traded.Tie as tie
-use Rattle.booking.proofs.traded.Reads as reads
-use Rattle.booking.proofs.traded.Lts as lts
-use Rattle.booking.proofs.adding.Reads as adding-reads
-use Rattle.booking.proofs.described.Reads as described-reads
-use Rattle.booking.proofs.refused.Reads as refused-reads
-use Rattle.booking.proofs.taking.Reads as taking-reads
-use Rattle.rates.proofs.period.Reads as period-reads
-use Rattle.rates.proofs.rate.Reads as rate-reads
 
--- src/lib.rt:368:9
-described-requires : tie.Need-described-requires
-described-requires c κs = search needs
-
--- src/lib.rt:370:24
-enum-known-built : tie.Need-enum-known-built
-enum-known-built c = search needs
-
--- src/lib.rt:370:35
-refused-requires : tie.Need-refused-requires
-refused-requires c κs = search needs
-
--- src/lib.rt:370:35
 returns : tie.Need-returns
-returns c = ?
+unfolding tradeOrder
+returns c =
+    let made = c .before .before .before .before in
+    let refused = c .before .before .built .given .1 in
+    let args = made .before .args in
+    record {
+      fits = λ _. refusal-fits (c .refused .ensures);
+      settled = λ w rows traded.
+          by-test (λ (o : Order). Settles (args .day) (args .room) rows o (c .refused .result)) (args .adds)
+          (λ _. adding-undescribed _ (made .described .ensures) refused w (c .refused .ensures))
+          (λ _. taking-undescribed _ (made .described .ensures) refused w (c .refused .ensures));
+    }
 
--- src/lib.rt:371:21
-enum-known-built-2 : tie.Need-enum-known-built-2
-enum-known-built-2 c = search needs
+-- where its rate is known
+module _ (c : tie.After-rate-in) where
+  abbrev made : tie.After-described
+  made = c .before .before .before .before .before
 
--- src/lib.rt:372:17
-period-requires : tie.Need-period-requires
-period-requires c κs = search needs
+  abbrev start : tie.Start
+  start = made .before
 
--- src/lib.rt:373:22
-sub-p : tie.Need-sub-p
-sub-p c = search needs
+  rated : {a : Account} → start .args .account ≡ a → Rated a (start .args .t) (c .before .period .result - 1) (c .rate-in .result)
+  rated w =
+      subst (λ (a : Account). Rated a (start .args .t) (c .before .period .result - 1) (c .rate-in .result)) w
+      (described-rated (start .args .t) (made .described .ensures) (c .before .before .before .built2 .given .1) (c .before .period .ensures .0)
+      (omega (arith, c .before .period .ensures)) (c .rate-in .ensures))
 
--- src/lib.rt:374:17
-rate-requires : tie.Need-rate-requires
-rate-requires c κs = search needs
-
--- src/lib.rt:376:17
 adding-requires : tie.Need-adding-requires
-adding-requires c κs = ?
+adding-requires c κs =
+    let at = c .before in
+    raisable (start at .args .t) (made at .described .ensures) (at .before .before .before .built2 .given .1) (at .before .period .ensures .0)
+    (omega (arith, at .before .period .ensures)) (at .rate-in .ensures) (start at .pre) (omega (arith, at .before .period .ensures))
 
--- src/lib.rt:376:17
-returns-2 : tie.Need-returns-2
-returns-2 c = ?
-
--- src/lib.rt:378:13
 taking-requires : tie.Need-taking-requires
-taking-requires c κs = ?
+taking-requires c κs =
+    let at = c .before in
+    lowerable (start at .args .t) (made at .described .ensures) (at .before .before .before .built2 .given .1) (at .before .period .ensures .0)
+    (omega (arith, at .before .period .ensures)) (at .rate-in .ensures) (start at .pre) (omega (arith, at .before .period .ensures))
 
--- src/lib.rt:378:13
+returns-2 : tie.Need-returns-2
+unfolding tradeOrder
+returns-2 c =
+    let at = c .before .before in
+    record {
+      fits = λ _. c .adding .ensures .fits;
+      settled = λ w rows traded.
+          rw (c .before .if1 .taken) (c .adding .ensures .settled rows traded (rated at w));
+    }
+
 returns-3 : tie.Need-returns-3
-returns-3 c = ?
+unfolding tradeOrder
+returns-3 c =
+    let at = c .before .before in
+    record {
+      fits = c .taking .ensures .fits;
+      settled = λ w rows traded.
+          rw (c .before .if1 .left) (c .taking .ensures .settled rows traded (rated at w));
+    }
 
 pub traded-spec : {M : Type 1} → statement M
 traded-spec =
     tie.close
     (tie.spec
-    described-requires
-    enum-known-built
-    refused-requires
+    (λ c κs. search needs)
+    (λ c. search needs)
+    (λ c κs. search needs)
     returns
-    enum-known-built-2
-    period-requires
-    sub-p
-    rate-requires
+    (λ c. search needs)
+    (λ c κs. search needs)
+    (λ c. search needs)
+    (λ c κs. search needs)
     adding-requires
     returns-2
     taking-requires
