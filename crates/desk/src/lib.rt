@@ -169,11 +169,7 @@ fn conclude(view: View, seen: Scan, moved: Scan) -> Outcome
     let reply = out.reply;
     let change = change_of(view.room, out);
     let put = put_of(order, change.value);
-    Outcome {
-        reply,
-        change,
-        put,
-    }
+    Outcome { reply, change, put }
 }
 
 // An order judged on a list: its holdings are seen once, and for a move once more.
