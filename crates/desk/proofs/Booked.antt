@@ -1,19 +1,20 @@
--- The list after an order, to the last entry. The core promises a book by its rows, and one row may be that of several records; but it promises it of every list that begins with
+-- The list after an order, to the last entry. The core promises a book by its rows, and one row may be that of several records; but it promises it of every
+-- list that begins with
 -- the book's holdings, so also of one whose later rows tell any two records apart. Assumes nothing.
 use mathlib.Core.Path.{_≡_, refl, sym, ap, _∙_}
 use mathlib.Core.Logic.{_⊎_, inl}
 use mathlib.Core.Bool.{Bool, true, false, cond}
 use mathlib.Core.List.{List, [], _∷_, _++_, map, map-append}
-use Prim.Native.Nat.{ℕ, _+_, _-_, _≤_, _<_}
+use Prim.Native.Nat.{ℕ, _≤_, _<_}
 use native.Mathlib.Omega.{arith}
 use lib.Dec.{eqb}
-use lib.ListN.{length, getD, take, drop, length-append, length-map, length-drop, take-append-drop}
+use lib.ListN.{length, take, drop, length-append, length-map, length-drop, take-append-drop}
 use lib.Seq.{take-at, length-take-le, getD-take}
 use borrow.Author.Tests.{eqb-true, eq-eqb}
 use Rattle.lists.specs.Tables.{Each, front}
 use Rattle.lists.proofs.Tests.{by-test, either-way}
 use Rattle.lists.proofs.Entries.{each-map, each-back, at-each}
-use Rattle.holding.specs.Holding.{rowOf, holdingOf, Government, Corporate, Worth, Ranges, faultOf}
+use Rattle.holding.specs.Holding.{rowOf, holdingOf, Government, Corporate, Worth, faultOf}
 use Rattle.holding.specs.declared.{Holding.Holding, Row.Row}
 use Rattle.holding.proofs.Ranges.{side-back, kind-back, issuer-back, currency-back, rating-back}
 use Rattle.article.specs.Answer.{Answer}
@@ -33,7 +34,7 @@ use Rattle.booking.specs.declared.{Change.Change, Outcome.Outcome as Core}
 use Rattle.booking.proofs.Changed.{unchanged}
 use Rattle.desk.specs.declared.Order.{Order, the-variants.Add, the-variants.Take, the-variants.MoveTo}
 use Rattle.desk.specs.declared.Outcome.{Outcome}
-use Rattle.desk.specs.Desk.{orderOf, bookOf, Books, worth, blank, putOf, changeOf, Examines}
+use Rattle.desk.specs.Desk.{orderOf, Books, worth, blank, putOf, changeOf, Examines}
 use Rattle.desk.proofs.Mapped.{map-take, map-front, map-changed}
 use Rattle.desk.proofs.Apart.{apartOf, backOf, backs-apart, back-row, backs-rows, side-low}
 
@@ -98,7 +99,8 @@ backs-kept [] e = refl
 backs-kept (h ∷ hs) e = rw (back-row (rowOf h) (side-low h), kept h (e .0)) (ap (λ (l : List Holding). h ∷ l) (backs-kept hs (e .1)))
 
 module _ (ys : List Holding) (d : Day) (o : Order) (core : Core)
-    (concluded : (list : List Row) → length list ≡ length ys → take (d .count) list ≡ take (d .count) (map rowOf ys) → Concluded false (makeBook d list) (orderOf o) core) where
+    (concluded : (list : List Row) → length list ≡ length ys → take (d .count) list ≡ take (d .count) (map rowOf ys) → Concluded false (makeBook d list)
+    (orderOf o) core) where
   abbrev n : ℕ
   n = d .count
 
@@ -145,7 +147,8 @@ module _ (ys : List Holding) (d : Day) (o : Order) (core : Core)
     told-back : map backOf told ≡ ys
     unfolding told
     told-back =
-        rw (map-append backOf rows (map apartOf (drop n ys)), backs-apart (drop n ys), ← map-take rowOf n ys, backs-kept (take n ys) issuers) (take-append-drop n ys)
+        rw (map-append backOf rows (map apartOf (drop n ys)), backs-apart (drop n ys), ← map-take rowOf n ys, backs-kept (take n ys) issuers)
+        (take-append-drop n ys)
 
     there : Concluded false (makeBook d told) (orderOf o) core
     there = concluded told told-long told-rows
@@ -184,7 +187,8 @@ module _ (ys : List Holding) (d : Day) (o : Order) (core : Core)
   rows-after = map-changed rowOf (core .change) (putOf o (core .change .value)) ys ∙ rw (put-row o (core .change .value)) (here .list)
 
 -- the list that a change left, whatever is promised of the core's
-module _ (ys : List Holding) (d : Day) (o : Order) (r : Outcome) (zs : List Holding) (examines : Examines ys d o r) (e : zs ≡ changed (r .change) (r .put) ys) where
+module _ (ys : List Holding) (d : Day) (o : Order) (r : Outcome) (zs : List Holding) (examines : Examines ys d o r)
+    (e : zs ≡ changed (r .change) (r .put) ys) where
   abbrev ends : Concluded false (makeBook d (map rowOf ys)) (orderOf o) (examines .core)
   ends = here ys d o (examines .core) (examines .concluded)
 
@@ -194,7 +198,8 @@ module _ (ys : List Holding) (d : Day) (o : Order) (r : Outcome) (zs : List Hold
   change-is : (t : Bool) → eqb number-is 0 ≡ t → r .change ≡ cond t (examines .core .change) (noChange (length ys))
   unfolding changeOf
   change-is t s =
-      examines .follows .change ∙ ap (λ (u : Bool). cond u (examines .core .change) (noChange (length ys))) (ap (λ (a : Answer). eqb (a .number) 0) (ends .answer) ∙ s)
+      examines .follows .change ∙ ap (λ (u : Bool). cond u (examines .core .change) (noChange (length ys)))
+      (ap (λ (a : Answer). eqb (a .number) 0) (ends .answer) ∙ s)
 
   list-is : (c : Change) → r .change ≡ c → zs ≡ changed c (putOf o (c .value)) ys
   list-is c s = e ∙ ap (λ (h : Holding). changed (r .change) h ys) (examines .follows .put) ∙ ap (λ (k : Change). changed k (putOf o (k .value)) ys) s

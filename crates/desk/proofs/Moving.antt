@@ -1,9 +1,9 @@
 -- Entries that move up by one place, one at a time. Assumes nothing.
-use mathlib.Core.Path.{_≡_, refl, sym, ap, _∙_}
+use mathlib.Core.Path.{_≡_, sym, ap, _∙_}
 use mathlib.Core.List.{List, [], _∷_, _++_, append-assoc}
 use Prim.Native.Nat.{ℕ, suc, _+_, _-_, _≤_, _<_}
 use native.Mathlib.Omega.{arith}
-use lib.ListN.{length, getD, take, drop, set, length-append, length-drop, length-set}
+use lib.ListN.{length, getD, take, drop, set, length-append, length-drop}
 use lib.Seq.{take-suc, getD-append-add, getD-drop, drop-drop, length-take-le}
 use Rattle.lists.specs.Tables.{front, overwrite}
 use Rattle.lists.proofs.Overwrite.{overwrite-none, overwrite-one, overwrite-overwrite, length-overwrite}

@@ -1,4 +1,5 @@
--- `scan` meets its contract: a walk of its MIR, by hand. In a turn the slice is looked into, an entry is copied, the slice is shut, and `see` is called; all that is known
+-- `scan` meets its contract: a walk of its MIR, by hand. In a turn the slice is looked into, an entry is copied, the slice is shut, and `see` is called; all
+-- that is known
 -- of the callees is that they meet their contracts. Assumes nothing.
 use mathlib.Core.Path.{_≡_, refl, sym, ap, subst}
 use mathlib.Core.Bool.{Bool, true, false}
@@ -25,7 +26,8 @@ use contract.Monad.{Fun, fact}
 use contract.Running.{givenOf, tables, tablesOf}
 use types.Kit.{Given, Item, ‵, raw, _⊛_, ⋆, anyQ, atRet, _$_, _∵_, !, qed, by, move, drop, split, join, rewrite, use1, fsplit, fjoin, suffices, frame, done}
 use types.Part.{whole, sub, look-in}
-use types.Run.{look, look-raw, store, init, forget, stop, hop, fld, from, load, lit, of-opd, bin, and-then, no-more, assigns, assigns-last, land, stays, leaves-loop, Below, again, exec, returns, enter, alloc1, alloc0, params1, pass1, pass0, free1, free0}
+use types.Run.{look, look-raw, store, init, forget, stop, hop, fld, from, load, lit, of-opd, bin, and-then, no-more, assigns, assigns-last, land, stays}
+use types.Run.{leaves-loop, Below, again, exec, returns, enter, alloc1, alloc0, params1, pass1, pass0, free1, free0}
 use types.Share.{arr-parts}
 use sound.WpLaws.{fmOf, WpFn-mono}
 use sound.Loop.{loop-rule}
@@ -52,7 +54,7 @@ use denote.Struct.Laws as LL
 use Rattle.holding.specs.declared.Holding.{Holding}
 use Rattle.holding.proofs.Holding as T
 use Rattle.holding.proofs.Holding.Laws as T′
-use Rattle.booking.specs.Seeing.{Unseen, Countable}
+use Rattle.booking.specs.Seeing.{Unseen}
 use Rattle.booking.specs.declared.Scan.{Scan}
 use Rattle.booking.proofs.Scan as S
 use Rattle.booking.proofs.Scan.Laws as S′
@@ -66,7 +68,7 @@ use Rattle.desk.proofs.Seen.{countable, seen-more}
 use Rattle.desk.proofs.Rows as R
 use Rattle.desk.proofs.Rows.{word, slice}
 use Rattle.desk.proofs.Values.{scan-val, scan-vals, view-val, view-vals}
-use Rattle.desk.proofs.Walks.{holds, free, full, told, upward}
+use Rattle.desk.proofs.Walks.{held, here, holds, free, full, told, upward}
 use Rattle.booking.proofs.unseen as unseen
 use Rattle.booking.proofs.unseen.Symbol as unseen-def
 use Rattle.booking.proofs.unseen.Symbol.{name as #booking·unseen}
@@ -95,7 +97,8 @@ module _ {M : Type 1} (𝓤 : URA M) (H : Heap 𝓤) (A : Atoms 𝓤) (mem : Mem
   unseen-of : (r : Scan) → ent 𝓤 (ensured 𝓤 H A unseen.ended (unseen.clauses 𝓤 H A mem run) tt tt tt r) (fact 𝓤 (Unseen r))
   unseen-of r = exE 𝓤 _ (λ ws. snd∗ 𝓤 (sem 𝓤 H A (lasts unseen.ended tt tt ws)) (fact 𝓤 (Unseen r)))
 
-  see-of : (s : Scan) (i : ℕ) (v : View) (h : Holding) (r : Scan) → ent 𝓤 (ensured 𝓤 H A see.ended (see.clauses 𝓤 H A mem run) tt (s, (i, (v, (h, tt)))) tt r) (fact 𝓤 (Sees v s i h r))
+  see-of : (s : Scan) (i : ℕ) (v : View) (h : Holding) (r : Scan) → ent 𝓤 (ensured 𝓤 H A see.ended (see.clauses 𝓤 H A mem run) tt (s, (i, (v, (h, tt)))) tt r)
+      (fact 𝓤 (Sees v s i h r))
   see-of s i v h r = exE 𝓤 _ (λ ws. snd∗ 𝓤 (sem 𝓤 H A (lasts see.ended tt (s, (i, (v, (h, tt)))) ws)) (fact 𝓤 (Sees v s i h r)))
 
 module _ {M : Type 1} (𝓤 : URA M) (H : Heap 𝓤) (A : Atoms 𝓤) (W : Given 𝓤 H A) (mem : Memory → SProp 𝓤) (run : Routine → Fun 𝓤)
@@ -138,13 +141,16 @@ module _ {M : Type 1} (𝓤 : URA M) (H : Heap 𝓤) (A : Atoms 𝓤) (W : Given
 
   -- the slice, shut
   abbrev Had : List (Item 𝓤) → List (Item 𝓤)
-  Had Γ = ‵ (fshr-bor κ (λ s. arr-parts (shares T.the-row) (length ys) .part s ys b o)) ∷ ‵ (flft κ q) ∷ ‵ (fres γ (codedHoleys T.the-row .code (heres T.the-row ys))) ∷ Γ
+  Had Γ = ‵ (fshr-bor κ (λ s. arr-parts (shares T.the-row) (length ys) .part s ys b o)) ∷ ‵ (flft κ q) ∷ ‵
+      (fres γ (codedHoleys T.the-row .code (heres T.the-row ys))) ∷ Γ
 
   exits : (s : Scan) → Is S.the-row s (scan-vals s) → SeenOf v (take n ys) s → ent 𝓤 (⋆ 𝓤 H A (Had [])) (Post (scan-val s))
   exits s is seen =
       qed W (Had []) ∵
-      suffices ! _ (ends-at 𝓤 H A scan.ended stayed (scan.clauses 𝓤 H A mem run) W (((κ, tt), (q, tt), tt, x, at), tt) (scan-val s) s (tt, (tt, tt)) (tt, (tt, tt))) $ says ! seen $
-      nothing ! $ move ! (2 ∷ 0 ∷ []) $ join ! $ frame ! $ nothing ! $ owned ! Vi.the-row (Is Vi.the-row) (LL.makes Vi.the-type Vi′.the-plain 𝓤 H A) v _ v-is $ fjoin ! $ move ! (2 ∷ 1 ∷ []) $ fjoin ! $
+      suffices ! _ (ends-at 𝓤 H A scan.ended stayed (scan.clauses 𝓤 H A mem run) W (((κ, tt), (q, tt), tt, x, at), tt) (scan-val s) s (tt, (tt, tt))
+      (tt, (tt, tt))) $ says ! seen $
+      nothing ! $ move ! (2 ∷ 0 ∷ []) $ join ! $ frame ! $ nothing ! $ owned ! Vi.the-row (Is Vi.the-row) (LL.makes Vi.the-type Vi′.the-plain 𝓤 H A) v _ v-is $
+      fjoin ! $ move ! (2 ∷ 1 ∷ []) $ fjoin ! $
       pureI ! (at-slice T.the-row list (at .0)) (tt, (tt, tt)) (refl, room) $ fjoin ! $ fjoin ! $ frame ! $
       owned ! S.the-row (Is S.the-row) (LL.makes S.the-type S′.the-plain 𝓤 H A) s _ is $ done !
 
@@ -163,7 +169,8 @@ module _ {M : Type 1} (𝓤 : URA M) (H : Heap 𝓤) (A : Atoms 𝓤) (W : Given
       let few : t .i < 256 = omega (arith, l, lies .few) in
       let there : t .i ≤ length ys = omega (arith, l, lies .within) in
       qed W (‵ ftrue ∷ []) ∵ says ! (countable v ys (t .i) (t .s) (lies .valued) few there (t .seen)) $ nothing ! $
-      owned ! T.the-row (Is T.the-row) (R.makes 𝓤 H A W) h _ h-is $ fjoin ! $ owned ! Vi.the-row (Is Vi.the-row) (LL.makes Vi.the-type Vi′.the-plain 𝓤 H A) v _ v-is $ fjoin ! $
+      owned ! T.the-row (Is T.the-row) (R.makes 𝓤 H A W) h _ h-is $ fjoin ! $
+      owned ! Vi.the-row (Is Vi.the-row) (LL.makes Vi.the-type Vi′.the-plain 𝓤 H A) v _ v-is $ fjoin ! $
       owned ! usize (Is usize) (uint-makes 𝓤 H A W w64) (t .i) _ (refl, omega (arith, few)) $ fjoin ! $
       owned ! S.the-row (Is S.the-row) (LL.makes S.the-type S′.the-plain 𝓤 H A) (t .s) _ (t .is) $ fjoin ! $ move ! (1 ∷ 0 ∷ []) $ join ! $ done !
 
@@ -173,7 +180,9 @@ module _ {M : Type 1} (𝓤 : URA M) (H : Heap 𝓤) (A : Atoms 𝓤) (W : Given
 
     -- the slice, then the locals, the last first: _k stands at 3 + 2 · (9 − k), and that it ends beside it
     abbrev Inv : Turn → List (Item 𝓤)
-    Inv t = Had (free T′.mir l₉ (free tyPtr l₈ (free word l₇ (free tyBool l₆ (holds word l₅ (vint w64 (t .i)) (holds S′.mir l₄ (scan-val (t .s)) (holds word l₃ (vint w64 n) (holds Vi′.mir l₂ (view-val v) (holds (slice imm) l₁ (sliceVal (b, o) (length ys)) (free S′.mir l₀ []))))))))))
+    Inv t = Had (free T′.mir l₉ (free tyPtr l₈ (free word l₇ (free tyBool l₆
+        (holds word l₅ (vint w64 (t .i)) (holds S′.mir l₄ (scan-val (t .s))
+        (holds word l₃ (vint w64 n) (holds Vi′.mir l₂ (view-val v) (holds (slice imm) l₁ (sliceVal (b, o) (length ys)) (free S′.mir l₀ []))))))))))
 
     abbrev Left : Out → SProp 𝓤
     Left = afterBlock 𝓤 H (afterSeq 𝓤 H (Wp 𝓤 H (𝓣 .C) (𝓣 .Λ) En mir′.t-5 (atReturn 𝓤 H En Post)) (atReturn 𝓤 H En Post))
@@ -185,11 +194,12 @@ module _ {M : Type 1} (𝓤 : URA M) (H : Heap 𝓤) (A : Atoms 𝓤) (W : Given
     unfolding afterTurn
     last t e =
         qed W (Inv t) ∵ exec ! (𝓣 .C) (𝓣 .Λ) En mir′.turn-1 (anyQ (Turned t)) $
-        assigns ! (bin ! (load ! (from ! (stop !)) (look ! 11 refl)) (load ! (from ! (stop !)) (look ! 15 refl)) tt) (from ! (stop !)) (init ! 9 refl (tt, tt)) $
+        assigns ! (bin ! (held ! 11 refl) (held ! 15 refl) tt) (here !) (init ! 9 refl (tt, tt)) $
         rewrite ! 9 (λ (y : Bool). ‵ (fat fullShare tyBool l₆ 0 (vbool y))) e refl $
-        leaves-loop ! (load ! (from ! (stop !)) (look ! 9 refl)) $ exec ! (𝓣 .C) (𝓣 .Λ) En mir′.t-5 (atRet En Post) $
-        assigns ! (of-opd ! (load ! (from ! (stop !)) (look ! 13 refl))) (from ! (stop !)) (init ! 21 refl (LL.lawful S.the-type S′.the-laws 𝓤 H A W .typed (t .s) _ (t .is) .0)) $
-        returns ! (look ! 21 refl) $ move ! (upward 3 10) $ full ! $ full ! $ full ! $ full ! $ full ! $ full ! $ full ! $ free1 ! $ free1 ! $ free1 ! $ free0 ! $
+        leaves-loop ! (held ! 9 refl) $ exec ! (𝓣 .C) (𝓣 .Λ) En mir′.t-5 (atRet En Post) $
+        assigns ! (of-opd ! (held ! 13 refl)) (here !) (init ! 21 refl (LL.lawful S.the-type S′.the-laws 𝓤 H A W .typed (t .s) _ (t .is) .0)) $
+        returns ! (look ! 21 refl) $ move ! (upward 3 10) $ full ! $ full ! $ full ! $ full ! $ full ! $ full ! $ full ! $ free1 ! $ free1 ! $ free1 ! $
+        free0 ! $
         by ! (exits (t .s) (t .is) (all t e))
 
     one : (t : Turn) → ltb (t .i) n ≡ true → ent 𝓤 (⋆ 𝓤 H A (Inv t)) (Wp 𝓤 H (𝓣 .C) (𝓣 .Λ) En mir′.turn-1 (Turned t))
@@ -203,25 +213,27 @@ module _ {M : Type 1} (𝓤 : URA M) (H : Heap 𝓤) (A : Atoms 𝓤) (W : Given
         let next-fits : i + 1 < 2 ^ 64 = omega (arith, lt, lies .few) in
         let sooner : n - suc i < n - i = omega (arith, lt) in
         qed W (Inv t) ∵ exec ! (𝓣 .C) (𝓣 .Λ) En mir′.turn-1 (anyQ (Turned t)) $
-        assigns ! (bin ! (load ! (from ! (stop !)) (look ! 11 refl)) (load ! (from ! (stop !)) (look ! 15 refl)) tt) (from ! (stop !)) (init ! 9 refl (tt, tt)) $
+        assigns ! (bin ! (held ! 11 refl) (held ! 15 refl) tt) (here !) (init ! 9 refl (tt, tt)) $
         rewrite ! 9 (λ (y : Bool). ‵ (fat fullShare tyBool l₆ 0 (vbool y))) e refl $
-        stays ! (load ! (from ! (stop !)) (look ! 9 refl)) $
-        assigns ! (bin ! (load ! (from ! (stop !)) (look ! 11 refl)) (lit ! tt) (record { fits = fits })) (from ! (stop !)) (init ! 7 refl (tt, record { fits = fits })) $
-        assigns ! (bin ! (load ! (from ! (fld ! refl (stop !))) (look-in ! 19 (sub ! 0 refl (whole !)))) (load ! (from ! (stop !)) (look ! 7 refl)) tt) (from ! (stop !)) (init ! 5 refl (tt, tt)) $
+        stays ! (held ! 9 refl) $
+        assigns ! (bin ! (held ! 11 refl) (lit ! tt) (record { fits = fits })) (here !) (init ! 7 refl (tt, record { fits = fits })) $
+        assigns ! (bin ! (load ! (from ! (fld ! refl (stop !))) (look-in ! 19 (sub ! 0 refl (whole !)))) (held ! 7 refl) tt) (here !) (init ! 5 refl (tt, tt)) $
         rewrite ! 5 (λ (p : ℕ). ‵ (fat fullShare tyPtr l₈ 0 (vptr b p))) (sym (place-is 48 o i)) refl $
         looks-slice ! tt T.the-row (Is T.the-row) (shows 𝓤 H A T.the-row) R.vals R.tells (R.copy 𝓤 H A W) ys b o (λ q′.
         elem-out ! T.the-row (Is T.the-row) (shows 𝓤 H A T.the-row) R.vals R.tells q′ ys i blank b o there (λ g.
         -- [list[i]; what it owns; the others; what shuts; the fractured borrow; res; the locals from 6]
-        assigns ! (of-opd ! (load ! (from ! (hop ! (look ! 8 refl) (stop !))) (look-raw ! 0 refl))) (from ! (stop !)) (init ! 6 refl (R.typed 𝓤 H A W h g)) $
+        assigns ! (of-opd ! (load ! (from ! (hop ! (look ! 8 refl) (stop !))) (look-raw ! 0 refl))) (here !) (init ! 6 refl (R.typed 𝓤 H A W h g)) $
         elem-back ! T.the-row q′ ys i blank (R.vals h) b o there $ shuts-slice ! tt T.the-row q′ ys b o $ nothing ! $
         -- [true; the token; the fractured borrow; res; the locals from 4]
         use1 W (raw (Goes 𝓤 H A mem run .pre (to-see (t .s) i h))) (goes-see t h g lt) $
-        calls-at ! (fmOf 𝓤 H (W .laws) 𝓣) (Goes 𝓤 H A mem run) known (to-see (t .s) i h) (and-then ! (load ! (from ! (stop !)) (look ! 14 refl)) (and-then ! (load ! (from ! (stop !)) (look ! 12 refl)) (and-then ! (load ! (from ! (stop !)) (look ! 18 refl)) (and-then ! (load ! (from ! (stop !)) (look ! 4 refl)) (no-more !))))) (λ u.
-        told ! tt S.the-row (Sees v (t .s) i h) (‵ ftrue) (ensured 𝓤 H A see.ended (see.clauses 𝓤 H A mem run) tt (t .s, (i, (v, (h, tt)))) tt) (see-of 𝓤 H A mem run (t .s) i v h) u (id⊢ 𝓤 _) (λ r got is.
+        calls-at ! (fmOf 𝓤 H (W .laws) 𝓣) (Goes 𝓤 H A mem run) known (to-see (t .s) i h)
+        (and-then ! (held ! 14 refl) (and-then ! (held ! 12 refl) (and-then ! (held ! 18 refl) (and-then ! (held ! 4 refl) (no-more !))))) (λ u.
+        told ! tt S.the-row (Sees v (t .s) i h) (‵ ftrue) (ensured 𝓤 H A see.ended (see.clauses 𝓤 H A mem run) tt (t .s, (i, (v, (h, tt)))) tt)
+        (see-of 𝓤 H A mem run (t .s) i v h) u (id⊢ 𝓤 _) (λ r got is.
         let r-is = subst (Is S.the-row r) (LL.tells S.the-type S′.the-laws r (u ∷ []) is) is in
-        land ! (from ! (stop !)) (store ! 14 refl (LL.lawful S.the-type S′.the-laws 𝓤 H A W .typed r _ is .0)) $ drop ! $
+        land ! (here !) (store ! 14 refl (LL.lawful S.the-type S′.the-laws 𝓤 H A W .typed r _ is .0)) $ drop ! $
         rewrite ! 13 (λ (w : Val). ‵ (fat fullShare S′.mir l₄ 0 w)) (ap only (LL.tells S.the-type S′.the-laws r (u ∷ []) is)) refl $
-        assigns-last ! (bin ! (load ! (from ! (stop !)) (look ! 11 refl)) (lit ! tt) (record { fits = next-fits })) (from ! (stop !)) (store ! 11 refl (tt, record { fits = next-fits })) $
+        assigns-last ! (bin ! (held ! 11 refl) (lit ! tt) (record { fits = next-fits })) (here !) (store ! 11 refl (tt, record { fits = next-fits })) $
         rewrite ! 11 (λ (j : ℕ). ‵ (fat fullShare word l₅ 0 (vint w64 j))) (add-one i) refl $
         forget ! 9 refl $ forget ! 7 refl $ forget ! 5 refl $ forget ! 3 refl $ move ! (1 ∷ 0 ∷ []) $
         again ! Less Inv t (record { i = suc i; le = lt; s = r; is = r-is; seen = seen-more v ys i (t .s) r there (t .seen) got }) sooner))))
@@ -239,19 +251,33 @@ module _ {M : Type 1} (𝓤 : URA M) (H : Heap 𝓤) (A : Atoms 𝓤) (W : Given
   walk : (𝓣 : Tables 𝓤 H) → Triple 𝓤 (𝓣 .C #booking·unseen) (Begins 𝓤 H A mem run) → Triple 𝓤 (𝓣 .C #desk·see) (Goes 𝓤 H A mem run)
       → ent 𝓤 (onEntry 𝓤 H A scan.signature (κ, tt) (q, tt) x at) (WpFn 𝓤 H (𝓣 .C) (𝓣 .Λ) code.function (sliceVal (b, o) (length ys) ∷ view-val v ∷ []) Post)
   walk 𝓣 known-unseen known-see =
-      qed W ((‵ (flft κ q) ⊛ ‵ ftrue) ∷ ‵ (owns (ShrSlice (named 0) κ T.the-row ∷ Vi.the-row ∷ []) x at) ∷ []) ∵ enter ! (𝓣 .C) (𝓣 .Λ) code.function (sliceVal (b, o) (length ys) ∷ view-val v ∷ []) _ $
-      alloc1 ! {τ = S′.mir} (λ l₀. alloc1 ! {τ = slice imm} (λ l₁. alloc1 ! {τ = Vi′.mir} (λ l₂. alloc1 ! (λ l₃. alloc1 ! {τ = S′.mir} (λ l₄. alloc1 ! (λ l₅. alloc1 ! (λ l₆. alloc1 ! (λ l₇. alloc1 ! (λ l₈. alloc1 ! {τ = T′.mir} (λ l₉. alloc0 ! $ params1 ! $
-      pass1 ! (init ! 16 refl (tt, (tt, (record { fits = room .0 }, tt)))) $ pass1 ! (init ! 14 refl (LL.lawful Vi.the-type Vi′.the-laws 𝓤 H A W .typed v _ v-is .0)) $ pass0 ! $
-      assigns ! (of-opd ! (load ! (from ! (fld ! refl (fld ! refl (stop !)))) (look-in ! 14 (sub ! 1 refl (sub ! 4 refl (whole !)))))) (from ! (stop !)) (init ! 12 refl (tt, record { fits = n-fits })) $ nothing ! $
+      qed W ((‵ (flft κ q) ⊛ ‵ ftrue) ∷ ‵ (owns (ShrSlice (named 0) κ T.the-row ∷ Vi.the-row ∷ []) x at) ∷ []) ∵ enter ! (𝓣 .C) (𝓣 .Λ) code.function
+      (sliceVal (b, o) (length ys) ∷ view-val v ∷ []) _ $
+      alloc1 ! {τ = S′.mir} (λ l₀. alloc1 ! {τ = slice imm} (λ l₁. alloc1 ! {τ = Vi′.mir}
+      (λ l₂. alloc1 ! (λ l₃. alloc1 ! {τ = S′.mir} (λ l₄. alloc1 !
+      (λ l₅. alloc1 ! (λ l₆. alloc1 ! (λ l₇. alloc1 ! (λ l₈. alloc1 ! {τ = T′.mir} (λ l₉. alloc0 ! $ params1 ! $
+      pass1 ! (init ! 16 refl (tt, (tt, (record { fits = room .0 }, tt)))) $
+      pass1 ! (init ! 14 refl (LL.lawful Vi.the-type Vi′.the-laws 𝓤 H A W .typed v _ v-is .0)) $ pass0 ! $
+      assigns ! (of-opd ! (load ! (from ! (fld ! refl (fld ! refl (stop !)))) (look-in ! 14 (sub ! 1 refl (sub ! 4 refl (whole !)))))) (here !)
+      (init ! 12 refl (tt, record { fits = n-fits })) $ nothing ! $
       use1 W (raw (Begins 𝓤 H A mem run .pre to-unseen)) goes-unseen $
       calls-at ! (fmOf 𝓤 H (W .laws) 𝓣) (Begins 𝓤 H A mem run) known-unseen to-unseen (no-more !) (λ u.
-      told ! tt S.the-row Unseen (‵ ftrue) (ensured 𝓤 H A unseen.ended (unseen.clauses 𝓤 H A mem run) tt tt tt) (unseen-of 𝓤 H A mem run) u (id⊢ 𝓤 _) (λ s got is.
-      land ! (from ! (stop !)) (init ! 11 refl (LL.lawful S.the-type S′.the-laws 𝓤 H A W .typed s _ is .0)) $ drop ! $
+      told ! tt S.the-row Unseen (‵ ftrue) (ensured 𝓤 H A unseen.ended (unseen.clauses 𝓤 H A mem run) tt tt tt) (unseen-of 𝓤 H A mem run) u (id⊢ 𝓤 _)
+      (λ s got is.
+      land ! (here !) (init ! 11 refl (LL.lawful S.the-type S′.the-laws 𝓤 H A W .typed s _ is .0)) $ drop ! $
       rewrite ! 10 (λ (w : Val). ‵ (fat fullShare S′.mir l₄ 0 w)) (ap only (LL.tells S.the-type S′.the-laws s (u ∷ []) is)) refl $
-      assigns ! (of-opd ! (lit ! tt)) (from ! (stop !)) (init ! 8 refl (tt, record { fits = lit< tt })) $
+      assigns ! (of-opd ! (lit ! tt)) (here !) (init ! 8 refl (tt, record { fits = lit< tt })) $
       -- the token, and of what list and view own the list's fractured borrow
-      move ! (21 ∷ []) $ fsplit ! $ fsplit ! $ drop ! $ fsplit ! $ move ! (2 ∷ []) $ drop ! $ move ! (22 ∷ []) $ split ! $ move ! (1 ∷ []) $ drop ! $ move ! (2 ∷ 0 ∷ 1 ∷ []) $
-      by ! (loops 𝓣 known-see l₀ l₁ l₂ l₃ l₄ l₅ l₆ l₇ l₈ l₉ (record { i = 0; le = omega arith; s = s; is = subst (Is S.the-row s) (LL.tells S.the-type S′.the-laws s (u ∷ []) is) is; seen = got _ _ }))))))))))))))
+      move ! (21 ∷ []) $ fsplit ! $ fsplit ! $ drop ! $ fsplit ! $ move ! (2 ∷ []) $ drop ! $ move ! (22 ∷ []) $ split ! $ move ! (1 ∷ []) $ drop ! $
+      move ! (2 ∷ 0 ∷ 1 ∷ []) $
+      by ! (loops 𝓣 known-see l₀ l₁ l₂ l₃ l₄ l₅ l₆ l₇ l₈ l₉ (record {
+        i = 0;
+        le = omega arith;
+        s = s;
+        is = subst (Is S.the-row s)
+            (LL.tells S.the-type S′.the-laws s (u ∷ []) is) is;
+        seen = got _ _;
+      }))))))))))))))
 
 module _ {M : Type 1} (𝓤 : URA M) (H : Heap 𝓤) (A : Atoms 𝓤) (W : Given 𝓤 H A) (mem : Memory → SProp 𝓤) (run : Routine → Fun 𝓤) (𝓣 : Tables 𝓤 H)
     (known-unseen : Triple 𝓤 (𝓣 .C #booking·unseen) (Begins 𝓤 H A mem run)) (known-see : Triple 𝓤 (𝓣 .C #desk·see) (Goes 𝓤 H A mem run)) where
@@ -259,7 +285,8 @@ module _ {M : Type 1} (𝓤 : URA M) (H : Heap 𝓤) (A : Atoms 𝓤) (W : Given
   walks = walked 𝓤 H A scan.ended stayed (scan.clauses 𝓤 H A mem run) (WpFn 𝓤 H (𝓣 .C) (𝓣 .Λ) code.function)
       (λ κs. (slice-vals, (view-vals, tt))) (λ κs. (shr-slice-tells (named 0) (κs .0) T.the-row, (LL.tells Vi.the-type Vi′.the-laws, tt)))
       (λ κs qs bounds a g are. needs 𝓤 (Lies (length (a .0 .now)) (a .1 .0)) _ (λ lies.
-      walk 𝓤 H A W mem run (κs .0) (qs .0) (a .0 .ptr .0) (a .0 .ptr .1) (a .0 .name) (a .0 .now) (a .1 .0) (are .0 .0 .1) (are .1 .0) lies 𝓣 known-unseen known-see))
+      walk 𝓤 H A W mem run (κs .0) (qs .0) (a .0 .ptr .0) (a .0 .ptr .1) (a .0 .name) (a .0 .now) (a .1 .0) (are .0 .0 .1)
+      (are .1 .0) lies 𝓣 known-unseen known-see))
 
   meets : Meets 𝓤 H A scan.signature (WpFn 𝓤 H (𝓣 .C) (𝓣 .Λ) code.function) (scan.spec 𝓤 H A mem run)
   meets = walk-meets 𝓤 H A scan.ended stayed W
