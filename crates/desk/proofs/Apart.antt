@@ -1,5 +1,4 @@
--- A row for each holding, no two alike: where numbers of a record have one row for several, as those of a province that none is, these have each its own.
--- Assumes nothing.
+-- A row for each holding, no two alike: where several records have one row, as those of provinces that are none, here each has its own. Assumes nothing.
 use mathlib.Core.Path.{_≡_, refl, ap}
 use mathlib.Core.Bool.{cond}
 use mathlib.Core.List.{List, [], _∷_, map}
@@ -10,8 +9,8 @@ use borrow.Author.Tests.{lt-ltb}
 use Rattle.lists.specs.{Choice.firstOf, Tables.Each}
 use Rattle.holding.specs.Holding.{sideNumber, sideOf, kindNumber, kindOf, issuerOf, currencyNumber, currencyOf, ratingNumber, ratingOf, rowOf, holdingOf}
 use Rattle.holding.specs.declared.{Holding.Holding, Row.Row, Side.Side, Side.the-variants.Long, Side.the-variants.Short}
-use Rattle.holding.specs.declared.Issuer.{Issuer, the-variants.Canada, the-variants.Province, the-variants.UnitedStates, the-variants.UnitedKingdom}
-use Rattle.holding.specs.declared.Issuer.{the-variants.Corporation}
+use Rattle.holding.specs.declared.Issuer.{Issuer, the-variants.Canada, the-variants.Province, the-variants.UnitedStates}
+use Rattle.holding.specs.declared.Issuer.{the-variants.UnitedKingdom, the-variants.Corporation}
 use Rattle.holding.proofs.Ranges.{kind-back, currency-back, rating-back}
 
 -- a province and a corporation keep their number, whatever it is, and the side says which of them an issuer is

@@ -1,6 +1,5 @@
--- The list after an order, to the last entry. The core promises a book by its rows, and one row may be that of several records; but it promises it of every
--- list that begins with
--- the book's holdings, so also of one whose later rows tell any two records apart. Assumes nothing.
+-- The list after an order, to the last entry. The core promises a book by its rows, and one row may be that of several records; but it promises it of
+-- every list that begins with the book's holdings, so also of one whose later rows tell any two records apart. Assumes nothing.
 use mathlib.Core.Path.{_≡_, refl, sym, ap, _∙_}
 use mathlib.Core.Logic.{_⊎_, inl}
 use mathlib.Core.Bool.{Bool, true, false, cond}
@@ -38,8 +37,11 @@ use Rattle.desk.specs.Desk.{orderOf, Books, worth, blank, putOf, changeO
 use Rattle.desk.proofs.Mapped.{map-take, map-front, map-changed}
 use Rattle.desk.proofs.Apart.{apartOf, backOf, backs-apart, back-row, backs-rows, side-low}
 
--- a record whose issuer has a number is that of its row
-kept : (h : Holding) → Government (rowOf h .issuer) ⊎ Corporate (rowOf h .issuer) → holdingOf (rowOf h) ≡ h
+-- a row whose issuer has a number; a record of such a row is its record
+abbrev Issued : Row → Type 0
+Issued r = Government (r .issuer) ⊎ Corporate (r .issuer)
+
+kept : (h : Holding) → Issued (rowOf h) → holdingOf (rowOf h) ≡ h
 unfolding rowOf holdingOf
 kept h known = rw (side-back (h .side), kind-back (h .kind), issuer-back (h .issuer) known, currency-back (h .currency), rating-back (h .rating))
 
@@ -94,13 +96,13 @@ put-kept b (Take h) i zero v =
 put-kept b (MoveTo to) i zero v = kept (worth blank v) (inl (omega arith))
 
 -- so are the holdings of a book without fault
-backs-kept : (hs : List Holding) → Each (λ h. Government (rowOf h .issuer) ⊎ Corporate (rowOf h .issuer)) hs → map backOf (map rowOf hs) ≡ hs
+backs-kept : (hs : List Holding) → Each (λ h. Issued (rowOf h)) hs → map backOf (map rowOf hs) ≡ hs
 backs-kept [] e = refl
 backs-kept (h ∷ hs) e = rw (back-row (rowOf h) (side-low h), kept h (e .0)) (ap (λ (l : List Holding). h ∷ l) (backs-kept hs (e .1)))
 
 module _ (ys : List Holding) (d : Day) (o : Order) (core : Core)
-    (concluded : (list : List Row) → length list ≡ length ys → take (d .count) list ≡ take (d .count) (map rowOf ys) → Concluded false (makeBook d list)
-    (orderOf o) core) where
+    (concluded : (list : List Row) → length list ≡ length ys → take (d .count) list ≡ take (d .count) (map rowOf ys)
+    → Concluded false (makeBook d list) (orderOf o) core) where
   abbrev n : ℕ
   n = d .count
 
@@ -136,11 +138,11 @@ module _ (ys : List Holding) (d : Day) (o : Order) (core : Core)
     unfolding told
     told-long = length-append rows (map apartOf (drop n ys)) ∙ omega (arith, rows-long, length-map (drop n ys) apartOf, length-drop n ys, within)
 
-    issuers : Each (λ h. Government (rowOf h .issuer) ⊎ Corporate (rowOf h .issuer)) (take n ys)
+    issuers : Each (λ h. Issued (rowOf h)) (take n ys)
     issuers =
-        each-back (λ r. Government (r .issuer) ⊎ Corporate (r .issuer)) rowOf (take n ys)
+        each-back Issued rowOf (take n ys)
         (rw (map-take rowOf n ys)
-        (at-each (λ r. Government (r .issuer) ⊎ Corporate (r .issuer)) noRow rows (λ k q.
+        (at-each Issued noRow rows (λ k q.
         let below : k < n = omega (arith, rows-long) in
         rw (getD-take n (map rowOf ys) k noRow below) (in-order .each-holding k below .identity .issuer))))
 
@@ -198,8 +200,8 @@ module _ (ys : List Holding) (d : Day) (o : Order) (r : Outcome) (zs : List Hold
   change-is : (t : Bool) → eqb number-is 0 ≡ t → r .change ≡ cond t (examines .core .change) (noChange (length ys))
   unfolding changeOf
   change-is t s =
-      examines .follows .change ∙ ap (λ (u : Bool). cond u (examines .core .change) (noChange (length ys)))
-      (ap (λ (a : Answer). eqb (a .number) 0) (ends .answer) ∙ s)
+      examines .follows .change
+      ∙ ap (λ (u : Bool). cond u (examines .core .change) (noChange (length ys))) (ap (λ (a : Answer). eqb (a .number) 0) (ends .answer) ∙ s)
 
   list-is : (c : Change) → r .change ≡ c → zs ≡ changed c (putOf o (c .value)) ys
   list-is c s = e ∙ ap (λ (h : Holding). changed (r .change) h ys) (examines .follows .put) ∙ ap (λ (k : Change). changed k (putOf o (k .value)) ys) s

@@ -32,9 +32,9 @@ lies-again n v w lies views = record {
   valued = views .opening .valued;
 }
 
--- of every account what was seen of a list was seen of another that begins as it does
-rows-of : (a : Account) (t : Row) (k : ℕ) (ys : List Holding) (list : List Row) (s : Scan) → take k list ≡ take k (map rowOf ys) → Seen a t
-    (map rowOf (take k ys)) s → Seen a t (take k list) s
+-- what was seen of a list was seen of another that begins as it does
+rows-of : (a : Account) (t : Row) (k : ℕ) (ys : List Holding) (list : List Row) (s : Scan) → take k list ≡ take k (map rowOf ys)
+    → Seen a t (map rowOf (take k ys)) s → Seen a t (take k list) s
 rows-of a t k ys list s same seen = rw (same, ← map-take rowOf k ys) seen
 
 module _ (ys : List Holding) (d : Day) (o : Order) (v : View) (views : Views d (length ys) o v) (s : Scan) (scans : Scans ys v s) where
@@ -73,14 +73,14 @@ module _ (ys : List Holding) (d : Day) (o : Order) (v : View) (views : Views d (
         (λ z. rw (views .opening .none z))
 
     -- for a move the same holdings were seen once more, in the account of the new date
-    seen-again : (to : ℕ) → orderOf o ≡ daybook.the-variants.MoveTo to → isDate to ≡ true → Seen (onDate to (v .opening .account)) (tradeOf (orderOf o))
-        (map rowOf (take n ys)) m
+    seen-again : (to : ℕ) → orderOf o ≡ daybook.the-variants.MoveTo to → isDate to ≡ true
+        → Seen (onDate to (v .opening .account)) (tradeOf (orderOf o)) (map rowOf (take n ys)) m
     seen-again to e z =
         let trade : w .trade ≡ tradeOf (orderOf o) = later .trade ∙ views .trade in
         rw (← trade, ← opened .account to e z, ← opened .count to e z) moved
 
-    examines-of : (list : List Row) → length list ≡ length ys → take (d .count) list ≡ take (d .count) (map rowOf ys) → Examined false (makeBook d list)
-        (orderOf o) (v .opening) s m
+    examines-of : (list : List Row) → length list ≡ length ys → take (d .count) list ≡ take (d .count) (map rowOf ys)
+        → Examined false (makeBook d list) (orderOf o) (v .opening) s m
     examines-of list long same = record {
       opens = rw long (views .opening);
       seen = rows-of (v .opening .account) (tradeOf (orderOf o)) n ys list s (begins list same) seen;
@@ -89,7 +89,9 @@ module _ (ys : List Holding) (d : Day) (o : Order) (v : View) (views : Views d (
 
     fits-of : Fits (length ys) (changeOf (length ys) (judges .core))
     unfolding changeOf
-    fits-of = by-test (Fits (length ys)) (eqb (answerOf (judges .core .reply .finding) .number) 0) (λ _. concludes .fits)
+    fits-of =
+        by-test (Fits (length ys)) (eqb (answerOf (judges .core .reply .finding) .number) 0)
+        (λ _. concludes .fits)
         (λ _. record { from = omega arith; until = omega arith })
 
     follows : Follows (length ys) o (judges .core) r

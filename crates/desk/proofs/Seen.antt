@@ -21,7 +21,7 @@ pub countable : (v : View) (ys : List Holding) (i : ℕ) (s : Scan) → isDate (
 countable v ys i s valued few there seen = seen-countable seen valued (length-map (take i ys) rowOf ∙ length-take-le i ys there) few
 
 -- one more of a list
-pub seen-more : (v : View) (ys : List Holding) (i : ℕ) (s r : Scan) → i < length ys → SeenOf v (take i ys) s → Sees v s i (getD ys i blank) r → SeenOf v
-    (take (suc i) ys) r
+pub seen-more : (v : View) (ys : List Holding) (i : ℕ) (s r : Scan) → i < length ys → SeenOf v (take i ys) s → Sees v s i (getD ys i blank) r
+    → SeenOf v (take (suc i) ys) r
 seen-more v ys i s r there seen sees =
     subst (λ (hs : List Holding). SeenOf v hs r) (sym (take-suc ys i blank there)) (sees (take i ys) (length-take-le i ys (omega arith)) seen)

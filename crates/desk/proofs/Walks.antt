@@ -1,4 +1,4 @@
--- Steps that each walk over a lent list takes: a local in memory beside that it ends, and locals as they are freed. Assumes `Given`.
+-- Steps that each walk over a lent list takes: a local in memory, read, and freed at the end; and what a call has returned. Assumes `Given`.
 use mathlib.Core.Path.{_≡_, refl}
 use mathlib.Core.List.{List, [], _∷_}
 use Prim.Native.Nat.{ℕ, zero, suc, _+_, _*_}
@@ -27,8 +27,8 @@ module _ {M : Type 1} {𝓤 : URA M} where
 
 -- a local that holds a value is freed
 module _ {M : Type 1} {𝓤 : URA M} {H : Heap 𝓤} {A : Atoms 𝓤} {K : Type 0} {W : Given 𝓤 H A} {Γ : List (Item 𝓤)} where
-  pub full : K → {τ : Ty} {b : ℕ} {v : Val} {E : Env 𝓤 H} {g : Goal 𝓤 H} → Step K W Γ (frees E g) (‵ (fat fullShare τ b zero v) ∷ ‵ (fdies τ b) ∷ Γ)
-      (frees ((τ, b) ∷ E) g)
+  pub full : K → {τ : Ty} {b : ℕ} {v : Val} {E : Env 𝓤 H} {g : Goal 𝓤 H}
+      → Step K W Γ (frees E g) (‵ (fat fullShare τ b zero v) ∷ ‵ (fdies τ b) ∷ Γ) (frees ((τ, b) ∷ E) g)
   full t = step (λ s. forget t 0 refl $ free1 t $ s)
 
 -- a local's place, and what it holds as an operand
@@ -36,8 +36,8 @@ module _ {M : Type 1} {𝓤 : URA M} {H : Heap 𝓤} {A : Atoms 𝓤} {K : Type 
   pub here : K → {i : ℕ} → Finds K W Γ E (place i []) (spotOf 𝓤 H E i)
   here t = from t (stop t)
 
-  pub held : K → (n : ℕ) {i : ℕ} {q : Share} {v : Val} → nth 𝓤 H A n Γ ≡ ‵ (fat q (spotOf 𝓤 H E i .0) (spotOf 𝓤 H E i .1) (spotOf 𝓤 H E i .2) v) → Opd K W Γ E
-      (copy (place i [])) v
+  pub held : K → (n : ℕ) {i : ℕ} {q : Share} {v : Val} → nth 𝓤 H A n Γ ≡ ‵ (fat q (spotOf 𝓤 H E i .0) (spotOf 𝓤 H E i .1) (spotOf 𝓤 H E i .2) v)
+      → Opd K W Γ E (copy (place i [])) v
   held t n e = load t (here t) (look t n e)
 
 -- a call has returned: its result, what the contract says of it, and that its machine value is one of its type

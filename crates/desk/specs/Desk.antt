@@ -5,9 +5,8 @@ use lib.{Dec.eqb, ListN.length, ListN.take}
 use Rattle.lists.specs.Tables.{front}
 use Rattle.dates.specs.Calendar.{isDate}
 use Rattle.holding.specs.Holding.{rowOf, holdingOf}
-use Rattle.holding.specs.declared.{Holding.Holding, Row.Row}
-use Rattle.holding.specs.declared.{Side.the-variants.Long, Kind.the-variants.Bond, Issuer.the-variants.Canada, Currency.the-variants.Cad}
-use Rattle.holding.specs.declared.{Rating.the-variants.SingleA}
+use Rattle.holding.specs.declared.{Holding.Holding, Row.Row, Side.the-variants.Long, Kind.the-variants.Bond}
+use Rattle.holding.specs.declared.{Issuer.the-variants.Canada, Currency.the-variants.Cad, Rating.the-variants.SingleA}
 use Rattle.daybook.specs.Book.{Book, makeBook, holdingsIn}
 use Rattle.daybook.specs.Orders.{answerOf, holdingsAfter, outcome, accepted, booked}
 use Rattle.daybook.specs.declared.{Day.Day, Reply.Reply}
@@ -31,9 +30,8 @@ module _ (ys : List Holding) (d : Day) (o : Order) where
   abbrev pub bookOf : Book
   bookOf = makeBook d (map rowOf ys)
 
-  -- the answer; what is then stored with the book; the list to the last entry: the holdings stand first, entries past them keep what they held, and a refusal
-  -- changes
-  -- nothing; and the rows that the next order sees
+  -- the answer; what is then stored with the book; the list to the last entry: the holdings stand first, entries past them keep what they held, and a
+  -- refusal changes nothing; and the rows that the next order sees
   pub record Books (zs : List Holding) (r : Reply) : Type 0 where
     pub answer : answerOf (r .finding) ≡ outcome false bookOf (orderOf o)
     pub day : r .day ≡ booked false bookOf (orderOf o) .day
@@ -115,7 +113,7 @@ pub record Judges (v : View) (seen moved : Scan) (r : Outcome) : Type 0 where
 -- an order judged on a list: the core concludes so of every list of as many entries that begins with the same holdings
 pub record Examines (ys : List Holding) (d : Day) (o : Order) (r : Outcome) : Type 0 where
   pub core : booking.Outcome
-  pub concluded : (list : List Row) → length list ≡ length ys → take (d .count) list ≡ take (d .count) (map rowOf ys) → Concluded false (makeBook d list)
-      (orderOf o) core
+  pub concluded : (list : List Row) → length list ≡ length ys → take (d .count) list ≡ take (d .count) (map rowOf ys)
+      → Concluded false (makeBook d list) (orderOf o) core
   pub follows : Follows (length ys) o core r
   pub fits : Fits (length ys) (r .change)

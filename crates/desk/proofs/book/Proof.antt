@@ -89,8 +89,8 @@ module _ {M : Type 1} (𝓤 : URA M) (H : Heap 𝓤) (A : Atoms 𝓤) (mem : Mem
   abbrev Write : Contract 𝓤
   Write = tripleOf 𝓤 H A write′.signature (write′.spec 𝓤 H A mem run)
 
-  examine-of : (κ : Lft) (x : RefT (List Holding)) (d : Day) (w : Order) (r : Outcome) → ent 𝓤
-      (ensured 𝓤 H A examine′.ended (examine′.clauses 𝓤 H A mem run) (κ, tt) (x, (d, (w, tt))) tt r) (fact 𝓤 (Examines (x .now) d w r))
+  examine-of : (κ : Lft) (x : RefT (List Holding)) (d : Day) (w : Order) (r : Outcome)
+      → ent 𝓤 (ensured 𝓤 H A examine′.ended (examine′.clauses 𝓤 H A mem run) (κ, tt) (x, (d, (w, tt))) tt r) (fact 𝓤 (Examines (x .now) d w r))
   examine-of κ x d w r = exE 𝓤 _ (λ ws. snd∗ 𝓤 (sem 𝓤 H A (lasts examine′.ended (κ, tt) (x, (d, (w, tt))) ws)) (fact 𝓤 (Examines (x .now) d w r)))
 
 module _ {M : Type 1} (𝓤 : URA M) (H : Heap 𝓤) (A : Atoms 𝓤) (W : Given 𝓤 H A) (mem : Memory → SProp 𝓤) (run : Routine → Fun 𝓤)

@@ -84,8 +84,8 @@ abbrev arr-val : List Holding → Val
 arr-val ys = only (array-vals R.vals ys)
 
 -- its elements, as a struct's field has them
-as-field : (zs : List Holding) (us : List Val) → shadow (each Holding (T.the-row .own) zs us) → shadow
-    (each (T.the-field .row .Denot) (T.the-field .row .own) (map (T.the-field .into) zs) us)
+as-field : (zs : List Holding) (us : List Val) → shadow (each Holding (T.the-row .own) zs us)
+    → shadow (each (T.the-field .row .Denot) (T.the-field .row .own) (map (T.the-field .into) zs) us)
 as-field [] [] s = s
 as-field [] (u ∷ us) s = s
 as-field (z ∷ zs) [] s = s
@@ -108,8 +108,8 @@ Book 𝓤 H A mem run = tripleOf 𝓤 H A book.signature (book.spec 𝓤 H A mem
 
 module _ {M : Type 1} (𝓤 : URA M) (H : Heap 𝓤) (A : Atoms 𝓤) (W : Given 𝓤 H A) where
   -- the array's cell in a local is its elements in memory, and back at some machine values
-  apart : (ys : List Holding) (l : ℕ) → Is Holdings ys (arr-val ys ∷ []) → ent 𝓤 (H .at fullShare arr l 0 (arr-val ys))
-      (sem 𝓤 H A (cells (lies T.the-row) ys l 0))
+  apart : (ys : List Holding) (l : ℕ) → Is Holdings ys (arr-val ys ∷ [])
+      → ent 𝓤 (H .at fullShare arr l 0 (arr-val ys)) (sem 𝓤 H A (cells (lies T.the-row) ys l 0))
   unfolding partOf
   apart ys l is =
       qed W (‵ (fat fullShare arr l 0 (arr-val ys)) ∷ []) ∵ use1 W (‵ (cellAt fullShare (Holdings .mir) (arr-val ys ∷ []) l 0))
@@ -122,8 +122,8 @@ module _ {M : Type 1} (𝓤 : URA M) (H : Heap 𝓤) (A : Atoms 𝓤) (W : Given
   abbrev Elements : List Holding → List Val → Type 0
   Elements zs us = (length zs ≡ 256) × shadow (each Holding (T.the-row .own) zs us)
 
-  together : (zs : List Holding) (n l : ℕ) → n ≡ 256 → ent 𝓤 (sem 𝓤 H A (Arr (lies T.the-row) n .lies zs l 0))
-      (ex 𝓤 (λ (us : List Val). guard 𝓤 (Elements zs us) (H .at fullShare arr l 0 (arrayVal us))))
+  together : (zs : List Holding) (n l : ℕ) → n ≡ 256
+      → ent 𝓤 (sem 𝓤 H A (Arr (lies T.the-row) n .lies zs l 0)) (ex 𝓤 (λ (us : List Val). guard 𝓤 (Elements zs us) (H .at fullShare arr l 0 (arrayVal us))))
   unfolding partOf
   together zs n l e =
       qed W (‵ (Arr (lies T.the-row) n .lies zs l 0) ∷ []) ∵ fsplit ! $
@@ -170,8 +170,8 @@ module _ {M : Type 1} (𝓤 : URA M) (H : Heap 𝓤) (A : Atoms 𝓤) (W : Given
       owned ! D.the-row (Is D.the-row) (LL.makes D.the-type D′.the-plain 𝓤 H A) d _ d-is $ fjoin ! $
       move ! (3 ∷ 0 ∷ []) $ fjoin ! $ nothing ! $ move ! (3 ∷ 0 ∷ []) $ join ! $ move ! (0 ∷ 1 ∷ []) $ join ! $ done !
 
-  exits : (zs : List Holding) (us : List Val) (r : Reply) (v : Val) → Books ys d w zs r → Elements 𝓤 H A W zs us → Is P.the-row r (v ∷ []) → ent 𝓤
-      (sem 𝓤 H A ftrue) (Post (out-val us v))
+  exits : (zs : List Holding) (us : List Val) (r : Reply) (v : Val) → Books ys d w zs r → Elements 𝓤 H A W zs us → Is P.the-row r (v ∷ [])
+      → ent 𝓤 (sem 𝓤 H A ftrue) (Post (out-val us v))
   exits zs us r v e elements r-is =
       qed W (‵ ftrue ∷ []) ∵
       suffices ! _ (ends-at 𝓤 H A book-whole.ended stayed (book-whole.clauses 𝓤 H A mem run) W ((tt, tt, tt, x, at), tt) (out-val us v)
@@ -182,8 +182,8 @@ module _ {M : Type 1} (𝓤 : URA M) (H : Heap 𝓤) (A : Atoms 𝓤) (W : Given
       owned ! Wh.the-row (Is Wh.the-row) (LL.makes Wh.the-type Wh′.the-plain 𝓤 H A) (record { list = zs; reply = r }) _
       (out-is zs us r v (elements .0) (elements .1) r-is) $ nothing ! $ move ! (0 ∷ 2 ∷ []) $ done !
 
-  walk : (𝓣 : Tables 𝓤 H) → Triple 𝓤 (𝓣 .C #desk·book) (Book 𝓤 H A mem run) → ent 𝓤 (onEntry 𝓤 H A book-whole.signature tt tt x at)
-      (WpFn 𝓤 H (𝓣 .C) (𝓣 .Λ) code.function (arr-val ys ∷ day-val d ∷ only (order-vals w) ∷ []) Post)
+  walk : (𝓣 : Tables 𝓤 H) → Triple 𝓤 (𝓣 .C #desk·book) (Book 𝓤 H A mem run)
+      → ent 𝓤 (onEntry 𝓤 H A book-whole.signature tt tt x at) (WpFn 𝓤 H (𝓣 .C) (𝓣 .Λ) code.function (arr-val ys ∷ day-val d ∷ only (order-vals w) ∷ []) Post)
   walk 𝓣 known =
       qed W (‵ ftrue ∷ ‵ (owns (Holdings ∷ D.the-row ∷ O.the-row ∷ []) x at) ∷ []) ∵ enter ! (𝓣 .C) (𝓣 .Λ) code.function
       (arr-val ys ∷ day-val d ∷ only (order-vals w) ∷ []) _ $

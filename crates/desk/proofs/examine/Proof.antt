@@ -97,19 +97,19 @@ module _ {M : Type 1} (𝓤 : URA M) (H : Heap 𝓤) (A : Atoms 𝓤) (mem : Mem
   abbrev Conclude : Contract 𝓤
   Conclude = tripleOf 𝓤 H A conclude′.signature (conclude′.spec 𝓤 H A mem run)
 
-  open-of : (d : Day) (n : ℕ) (w : Order) (r : View) → ent 𝓤 (ensured 𝓤 H A open′.ended (open′.clauses 𝓤 H A mem run) tt (d, (n, (w, tt))) tt r)
-      (fact 𝓤 (Views d n w r))
+  open-of : (d : Day) (n : ℕ) (w : Order) (r : View)
+      → ent 𝓤 (ensured 𝓤 H A open′.ended (open′.clauses 𝓤 H A mem run) tt (d, (n, (w, tt))) tt r) (fact 𝓤 (Views d n w r))
   open-of d n w r = exE 𝓤 _ (λ ws. snd∗ 𝓤 (sem 𝓤 H A (lasts open′.ended tt (d, (n, (w, tt))) ws)) (fact 𝓤 (Views d n w r)))
 
-  scan-of : (κ : Lft) (x : RefT (List Holding)) (v : View) (r : Scan) → ent 𝓤
-      (ensured 𝓤 H A scan′.ended (scan′.clauses 𝓤 H A mem run) (κ, tt) (x, (v, tt)) tt r) (fact 𝓤 (Scans (x .now) v r))
+  scan-of : (κ : Lft) (x : RefT (List Holding)) (v : View) (r : Scan)
+      → ent 𝓤 (ensured 𝓤 H A scan′.ended (scan′.clauses 𝓤 H A mem run) (κ, tt) (x, (v, tt)) tt r) (fact 𝓤 (Scans (x .now) v r))
   scan-of κ x v r = exE 𝓤 _ (λ ws. snd∗ 𝓤 (sem 𝓤 H A (lasts scan′.ended (κ, tt) (x, (v, tt)) ws)) (fact 𝓤 (Scans (x .now) v r)))
 
   again-of : (v r : View) → ent 𝓤 (ensured 𝓤 H A again′.ended (again′.clauses 𝓤 H A mem run) tt (v, tt) tt r) (fact 𝓤 (ViewsAgain v r))
   again-of v r = exE 𝓤 _ (λ ws. snd∗ 𝓤 (sem 𝓤 H A (lasts again′.ended tt (v, tt) ws)) (fact 𝓤 (ViewsAgain v r)))
 
-  conclude-of : (v : View) (s m : Scan) (r : Outcome) → ent 𝓤 (ensured 𝓤 H A conclude′.ended (conclude′.clauses 𝓤 H A mem run) tt (v, (s, (m, tt))) tt r)
-      (fact 𝓤 (Judges v s m r))
+  conclude-of : (v : View) (s m : Scan) (r : Outcome)
+      → ent 𝓤 (ensured 𝓤 H A conclude′.ended (conclude′.clauses 𝓤 H A mem run) tt (v, (s, (m, tt))) tt r) (fact 𝓤 (Judges v s m r))
   conclude-of v s m r = exE 𝓤 _ (λ ws. snd∗ 𝓤 (sem 𝓤 H A (lasts conclude′.ended tt (v, (s, (m, tt))) ws)) (fact 𝓤 (Judges v s m r)))
 
 module _ {M : Type 1} (𝓤 : URA M) (H : Heap 𝓤) (A : Atoms 𝓤) (W : Given 𝓤 H A) (mem : Memory → SProp 𝓤) (run : Routine → Fun 𝓤)

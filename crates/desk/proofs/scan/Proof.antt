@@ -97,8 +97,8 @@ module _ {M : Type 1} (𝓤 : URA M) (H : Heap 𝓤) (A : Atoms 𝓤) (mem : Mem
   unseen-of : (r : Scan) → ent 𝓤 (ensured 𝓤 H A unseen.ended (unseen.clauses 𝓤 H A mem run) tt tt tt r) (fact 𝓤 (Unseen r))
   unseen-of r = exE 𝓤 _ (λ ws. snd∗ 𝓤 (sem 𝓤 H A (lasts unseen.ended tt tt ws)) (fact 𝓤 (Unseen r)))
 
-  see-of : (s : Scan) (i : ℕ) (v : View) (h : Holding) (r : Scan) → ent 𝓤 (ensured 𝓤 H A see.ended (see.clauses 𝓤 H A mem run) tt (s, (i, (v, (h, tt)))) tt r)
-      (fact 𝓤 (Sees v s i h r))
+  see-of : (s : Scan) (i : ℕ) (v : View) (h : Holding) (r : Scan)
+      → ent 𝓤 (ensured 𝓤 H A see.ended (see.clauses 𝓤 H A mem run) tt (s, (i, (v, (h, tt)))) tt r) (fact 𝓤 (Sees v s i h r))
   see-of s i v h r = exE 𝓤 _ (λ ws. snd∗ 𝓤 (sem 𝓤 H A (lasts see.ended tt (s, (i, (v, (h, tt)))) ws)) (fact 𝓤 (Sees v s i h r)))
 
 module _ {M : Type 1} (𝓤 : URA M) (H : Heap 𝓤) (A : Atoms 𝓤) (W : Given 𝓤 H A) (mem : Memory → SProp 𝓤) (run : Routine → Fun 𝓤)

@@ -57,6 +57,7 @@ use Rattle.desk.specs.Desk.{blank}
 use Rattle.desk.proofs.Moving.{moved-as, moved-none, moved-more}
 use Rattle.desk.proofs.Rows as R
 use Rattle.desk.proofs.Rows.{word, slice}
+use Rattle.desk.proofs.Values.{change-val, change-vals}
 use Rattle.desk.proofs.Walks.{held, here, holds, free, full, upward}
 use Rattle.desk.proofs.write.Key.{name as #desk·write}
 use Rattle.desk.proofs.write as write
@@ -66,13 +67,6 @@ use Rattle.desk.proofs.write.Code.Mir as mir′
 
 abbrev stayed : Stays (write.ended .signature .params) (write.ended .kept)
 stayed = (stay-slice (0 ∷ []) tt (plain (λ _. T.the-row)), (stay-none (λ _. C.the-row) yes, (stay-none (λ _. T.the-row) yes, tt)))
-
--- the machine value of a change
-abbrev change-val : Change → Val
-change-val = LL.val C.the-type C′.the-laws
-
-abbrev change-vals : Change → List Val
-change-vals c = change-val c ∷ []
 
 -- the list with the holding at its place, where it has it, is what the contract says
 placed : (c : Change) (h : Holding) (ys l : List Holding) → l ≡ movedUp (c .first) (c .end) ys → set l (c .at) h ≡ changed c h ys
@@ -181,8 +175,8 @@ module _ {M : Type 1} (𝓤 : URA M) (H : Heap 𝓤) (A : Atoms 𝓤) (W : Given
     abbrev Turned : Turn → Out → SProp 𝓤
     Turned t = afterTurn 𝓤 H (Below 𝓤 H A Less Inv t) Left
 
-    leave : (t : Turn) (y : Bool) (l : List Holding) → length l ≡ length ys → l ≡ changed c h ys → ent 𝓤 (⋆ 𝓤 H A (Over t y l))
-        (Wp 𝓤 H (𝓣 .C) (𝓣 .Λ) En mir′.t-8 (atReturn 𝓤 H En Post))
+    leave : (t : Turn) (y : Bool) (l : List Holding) → length l ≡ length ys → l ≡ changed c h ys
+        → ent 𝓤 (⋆ 𝓤 H A (Over t y l)) (Wp 𝓤 H (𝓣 .C) (𝓣 .Λ) En mir′.t-8 (atReturn 𝓤 H En Post))
     leave t y l k e =
         qed W (Over t y l) ∵ exec ! (𝓣 .C) (𝓣 .Λ) En mir′.t-8 (atRet En Post) $
         assigns ! (of-opd ! (unit-lit !)) (here !) (init ! 37 refl (tt, tt)) $
