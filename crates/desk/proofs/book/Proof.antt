@@ -1,5 +1,5 @@
--- `book` meets its contract: a walk of its MIR, by hand, with no branch and no loop. The list is lent to `examine` as a `&` for a lifetime of the call and
--- comes back as it
+-- `book` meets its contract: a walk of its MIR, by hand, with no branch and no loop. The list is lent to `examine` as a `&` for a lifetime of the
+-- call and comes back as it
 -- was, and goes to `write` for good; all that is known of the callees is that they meet their contracts. Assumes nothing.
 use mathlib.Core.Path.{_≡_, refl, sym, ap, subst}
 use mathlib.Core.List.{List, [], _∷_}
@@ -18,11 +18,11 @@ use prog.Wp.{Heap, WpFn, Tables}
 use ghost.Atoms.{Atoms, sem}
 use contract.Monad.{Fun, fact}
 use contract.Running.{givenOf, tables, tablesOf}
-use types.Kit.{Given, ‵, raw, _⊛_, some, later, _$_, _∵_, !, qed, by, move, keep, drop, split, join, pick, rewrite, use1, use2, fsplit, fjoin, feqL, suffices}
-use types.Kit.{frame, await, done}
+use types.Kit.{Given, ‵, raw, _⊛_, some, later, _$_, _∵_, !, qed, by, move, keep, drop, split, join, pick, rewrite, use1, use2, fsplit, fjoin, feqL}
+use types.Kit.{suffices, frame, await, done}
 use types.Part.{agg, whole, sub, look-in}
-use types.Run.{look, init, stop, hop, fld, from, load, addr, of-opd, and-then, no-more, assigns, land, returns, enter, alloc1, alloc0, params1, pass1, pass0}
-use types.Run.{free0}
+use types.Run.{look, init, stop, hop, fld, from, load, addr, of-opd, and-then, no-more, assigns, land, returns, enter, alloc1, alloc0, params1, pass1}
+use types.Run.{pass0, free0}
 use types.Tokens.{lft-new, lft-end}
 use sound.WpLaws.{fmOf, WpFn-mono}
 use denote.RattleType.{owns}
@@ -116,8 +116,8 @@ module _ {M : Type 1} (𝓤 : URA M) (H : Heap 𝓤) (A : Atoms 𝓤) (W : Given
   abbrev to-examine : ℕ → GName → Examine 𝓤 H A mem run .Ghost
   to-examine ν δ = (((ν ∷ [], tt), (fullShare, tt), tt, (list δ, (d, (w, tt))), (s ∷ [], (day-vals d, (order-vals w, tt)))), tt)
 
-  goes-examine : (ν : ℕ) (δ : GName) → ent 𝓤 (sep 𝓤 (A .lft (ν ∷ []) fullShare) (sem 𝓤 H A (ShrSlice (named 0) (ν ∷ []) T.the-row .own (list δ) (s ∷ []))))
-      (Examine 𝓤 H A mem run .pre (to-examine ν δ))
+  goes-examine : (ν : ℕ) (δ : GName) → ent 𝓤 (sep 𝓤 (A .lft (ν ∷ []) fullShare)
+      (sem 𝓤 H A (ShrSlice (named 0) (ν ∷ []) T.the-row .own (list δ) (s ∷ [])))) (Examine 𝓤 H A mem run .pre (to-examine ν δ))
   goes-examine ν δ =
       qed W (‵ (flft (ν ∷ []) fullShare) ∷ ‵ (ShrSlice (named 0) (ν ∷ []) T.the-row .own (list δ) (s ∷ [])) ∷ []) ∵ nothing ! $ nothing ! $
       owned ! O.the-row (Is O.the-row) (EL.makes O.the-type O′.the-plain 𝓤 H A) w _ w-is $ fjoin ! $
@@ -130,7 +130,8 @@ module _ {M : Type 1} (𝓤 : URA M) (H : Heap 𝓤) (A : Atoms 𝓤) (W : Given
   goes-write : (c : Change) (h : Holding) → Is C.the-row c (change-vals c) → Is T.the-row h (R.vals h) → Fits (length ys) c
       → ent 𝓤 (sep 𝓤 (A .lft κ q) (sem 𝓤 H A (MutSlice (named 0) κ T.the-row .own (list γ) (s ∷ [])))) (Write 𝓤 H A mem run .pre (to-write c h))
   goes-write c h c-is h-is fits =
-      qed W (‵ (flft κ q) ∷ ‵ (MutSlice (named 0) κ T.the-row .own (list γ) (s ∷ [])) ∷ []) ∵ says ! fits $ nothing ! $ move ! (1 ∷ 0 ∷ []) $ join ! $ frame ! $
+      qed W (‵ (flft κ q) ∷ ‵ (MutSlice (named 0) κ T.the-row .own (list γ) (s ∷ [])) ∷ []) ∵ says ! fits $ nothing ! $ move ! (1 ∷ 0 ∷ []) $ join ! $
+      frame ! $
       nothing ! $ owned ! T.the-row (Is T.the-row) (LL.makes T.the-type T′.the-plain 𝓤 H A) h _ h-is $ fjoin ! $
       owned ! C.the-row (Is C.the-row) (LL.makes C.the-type C′.the-plain 𝓤 H A) c _ c-is $ fjoin ! $ move ! (1 ∷ 0 ∷ []) $ fjoin ! $ done !
 
@@ -146,23 +147,26 @@ module _ {M : Type 1} (𝓤 : URA M) (H : Heap 𝓤) (A : Atoms 𝓤) (W : Given
 
   module _ (𝓣 : Tables 𝓤 H) (known-examine : Triple 𝓤 (𝓣 .C #desk·examine) (Examine 𝓤 H A mem run))
       (known-write : Triple 𝓤 (𝓣 .C #desk·write) (Write 𝓤 H A mem run)) where
-    walk : ent 𝓤 (onEntry 𝓤 H A book.signature (κ, tt) (q, tt) x at) (WpFn 𝓤 H (𝓣 .C) (𝓣 .Λ) code.function (s ∷ day-val d ∷ only (order-vals w) ∷ []) Post)
+    walk : ent 𝓤 (onEntry 𝓤 H A book.signature (κ, tt) (q, tt) x at)
+        (WpFn 𝓤 H (𝓣 .C) (𝓣 .Λ) code.function (s ∷ day-val d ∷ only (order-vals w) ∷ []) Post)
     walk =
         let fm = fmOf 𝓤 H (W .laws) 𝓣 in
         qed W ((‵ (flft κ q) ⊛ ‵ ftrue) ∷ ‵ (owns (MutSlice (named 0) κ T.the-row ∷ D.the-row ∷ O.the-row ∷ []) x at) ∷ []) ∵
         enter ! (𝓣 .C) (𝓣 .Λ) code.function (s ∷ day-val d ∷ only (order-vals w) ∷ []) _ $
         alloc1 ! (λ l₀. alloc1 ! (λ l₁. alloc1 ! {τ = D′.mir}
         (λ l₂. alloc1 ! (λ l₃. alloc1 ! {τ = K′.mir} (λ l₄. alloc1 ! {τ = C′.mir}
-        (λ l₅. alloc1 ! {τ = T′.mir} (λ l₆. alloc1 ! (λ l₇. alloc1 ! (λ l₈. alloc1 ! (λ l₉. alloc1 ! (λ l₁₀. alloc1 ! (λ l₁₁. alloc0 ! $ params1 ! $
+        (λ l₅. alloc1 ! {τ = T′.mir} (λ l₆. alloc1 ! (λ l₇. alloc1 ! (λ l₈. alloc1 ! (λ l₉. alloc1 ! (λ l₁₀. alloc1 ! (λ l₁₁. alloc0 ! $
+        params1 ! $
         pass1 ! (init ! 20 refl (tt, (tt, (record { fits = room .0 }, tt)))) $
         pass1 ! (init ! 18 refl (LL.lawful D.the-type D′.the-laws 𝓤 H A W .typed d _ d-is .0)) $
         pass1 ! (init ! 16 refl (EL.lawful O.the-type O′.the-laws 𝓤 H A W tt .typed w _ w-is .0)) $ pass0 ! $
         -- the list is lent as a `&`, for a lifetime ν of the call of `examine`
         assigns ! (addr ! (from ! (fld ! refl (hop ! (look-in ! 20 (sub ! 0 refl (whole !))) (stop !))))) (here !) (init ! 8 refl (tt, tt)) $
-        assigns ! (agg ! (and-then ! (held ! 8 refl) (and-then ! (load ! (from ! (fld ! refl (stop !))) (look-in ! 20 (sub ! 1 refl (whole !)))) (no-more !))))
-        (here !) (init ! 6 refl (tt, (tt, (record { fits = room .0 }, tt)))) $
+        assigns ! (agg ! (and-then ! (held ! 8 refl) (and-then ! (load ! (from ! (fld ! refl (stop !))) (look-in ! 20 (sub ! 1 refl (whole !))))
+        (no-more !)))) (here !) (init ! 6 refl (tt, (tt, (record { fits = room .0 }, tt)))) $
         move ! (25 ∷ []) $ fsplit ! $ move ! (1 ∷ []) $ drop ! $ move ! (25 ∷ []) $ split ! $ lft-new ! tt (λ ν. move ! (3 ∷ 1 ∷ []) $
-        use2 W (later (some (λ (δ : GName). ‵ (ShrSlice (named 0) (ν ∷ []) T.the-row .own (list δ) (s ∷ [])) ⊛ ‵ (LentShared T.the-row κ (ν ∷ []) q γ b o ys))))
+        use2 W (later (some (λ (δ : GName). ‵ (ShrSlice (named 0) (ν ∷ []) T.the-row .own (list δ) (s ∷ [])) ⊛ ‵
+        (LentShared T.the-row κ (ν ∷ []) q γ b o ys))))
         (lends-shared T.the-row κ (ν ∷ []) q γ b o ys 𝓤 H A W (named 0) (named 0)) $ await ! tt $ pick ! (λ δ. split ! $
         move ! (2 ∷ 0 ∷ []) $ use2 W (raw (Examine 𝓤 H A mem run .pre (to-examine ν δ))) (goes-examine ν δ) $
         -- [what `examine` asks; what is kept; true; the locals from 3, the last first]
@@ -184,8 +188,8 @@ module _ {M : Type 1} (𝓤 : URA M) (H : Heap 𝓤) (A : Atoms 𝓤) (W : Given
         assigns ! (of-opd ! (load ! (from ! (fld ! refl (stop !))) (look-in ! 18 (sub ! 2 refl (whole !))))) (here !)
         (init ! 14 refl (LL.lawful T.the-type T′.the-laws 𝓤 H A W .typed (r .put) _ (fields .1 .1 .0) .0)) $
         assigns ! (addr ! (from ! (fld ! refl (hop ! (look-in ! 24 (sub ! 0 refl (whole !))) (stop !))))) (here !) (init ! 6 refl (tt, tt)) $
-        assigns ! (agg ! (and-then ! (held ! 6 refl) (and-then ! (load ! (from ! (fld ! refl (stop !))) (look-in ! 24 (sub ! 1 refl (whole !)))) (no-more !))))
-        (here !) (init ! 4 refl (tt, (tt, (record { fits = room .0 }, tt)))) $
+        assigns ! (agg ! (and-then ! (held ! 6 refl) (and-then ! (load ! (from ! (fld ! refl (stop !))) (look-in ! 24 (sub ! 1 refl (whole !))))
+        (no-more !)))) (here !) (init ! 4 refl (tt, (tt, (record { fits = room .0 }, tt)))) $
         -- and goes to `write`
         move ! (1 ∷ 0 ∷ []) $ use2 W (raw (Write 𝓤 H A mem run .pre (to-write (r .change) (r .put))))
         (goes-write (r .change) (r .put) (fields .1 .0) (fields .1 .1 .0) (examines .fits)) $
@@ -194,16 +198,17 @@ module _ {M : Type 1} (𝓤 : URA M) (H : Heap 𝓤) (A : Atoms 𝓤) (W : Given
         use1 W (later (some (λ (t : Unit {0}). ((‵ (flft κ q) ⊛ ‵ ftrue) ⊛ ‵ (Nothing .own t (z ∷ []))) ⊛ raw
         (ensured 𝓤 H A write′.ended (write′.clauses 𝓤 H A mem run) (κ, tt) (list γ, (r .change, (r .put, tt))) tt t))))
         (id⊢ 𝓤 _) $ await ! tt $ pick ! (λ t. split ! $ move ! (1 ∷ []) $
-        use1 W (some (λ (zs : List Holding × (Unit {0} × (Unit {0} × Unit {0}))). ‵ (lasts write′.ended (κ, tt) (list γ, (r .change, (r .put, tt))) zs) ⊛ raw
-        (fact 𝓤 (zs .0 ≡ changed (r .change) (r .put) ys)))) (id⊢ 𝓤 _) $ pick ! (λ zs.
+        use1 W (some (λ (zs : List Holding × (Unit {0} × (Unit {0} × Unit {0}))). ‵
+        (lasts write′.ended (κ, tt) (list γ, (r .change, (r .put, tt))) zs) ⊛ raw (fact 𝓤 (zs .0 ≡ changed (r .change) (r .put) ys)))) (id⊢ 𝓤 _) $
+        pick ! (λ zs.
         split ! $ move ! (1 ∷ []) $ heard ! (zs .0 ≡ changed (r .change) (r .put) ys) (λ e. fsplit ! $ fsplit ! $ move ! (1 ∷ []) $
         feqL ! (λ l. move ! (2 ∷ []) $ split ! $ move ! (1 ∷ []) $ feqL ! (λ e′.
         -- [the token; the last list; true; true; true; the locals from 5]
         land ! (here !) (init ! 9 refl (subst (λ (y : Val). Holds (hasTy tyUnit y) × WT y) (sym (ap only e′)) (tt, tt))) $
         assigns ! (of-opd ! (load ! (from ! (fld ! refl (stop !))) (look-in ! 19 (sub ! 0 refl (whole !))))) (here !)
         (init ! 27 refl (LL.lawful P.the-type P′.the-laws 𝓤 H A W .typed (r .reply) _ (fields .0) .0)) $
-        returns ! (look ! 27 refl) $ move ! (upward 5 12) $ full ! $ full ! $ full ! $ full ! $ full ! $ full ! $ full ! $ full ! $ full ! $ full ! $ full ! $
-        full ! $ free0 ! $
+        returns ! (look ! 27 refl) $ move ! (upward 5 12) $ full ! $ full ! $ full ! $ full ! $ full ! $ full ! $ full ! $ full ! $ full ! $ full ! $
+        full ! $ full ! $ free0 ! $
         keep ! (0 ∷ 1 ∷ []) $ by ! (exits (r .reply) _ (zs .0) (books ys d w r (zs .0) examines e) l (fields .0))))))))))))))))))))))))
 
 module _ {M : Type 1} (𝓤 : URA M) (H : Heap 𝓤) (A : Atoms 𝓤) (W : Given 𝓤 H A) (mem : Memory → SProp 𝓤) (run : Routine → Fun 𝓤) (𝓣 : Tables 𝓤 H)
@@ -229,5 +234,6 @@ book-spec 𝓤 H 𝓜 𝓖 𝓡 =
     entered 𝓤 H (tripleOf 𝓤 H (𝓖 .A) book.signature (book.spec 𝓤 H (𝓖 .A) (𝓜 .mem) (𝓡 .run)))
     (tables 𝓤 H 𝓜 𝓡 code.env .C) (tables 𝓤 H 𝓜 𝓡 code.env .Λ) #desk·book code.function (code.unfolded 𝓤 H 𝓜 𝓡)
     (meets 𝓤 H (𝓖 .A) (givenOf 𝓤 H 𝓜 𝓖) (𝓜 .mem) (𝓡 .run) (tablesOf 𝓤 H 𝓜 (tables 𝓤 H 𝓜 𝓡 code.env))
-    (cited 𝓤 H (Examine 𝓤 H (𝓖 .A) (𝓜 .mem) (𝓡 .run)) 𝓜 𝓡 code.env #desk·examine examine-def.routine code.calls-desk·examine (examine-thm.met 𝓤 H 𝓜 𝓖 𝓡))
+    (cited 𝓤 H (Examine 𝓤 H (𝓖 .A) (𝓜 .mem) (𝓡 .run)) 𝓜 𝓡 code.env #desk·examine examine-def.routine code.calls-desk·examine
+    (examine-thm.met 𝓤 H 𝓜 𝓖 𝓡))
     (cited 𝓤 H (Write 𝓤 H (𝓖 .A) (𝓜 .mem) (𝓡 .run)) 𝓜 𝓡 code.env #desk·write write-def.routine code.calls-desk·write (write-thm.met 𝓤 H 𝓜 𝓖 𝓡)))

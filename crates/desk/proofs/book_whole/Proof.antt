@@ -1,5 +1,5 @@
--- `book_whole` meets its contract: a walk of its MIR, by hand. A local array is lent as a slice for a lifetime of the call of `book`, and comes back at the
--- list that `book`
+-- `book_whole` meets its contract: a walk of its MIR, by hand. A local array is lent as a slice for a lifetime of the call of `book`, and comes back
+-- at the list that `book`
 -- left; all that is known of `book` is that it meets its contract. Assumes nothing.
 use mathlib.Core.Path.{_≡_, refl, sym, subst, _∙_}
 use mathlib.Core.List.{List, [], _∷_, map}
@@ -18,8 +18,8 @@ use prog.Wp.{Heap, WpFn, Tables}
 use ghost.Atoms.{Atoms, sem}
 use contract.Monad.{Fun, fact}
 use contract.Running.{givenOf, tables, tablesOf}
-use types.Kit.{Given, ‵, raw, _⊛_, some, later, _$_, _∵_, !, qed, by, move, keep, drop, split, join, pick, rewrite, use1, use2, use3, fsplit, fjoin, fpick}
-use types.Kit.{fpack, feqL, feqI, suffices, await, check, given, learn, show, done}
+use types.Kit.{Given, ‵, raw, _⊛_, some, later, _$_, _∵_, !, qed, by, move, keep, drop, split, join, pick, rewrite, use1, use2, use3, fsplit, fjoin}
+use types.Kit.{fpick, fpack, feqL, feqI, suffices, await, check, given, learn, show, done}
 use types.Part.{agg}
 use types.Run.{look, init, lit, addr, of-opd, and-then, no-more, assigns, land, returns, enter, alloc1, alloc0, params1, pass1, pass0, free0}
 use types.SemTy.{cells, Arr}
@@ -95,9 +95,16 @@ as-field (z ∷ zs) (u ∷ us) s = (s .0, as-field zs us (s .1))
 abbrev out-val : List Val → Val → Val
 out-val us v = vstruct (ofList (arrayVal us ∷ v ∷ []))
 
-out-is : (zs : List Holding) (us : List Val) (r : Reply) (v : Val) → length zs ≡ 256 → shadow (each Holding (T.the-row .own) zs us) → Is P.the-row r (v ∷ [])
+out-is : (zs : List Holding) (us : List Val) (r : Reply) (v : Val) → length zs ≡ 256 → shadow (each Holding (T.the-row .own) zs us)
+    → Is P.the-row r (v ∷ [])
     → Is Wh.the-row (record { list = zs; reply = r }) (out-val us v ∷ [])
-out-is zs us r v l s is = ((arrayVal us ∷ [], (v ∷ [], tt)), (refl, ((us, ((refl, length-map zs (T.the-field .into) ∙ l), as-field zs us s)), (is, tt))))
+out-is zs us r v l s is = (
+  (arrayVal us ∷ [], (v ∷ [], tt)),
+  (
+    refl,
+    ((us, ((refl, length-map zs (T.the-field .into) ∙ l), as-field zs us s)), (is, tt)),
+  ),
+)
 
 abbrev stayed : Stays (book-whole.ended .signature .params) (book-whole.ended .kept)
 stayed = (stay-none (λ _. Holdings) yes, (stay-none (λ _. D.the-row) yes, (stay-none (λ _. O.the-row) yes, tt)))
@@ -116,20 +123,21 @@ module _ {M : Type 1} (𝓤 : URA M) (H : Heap 𝓤) (A : Atoms 𝓤) (W : Given
       (W .laws .at-raw fullShare arr l 0 (arr-val ys)) $
       owned ! Holdings (Is Holdings) (array-makes 𝓤 H A W T.the-row (R.makes 𝓤 H A W) 256) ys (arr-val ys ∷ []) is $ move ! (1 ∷ 0 ∷ []) $ fjoin ! $
       fpack ! (List Val) (λ us. fsep (cellAt fullShare (Holdings .mir) us l 0) (Holdings .own ys us)) (arr-val ys ∷ []) $
-      use1 W (‵ (arr-parts (shares T.the-row) 256 .part fullShare ys l 0)) (array-apart 𝓤 H A W T.the-row fullShare tt 256 ys l 0) $ fsplit ! $ drop ! $
-      by ! (whole-in 𝓤 H A W T.the-row ys l 0)
+      use1 W (‵ (arr-parts (shares T.the-row) 256 .part fullShare ys l 0)) (array-apart 𝓤 H A W T.the-row fullShare tt 256 ys l 0) $ fsplit ! $
+      drop ! $ by ! (whole-in 𝓤 H A W T.the-row ys l 0)
 
   abbrev Elements : List Holding → List Val → Type 0
   Elements zs us = (length zs ≡ 256) × shadow (each Holding (T.the-row .own) zs us)
 
   together : (zs : List Holding) (n l : ℕ) → n ≡ 256
-      → ent 𝓤 (sem 𝓤 H A (Arr (lies T.the-row) n .lies zs l 0)) (ex 𝓤 (λ (us : List Val). guard 𝓤 (Elements zs us) (H .at fullShare arr l 0 (arrayVal us))))
+      → ent 𝓤 (sem 𝓤 H A (Arr (lies T.the-row) n .lies zs l 0))
+      (ex 𝓤 (λ (us : List Val). guard 𝓤 (Elements zs us) (H .at fullShare arr l 0 (arrayVal us))))
   unfolding partOf
   together zs n l e =
       qed W (‵ (Arr (lies T.the-row) n .lies zs l 0) ∷ []) ∵ fsplit ! $
       feqL ! (λ k. use1 W (‵ (row T.the-row fullShare zs l 0)) (whole-out 𝓤 H A W T.the-row zs l 0) $
-      feqI ! ℕ (length zs) 256 (k ∙ e) $ fjoin ! $ use1 W (‵ (partAt Holdings fullShare zs l 0)) (array-whole 𝓤 H A W T.the-row fullShare 256 zs l 0) $
-      fpick ! (λ vs. fsplit ! $ move ! (1 ∷ []) $
+      feqI ! ℕ (length zs) 256 (k ∙ e) $ fjoin ! $ use1 W (‵ (partAt Holdings fullShare zs l 0))
+      (array-whole 𝓤 H A W T.the-row fullShare 256 zs l 0) $ fpick ! (λ vs. fsplit ! $ move ! (1 ∷ []) $
       peeks ! Holdings (Is Holdings) (shows 𝓤 H A Holdings) zs vs (λ p. drop ! $
       rewrite ! 0 (λ (ws : List Val). ‵ (cellAt fullShare (Holdings .mir) ws l 0)) (p .1 .0 .0) refl $
       use1 W (‵ (fat fullShare arr l 0 (arrayVal (p .0)))) (W .laws .raw-at fullShare arr l 0 (arrayVal (p .0))) $
@@ -165,8 +173,8 @@ module _ {M : Type 1} (𝓤 : URA M) (H : Heap 𝓤) (A : Atoms 𝓤) (W : Given
   goes-book : (ν : ℕ) (δ : GName) (l : ℕ) → ent 𝓤 (sep 𝓤 (A .lft (ν ∷ []) fullShare)
       (sem 𝓤 H A (MutSlice (named 0) (ν ∷ []) T.the-row .own (list l δ) (sliceVal (l, 0) 256 ∷ [])))) (Book 𝓤 H A mem run .pre (to-book ν δ l))
   goes-book ν δ l =
-      qed W (‵ (flft (ν ∷ []) fullShare) ∷ ‵ (MutSlice (named 0) (ν ∷ []) T.the-row .own (list l δ) (sliceVal (l, 0) 256 ∷ [])) ∷ []) ∵ nothing ! $ nothing ! $
-      owned ! O.the-row (Is O.the-row) (EL.makes O.the-type O′.the-plain 𝓤 H A) w _ w-is $ fjoin ! $
+      qed W (‵ (flft (ν ∷ []) fullShare) ∷ ‵ (MutSlice (named 0) (ν ∷ []) T.the-row .own (list l δ) (sliceVal (l, 0) 256 ∷ [])) ∷ []) ∵ nothing ! $
+      nothing ! $ owned ! O.the-row (Is O.the-row) (EL.makes O.the-type O′.the-plain 𝓤 H A) w _ w-is $ fjoin ! $
       owned ! D.the-row (Is D.the-row) (LL.makes D.the-type D′.the-plain 𝓤 H A) d _ d-is $ fjoin ! $
       move ! (3 ∷ 0 ∷ []) $ fjoin ! $ nothing ! $ move ! (3 ∷ 0 ∷ []) $ join ! $ move ! (0 ∷ 1 ∷ []) $ join ! $ done !
 
@@ -183,19 +191,22 @@ module _ {M : Type 1} (𝓤 : URA M) (H : Heap 𝓤) (A : Atoms 𝓤) (W : Given
       (out-is zs us r v (elements .0) (elements .1) r-is) $ nothing ! $ move ! (0 ∷ 2 ∷ []) $ done !
 
   walk : (𝓣 : Tables 𝓤 H) → Triple 𝓤 (𝓣 .C #desk·book) (Book 𝓤 H A mem run)
-      → ent 𝓤 (onEntry 𝓤 H A book-whole.signature tt tt x at) (WpFn 𝓤 H (𝓣 .C) (𝓣 .Λ) code.function (arr-val ys ∷ day-val d ∷ only (order-vals w) ∷ []) Post)
+      → ent 𝓤 (onEntry 𝓤 H A book-whole.signature tt tt x at)
+      (WpFn 𝓤 H (𝓣 .C) (𝓣 .Λ) code.function (arr-val ys ∷ day-val d ∷ only (order-vals w) ∷ []) Post)
   walk 𝓣 known =
       qed W (‵ ftrue ∷ ‵ (owns (Holdings ∷ D.the-row ∷ O.the-row ∷ []) x at) ∷ []) ∵ enter ! (𝓣 .C) (𝓣 .Λ) code.function
       (arr-val ys ∷ day-val d ∷ only (order-vals w) ∷ []) _ $
       alloc1 ! {τ = Wh′.mir} (λ l₀. alloc1 ! {τ = arr} (λ l₁. alloc1 ! {τ = D′.mir}
       (λ l₂. alloc1 ! {τ = O′.mir} (λ l₃. alloc1 ! {τ = arr}
       (λ l₄. alloc1 ! {τ = P′.mir} (λ l₅. alloc1 ! (λ l₆. alloc1 ! (λ l₇. alloc1 ! {τ = arr} (λ l₈. alloc0 ! $ params1 ! $
-      pass1 ! (init ! 14 refl (typed-at 𝓤 H A W ys _ ys-is .0)) $ pass1 ! (init ! 12 refl (LL.lawful D.the-type D′.the-laws 𝓤 H A W .typed d _ d-is .0)) $
+      pass1 ! (init ! 14 refl (typed-at 𝓤 H A W ys _ ys-is .0)) $ pass1 !
+      (init ! 12 refl (LL.lawful D.the-type D′.the-laws 𝓤 H A W .typed d _ d-is .0)) $
       pass1 ! (init ! 10 refl (EL.lawful O.the-type O′.the-laws 𝓤 H A W tt .typed w _ w-is .0)) $ pass0 ! $
       -- [_8; …; _k at 2 · (8 − k); …; _0 at 16; …; true; what list, day and order own]
       assigns ! (of-opd ! (held ! 14 refl)) (here !) (init ! 8 refl (typed-at 𝓤 H A W ys _ ys-is .0)) $
       assigns ! (addr ! (here !)) (here !) (init ! 4 refl (tt, tt)) $
-      assigns ! (agg ! (and-then ! (held ! 4 refl) (and-then ! (lit ! tt) (no-more !)))) (here !) (init ! 2 refl (tt, (tt, (record { fits = lit< tt }, tt)))) $
+      assigns ! (agg ! (and-then ! (held ! 4 refl) (and-then ! (lit ! tt) (no-more !)))) (here !)
+      (init ! 2 refl (tt, (tt, (record { fits = lit< tt }, tt)))) $
       move ! (19 ∷ []) $ drop ! $ move ! (8 ∷ []) $ use1 W (‵ (cells (lies T.the-row) ys l₄ 0)) (apart 𝓤 H A W ys l₄ ys-is) $
       -- the array is lent for a lifetime ν of the call
       lft-new ! tt (λ ν. move ! (1 ∷ []) $
@@ -212,8 +223,8 @@ module _ {M : Type 1} (𝓤 : URA M) (H : Heap 𝓤) (A : Atoms 𝓤) (W : Given
       (id⊢ 𝓤 _) $ await ! tt $ pick ! (λ r. split ! $ move ! (1 ∷ []) $
       use1 W (some (λ (zs : List Holding × (Unit {0} × (Unit {0} × Unit {0}))). ‵ (lasts book.ended (ν ∷ [], tt) (list l₄ δ, (d, (w, tt))) zs) ⊛ raw
       (fact 𝓤 (Books ys d w (zs .0) r)))) (id⊢ 𝓤 _) $ pick ! (λ zs.
-      split ! $ move ! (1 ∷ []) $ heard ! (Books ys d w (zs .0) r) (λ e. fsplit ! $ fsplit ! $ move ! (1 ∷ []) $ feqL ! (λ k. move ! (2 ∷ []) $ split ! $
-      move ! (1 ∷ []) $
+      split ! $ move ! (1 ∷ []) $ heard ! (Books ys d w (zs .0) r) (λ e. fsplit ! $ fsplit ! $ move ! (1 ∷ []) $ feqL ! (λ k. move ! (2 ∷ []) $
+      split ! $ move ! (1 ∷ []) $
       peeks ! P.the-row (Is P.the-row) (shows 𝓤 H A P.the-row) r (v ∷ []) (λ r-is.
       land ! (here !) (init ! 11 refl (LL.lawful P.the-type P′.the-laws 𝓤 H A W .typed r _ r-is .0)) $ drop ! $
       -- the lifetime is ended, and the array comes back at the last list
@@ -221,13 +232,15 @@ module _ {M : Type 1} (𝓤 : URA M) (H : Heap 𝓤) (A : Atoms 𝓤) (W : Given
       (slice-back 𝓤 H A W T.the-row (ν ∷ []) δ (zs .0) (length ys) l₄ 0) $ await ! tt $
       use1 W (some (λ (us : List Val). given (Elements 𝓤 H A W (zs .0) us) (‵ (fat fullShare arr l₄ 0 (arrayVal us)))))
       (together 𝓤 H A W (zs .0) (length ys) l₄ len) $ pick ! (λ us. learn ! (λ elements.
-      -- [_4; true; true; _8 at 3; …; _7 at 5; …; _6 at 7; …; _5 at 9; …; that _4 ends at 11; _3 at 12; …; _2 at 14; …; _1 at 16; …; room for _0 at 18; …]
-      assigns ! (of-opd ! (held ! 0 refl)) (here !) (init ! 3 refl (typed-at 𝓤 H A W (zs .0) (arrayVal us ∷ []) (us, ((refl, elements .0), elements .1)) .0)) $
+      -- [_4; true; true; _8 at 3; …; _7 at 5; …; _6 at 7; …; _5 at 9; …; that _4 ends at 11; _3 at 12; …; _2 at 14; …; _1 at 16; …; room for _0 at
+      -- 18; …]
+      assigns ! (of-opd ! (held ! 0 refl)) (here !) (init ! 3 refl
+      (typed-at 𝓤 H A W (zs .0) (arrayVal us ∷ []) (us, ((refl, elements .0), elements .1)) .0)) $
       assigns ! (agg ! (and-then ! (held ! 3 refl) (and-then ! (held ! 9 refl) (no-more !)))) (here !)
       (init ! 18 refl (LL.lawful Wh.the-type Wh′.the-laws 𝓤 H A W .typed (record { list = zs .0; reply = r }) _
       (out-is (zs .0) us r v (elements .0) (elements .1) r-is) .0)) $
-      returns ! (look ! 18 refl) $ move ! (18 ∷ 19 ∷ 16 ∷ 17 ∷ 14 ∷ 15 ∷ 12 ∷ 13 ∷ 0 ∷ 11 ∷ 9 ∷ 10 ∷ 7 ∷ 8 ∷ 5 ∷ 6 ∷ 3 ∷ 4 ∷ []) $ full ! $ full ! $ full ! $
-      full ! $ full ! $ full ! $ full ! $ full ! $ full ! $ free0 ! $
+      returns ! (look ! 18 refl) $ move ! (18 ∷ 19 ∷ 16 ∷ 17 ∷ 14 ∷ 15 ∷ 12 ∷ 13 ∷ 0 ∷ 11 ∷ 9 ∷ 10 ∷ 7 ∷ 8 ∷ 5 ∷ 6 ∷ 3 ∷ 4 ∷ []) $ full ! $ full ! $
+      full ! $ full ! $ full ! $ full ! $ full ! $ full ! $ full ! $ free0 ! $
       keep ! (0 ∷ []) $ by ! (exits (zs .0) us r v e elements r-is))))))))))))))))))))
 
 module _ {M : Type 1} (𝓤 : URA M) (H : Heap 𝓤) (A : Atoms 𝓤) (W : Given 𝓤 H A) (mem : Memory → SProp 𝓤) (run : Routine → Fun 𝓤) (𝓣 : Tables 𝓤 H)
@@ -236,7 +249,8 @@ module _ {M : Type 1} (𝓤 : URA M) (H : Heap 𝓤) (A : Atoms 𝓤) (W : Given
   walks = walked 𝓤 H A book-whole.ended stayed (book-whole.clauses 𝓤 H A mem run) (WpFn 𝓤 H (𝓣 .C) (𝓣 .Λ) code.function)
       (λ κs. (array-vals R.vals, (day-vals, (order-vals, tt))))
       (λ κs. (array-tells T.the-row R.vals R.tells 256, (LL.tells D.the-type D′.the-laws, (EL.tells O.the-type O′.the-laws, tt))))
-      (λ κs qs bounds a g are. via 𝓤 _ (fst∗ 𝓤 _ (emp 𝓤)) (walk 𝓤 H A W mem run (a .0) (a .1 .0) (a .1 .1 .0) (are .0) (are .1 .0) (are .1 .1 .0) 𝓣 known))
+      (λ κs qs bounds a g are. via 𝓤 _ (fst∗ 𝓤 _ (emp 𝓤)) (walk 𝓤 H A W mem run (a .0) (a .1 .0) (a .1 .1 .0) (are .0) (are .1 .0)
+      (are .1 .1 .0) 𝓣 known))
 
   meets : Meets 𝓤 H A book-whole.signature (WpFn 𝓤 H (𝓣 .C) (𝓣 .Λ) code.function) (book-whole.spec 𝓤 H A mem run)
   meets = walk-meets 𝓤 H A book-whole.ended stayed W (

@@ -1,5 +1,5 @@
--- `examine` meets its contract: a walk of its MIR, by hand, with no branch and no loop. The slice is copied for each call of `scan`; all that is known of the
--- callees is that
+-- `examine` meets its contract: a walk of its MIR, by hand, with no branch and no loop. The slice is copied for each call of `scan`; all that is
+-- known of the callees is that
 -- they meet their contracts. Assumes nothing.
 use mathlib.Core.Path.{refl, ap, subst}
 use mathlib.Core.List.{List, [], _∷_}
@@ -19,7 +19,8 @@ use contract.Monad.{Fun, fact}
 use contract.Running.{givenOf, tables, tablesOf}
 use types.Kit.{Given, ‵, raw, _⊛_, ⋆, _$_, _∵_, !, qed, by, move, drop, split, join, rewrite, use1, use2, fsplit, fjoin, suffices, frame, done}
 use types.Part.{whole, sub, look-in}
-use types.Run.{look, init, stop, fld, from, load, of-opd, and-then, no-more, assigns, land, returns, enter, alloc1, alloc0, params1, pass1, pass0, free0}
+use types.Run.{look, init, stop, fld, from, load, of-opd, and-then, no-more, assigns, land, returns, enter, alloc1, alloc0, params1, pass1, pass0}
+use types.Run.{free0}
 use sound.WpLaws.{fmOf, WpFn-mono}
 use denote.RattleType.{owns}
 use denote.Laws.{Is}
@@ -146,24 +147,27 @@ module _ {M : Type 1} (𝓤 : URA M) (H : Heap 𝓤) (A : Atoms 𝓤) (W : Given
   goes-scan : (v : View) → Is Vi.the-row v (view-vals v) → Lies n v
       → ent 𝓤 (sep 𝓤 (A .lft κ q) (sem 𝓤 H A (ShrSlice (named 0) κ T.the-row .own list (at .0)))) (See 𝓤 H A mem run .pre (to-scan v))
   goes-scan v v-is lies =
-      qed W (‵ (flft κ q) ∷ ‵ (ShrSlice (named 0) κ T.the-row .own list (at .0)) ∷ []) ∵ says ! lies $ nothing ! $ move ! (1 ∷ 0 ∷ []) $ join ! $ frame ! $
-      nothing ! $ owned ! Vi.the-row (Is Vi.the-row) (LL.makes Vi.the-type Vi′.the-plain 𝓤 H A) v _ v-is $ fjoin ! $ move ! (1 ∷ 0 ∷ []) $ fjoin ! $ done !
+      qed W (‵ (flft κ q) ∷ ‵ (ShrSlice (named 0) κ T.the-row .own list (at .0)) ∷ []) ∵ says ! lies $ nothing ! $ move ! (1 ∷ 0 ∷ []) $ join ! $
+      frame ! $
+      nothing ! $ owned ! Vi.the-row (Is Vi.the-row) (LL.makes Vi.the-type Vi′.the-plain 𝓤 H A) v _ v-is $ fjoin ! $ move ! (1 ∷ 0 ∷ []) $ fjoin ! $
+      done !
 
   abbrev to-again : View → Again 𝓤 H A mem run .Ghost
   to-again v = ((tt, tt, tt, (v, tt), (view-vals v, tt)), tt)
 
   goes-again : (v : View) → Is Vi.the-row v (view-vals v) → ent 𝓤 (sem 𝓤 H A ftrue) (Again 𝓤 H A mem run .pre (to-again v))
-  goes-again v v-is = qed W (‵ ftrue ∷ []) ∵ nothing ! $ nothing ! $ owned ! Vi.the-row (Is Vi.the-row) (LL.makes Vi.the-type Vi′.the-plain 𝓤 H A) v _ v-is $
-      fjoin ! $ move ! (1 ∷ 0 ∷ []) $ join ! $ done !
+  goes-again v v-is = qed W (‵ ftrue ∷ []) ∵ nothing ! $ nothing ! $ owned ! Vi.the-row (Is Vi.the-row)
+      (LL.makes Vi.the-type Vi′.the-plain 𝓤 H A) v _ v-is $ fjoin ! $ move ! (1 ∷ 0 ∷ []) $ join ! $ done !
 
   abbrev to-conclude : View → Scan → Scan → Conclude 𝓤 H A mem run .Ghost
   to-conclude v s m = ((tt, tt, tt, (v, (s, (m, tt))), (view-vals v, (scan-vals s, (scan-vals m, tt)))), tt)
 
-  goes-conclude : (v : View) (s m : Scan) → Is Vi.the-row v (view-vals v) → Is S.the-row s (scan-vals s) → Is S.the-row m (scan-vals m) → Judgeable v s
+  goes-conclude : (v : View) (s m : Scan) → Is Vi.the-row v (view-vals v) → Is S.the-row s (scan-vals s) → Is S.the-row m (scan-vals m)
+      → Judgeable v s
       → ent 𝓤 (sem 𝓤 H A ftrue) (Conclude 𝓤 H A mem run .pre (to-conclude v s m))
   goes-conclude v s m v-is s-is m-is judged =
-      qed W (‵ ftrue ∷ []) ∵ says ! judged $ nothing ! $ owned ! S.the-row (Is S.the-row) (LL.makes S.the-type S′.the-plain 𝓤 H A) m _ m-is $ fjoin ! $
-      owned ! S.the-row (Is S.the-row) (LL.makes S.the-type S′.the-plain 𝓤 H A) s _ s-is $ fjoin ! $
+      qed W (‵ ftrue ∷ []) ∵ says ! judged $ nothing ! $ owned ! S.the-row (Is S.the-row) (LL.makes S.the-type S′.the-plain 𝓤 H A) m _ m-is $
+      fjoin ! $ owned ! S.the-row (Is S.the-row) (LL.makes S.the-type S′.the-plain 𝓤 H A) s _ s-is $ fjoin ! $
       owned ! Vi.the-row (Is Vi.the-row) (LL.makes Vi.the-type Vi′.the-plain 𝓤 H A) v _ v-is $ fjoin ! $ move ! (1 ∷ 0 ∷ []) $ join ! $ done !
 
   exits : (r : Outcome) → Is K.the-row r (outcome-vals r) → Examines ys d w r
@@ -172,12 +176,15 @@ module _ {M : Type 1} (𝓤 : URA M) (H : Heap 𝓤) (A : Atoms 𝓤) (W : Given
       qed W (‵ (flft κ q) ∷ ‵ (ShrSlice (named 0) κ T.the-row .own list (at .0)) ∷ []) ∵
       suffices ! _ (ends-at 𝓤 H A examine.ended stayed (examine.clauses 𝓤 H A mem run) W (((κ, tt), (q, tt), tt, x, at), tt) (outcome-val r) r
       (tt, (tt, (tt, tt))) (tt, (tt, (tt, tt)))) $ says ! e $
-      nothing ! $ move ! (1 ∷ 0 ∷ []) $ join ! $ frame ! $ nothing ! $ owned ! O.the-row (Is O.the-row) (EL.makes O.the-type O′.the-plain 𝓤 H A) w _ w-is $
-      fjoin ! $ owned ! D.the-row (Is D.the-row) (LL.makes D.the-type D′.the-plain 𝓤 H A) d _ d-is $ fjoin ! $
+      nothing ! $ move ! (1 ∷ 0 ∷ []) $ join ! $ frame ! $ nothing ! $ owned ! O.the-row (Is O.the-row)
+      (EL.makes O.the-type O′.the-plain 𝓤 H A) w _ w-is $ fjoin ! $
+      owned ! D.the-row (Is D.the-row) (LL.makes D.the-type D′.the-plain 𝓤 H A) d _ d-is $ fjoin ! $
       move ! (1 ∷ 0 ∷ []) $ fjoin ! $ frame ! $ owned ! K.the-row (Is K.the-row) (LL.makes K.the-type K′.the-plain 𝓤 H A) r _ r-is $ done !
 
-  module _ (𝓣 : Tables 𝓤 H) (known-open : Triple 𝓤 (𝓣 .C #desk·open) (Open 𝓤 H A mem run)) (known-scan : Triple 𝓤 (𝓣 .C #desk·scan) (See 𝓤 H A mem run))
-      (known-again : Triple 𝓤 (𝓣 .C #desk·again) (Again 𝓤 H A mem run)) (known-conclude : Triple 𝓤 (𝓣 .C #desk·conclude) (Conclude 𝓤 H A mem run)) where
+  module _ (𝓣 : Tables 𝓤 H) (known-open : Triple 𝓤 (𝓣 .C #desk·open) (Open 𝓤 H A mem run))
+      (known-scan : Triple 𝓤 (𝓣 .C #desk·scan) (See 𝓤 H A mem run))
+      (known-again : Triple 𝓤 (𝓣 .C #desk·again) (Again 𝓤 H A mem run))
+      (known-conclude : Triple 𝓤 (𝓣 .C #desk·conclude) (Conclude 𝓤 H A mem run)) where
     walk : ent 𝓤 (onEntry 𝓤 H A examine.signature (κ, tt) (q, tt) x at)
         (WpFn 𝓤 H (𝓣 .C) (𝓣 .Λ) code.function (sliceVal (b, o) n ∷ day-val d ∷ only (order-vals w) ∷ []) Post)
     walk =
@@ -217,8 +224,8 @@ module _ {M : Type 1} (𝓤 : URA M) (H : Heap 𝓤) (A : Atoms 𝓤) (W : Given
         rewrite ! 7 (λ (z : Val). ‵ (fat fullShare S′.mir l₆ 0 z)) (ap only (LL.tells S.the-type S′.the-laws s (u₂ ∷ []) s-is)) refl $
         use1 W (raw (Again 𝓤 H A mem run .pre (to-again v))) (goes-again v v-as) $
         calls-at ! fm (Again 𝓤 H A mem run) known-again (to-again v) (and-then ! (held ! 9 refl) (no-more !)) (λ u₃.
-        told ! tt Vi.the-row (ViewsAgain v) (‵ ftrue) (ensured 𝓤 H A again′.ended (again′.clauses 𝓤 H A mem run) tt (v, tt) tt) (again-of 𝓤 H A mem run v) u₃
-        (id⊢ 𝓤 _) (λ v′ later v′-is.
+        told ! tt Vi.the-row (ViewsAgain v) (‵ ftrue) (ensured 𝓤 H A again′.ended (again′.clauses 𝓤 H A mem run) tt (v, tt) tt)
+        (again-of 𝓤 H A mem run v) u₃ (id⊢ 𝓤 _) (λ v′ later v′-is.
         let v′-as = subst (Is Vi.the-row v′) (LL.tells Vi.the-type Vi′.the-laws v′ (u₃ ∷ []) v′-is) v′-is in
         land ! (here !) (init ! 5 refl (LL.lawful Vi.the-type Vi′.the-laws 𝓤 H A W .typed v′ _ v′-is .0)) $
         rewrite ! 5 (λ (z : Val). ‵ (fat fullShare Vi′.mir l₇ 0 z)) (ap only (LL.tells Vi.the-type Vi′.the-laws v′ (u₃ ∷ []) v′-is)) refl $
@@ -227,8 +234,9 @@ module _ {M : Type 1} (𝓤 : URA M) (H : Heap 𝓤) (A : Atoms 𝓤) (W : Given
         (shr-slice-copy 𝓤 H A W (named 0) κ T.the-row .twice list (at .0)) $ split ! $
         move ! (3 ∷ 0 ∷ []) $ use2 W (raw (See 𝓤 H A mem run .pre (to-scan v′))) (goes-scan v′ v′-as (lies-again n v v′ lies later)) $
         calls-at ! fm (See 𝓤 H A mem run) known-scan (to-scan v′) (and-then ! (held ! 17 refl) (and-then ! (held ! 5 refl) (no-more !))) (λ u₄.
-        told ! tt S.the-row (Scans ys v′) (‵ (flft κ q) ⊛ ‵ ftrue) (ensured 𝓤 H A scan′.ended (scan′.clauses 𝓤 H A mem run) (κ, tt) (list, (v′, tt)) tt)
-        (scan-of 𝓤 H A mem run κ list v′) u₄ (id⊢ 𝓤 _) (λ m moved m-is.
+        told ! tt S.the-row (Scans ys v′) (‵ (flft κ q) ⊛ ‵ ftrue)
+        (ensured 𝓤 H A scan′.ended (scan′.clauses 𝓤 H A mem run) (κ, tt) (list, (v′, tt)) tt) (scan-of 𝓤 H A mem run κ list v′) u₄ (id⊢ 𝓤 _)
+        (λ m moved m-is.
         let m-as = subst (Is S.the-row m) (LL.tells S.the-type S′.the-laws m (u₄ ∷ []) m-is) m-is in
         split ! $ move ! (1 ∷ []) $ drop ! $ move ! (2 ∷ 0 ∷ 1 ∷ []) $
         land ! (here !) (init ! 3 refl (LL.lawful S.the-type S′.the-laws 𝓤 H A W .typed m _ m-is .0)) $
@@ -240,7 +248,8 @@ module _ {M : Type 1} (𝓤 : URA M) (H : Heap 𝓤) (A : Atoms 𝓤) (W : Given
         (conclude-of 𝓤 H A mem run v s m) u₅ (id⊢ 𝓤 _) (λ r judges r-is.
         land ! (here !) (init ! 19 refl (LL.lawful K.the-type K′.the-laws 𝓤 H A W .typed r _ r-is .0)) $
         rewrite ! 19 (λ (z : Val). ‵ (fat fullShare K′.mir l₀ 0 z)) (ap only (LL.tells K.the-type K′.the-laws r (u₅ ∷ []) r-is)) refl $
-        drop ! $ returns ! (look ! 18 refl) $ move ! (upward 2 9) $ full ! $ full ! $ full ! $ full ! $ full ! $ full ! $ full ! $ full ! $ full ! $ free0 ! $
+        drop ! $ returns ! (look ! 18 refl) $ move ! (upward 2 9) $ full ! $ full ! $ full ! $ full ! $ full ! $ full ! $ full ! $ full ! $ full ! $
+        free0 ! $
         by ! (exits r (subst (Is K.the-row r) (LL.tells K.the-type K′.the-laws r (u₅ ∷ []) r-is) r-is)
         (examined ys d w v views s scans v′ m r later moved judges)))))))))))))))))))))
 
@@ -271,4 +280,5 @@ examine-spec 𝓤 H 𝓜 𝓖 𝓡 =
     (cited 𝓤 H (Open 𝓤 H (𝓖 .A) (𝓜 .mem) (𝓡 .run)) 𝓜 𝓡 code.env #desk·open open-def.routine code.calls-desk·open (open-thm.met 𝓤 H 𝓜 𝓖 𝓡))
     (cited 𝓤 H (See 𝓤 H (𝓖 .A) (𝓜 .mem) (𝓡 .run)) 𝓜 𝓡 code.env #desk·scan scan-def.routine code.calls-desk·scan (scan-thm.met 𝓤 H 𝓜 𝓖 𝓡))
     (cited 𝓤 H (Again 𝓤 H (𝓖 .A) (𝓜 .mem) (𝓡 .run)) 𝓜 𝓡 code.env #desk·again again-def.routine code.calls-desk·again (again-thm.met 𝓤 H 𝓜 𝓖 𝓡))
-    (cited 𝓤 H (Conclude 𝓤 H (𝓖 .A) (𝓜 .mem) (𝓡 .run)) 𝓜 𝓡 code.env #desk·conclude conclude-def.routine code.calls-desk·conclude (conclude-thm.met 𝓤 H 𝓜 𝓖 𝓡)))
+    (cited 𝓤 H (Conclude 𝓤 H (𝓖 .A) (𝓜 .mem) (𝓡 .run)) 𝓜 𝓡 code.env #desk·conclude conclude-def.routine code.calls-desk·conclude
+    (conclude-thm.met 𝓤 H 𝓜 𝓖 𝓡)))

@@ -1,5 +1,5 @@
--- `scan` meets its contract: a walk of its MIR, by hand. In a turn the slice is looked into, an entry is copied, the slice is shut, and `see` is called; all
--- that is known
+-- `scan` meets its contract: a walk of its MIR, by hand. In a turn the slice is looked into, an entry is copied, the slice is shut, and `see` is
+-- called; all that is known
 -- of the callees is that they meet their contracts. Assumes nothing.
 use mathlib.Core.Path.{_≡_, refl, sym, ap, subst}
 use mathlib.Core.Bool.{Bool, true, false}
@@ -24,10 +24,11 @@ use prog.Wp.{Heap, Env, Out, Wp, WpFn, Tables, afterSeq, afterBlock, afterTurn, 
 use ghost.Atoms.{Atoms, sem}
 use contract.Monad.{Fun, fact}
 use contract.Running.{givenOf, tables, tablesOf}
-use types.Kit.{Given, Item, ‵, raw, _⊛_, ⋆, anyQ, atRet, _$_, _∵_, !, qed, by, move, drop, split, join, rewrite, use1, fsplit, fjoin, suffices, frame, done}
+use types.Kit.{Given, Item, ‵, raw, _⊛_, ⋆, anyQ, atRet, _$_, _∵_, !, qed, by, move, drop, split, join, rewrite, use1, fsplit, fjoin, suffices, frame}
+use types.Kit.{done}
 use types.Part.{whole, sub, look-in}
-use types.Run.{look, look-raw, store, init, forget, stop, hop, fld, from, load, lit, of-opd, bin, and-then, no-more, assigns, assigns-last, land, stays}
-use types.Run.{leaves-loop, Below, again, exec, returns, enter, alloc1, alloc0, params1, pass1, pass0, free1, free0}
+use types.Run.{look, look-raw, store, init, forget, stop, hop, fld, from, load, lit, of-opd, bin, and-then, no-more, assigns, assigns-last, land}
+use types.Run.{stays, leaves-loop, Below, again, exec, returns, enter, alloc1, alloc0, params1, pass1, pass0, free1, free0}
 use types.Share.{arr-parts}
 use sound.WpLaws.{fmOf, WpFn-mono}
 use sound.Loop.{loop-rule}
@@ -149,8 +150,8 @@ module _ {M : Type 1} (𝓤 : URA M) (H : Heap 𝓤) (A : Atoms 𝓤) (W : Given
       qed W (Had []) ∵
       suffices ! _ (ends-at 𝓤 H A scan.ended stayed (scan.clauses 𝓤 H A mem run) W (((κ, tt), (q, tt), tt, x, at), tt) (scan-val s) s (tt, (tt, tt))
       (tt, (tt, tt))) $ says ! seen $
-      nothing ! $ move ! (2 ∷ 0 ∷ []) $ join ! $ frame ! $ nothing ! $ owned ! Vi.the-row (Is Vi.the-row) (LL.makes Vi.the-type Vi′.the-plain 𝓤 H A) v _ v-is $
-      fjoin ! $ move ! (2 ∷ 1 ∷ []) $ fjoin ! $
+      nothing ! $ move ! (2 ∷ 0 ∷ []) $ join ! $ frame ! $ nothing ! $ owned ! Vi.the-row (Is Vi.the-row)
+      (LL.makes Vi.the-type Vi′.the-plain 𝓤 H A) v _ v-is $ fjoin ! $ move ! (2 ∷ 1 ∷ []) $ fjoin ! $
       pureI ! (at-slice T.the-row list (at .0)) (tt, (tt, tt)) (refl, room) $ fjoin ! $ fjoin ! $ frame ! $
       owned ! S.the-row (Is S.the-row) (LL.makes S.the-type S′.the-plain 𝓤 H A) s _ is $ done !
 
@@ -164,7 +165,8 @@ module _ {M : Type 1} (𝓤 : URA M) (H : Heap 𝓤) (A : Atoms 𝓤) (W : Given
   abbrev to-see : Scan → ℕ → Holding → Goes 𝓤 H A mem run .Ghost
   to-see s i h = ((tt, tt, tt, (s, (i, (v, (h, tt)))), (scan-vals s, (vint w64 i ∷ [], (view-vals v, (R.vals h, tt))))), tt)
 
-  goes-see : (t : Turn) (h : Holding) → Is T.the-row h (R.vals h) → t .i < n → ent 𝓤 (sem 𝓤 H A ftrue) (Goes 𝓤 H A mem run .pre (to-see (t .s) (t .i) h))
+  goes-see : (t : Turn) (h : Holding) → Is T.the-row h (R.vals h) → t .i < n
+      → ent 𝓤 (sem 𝓤 H A ftrue) (Goes 𝓤 H A mem run .pre (to-see (t .s) (t .i) h))
   goes-see t h h-is l =
       let few : t .i < 256 = omega (arith, l, lies .few) in
       let there : t .i ≤ length ys = omega (arith, l, lies .within) in
@@ -176,7 +178,8 @@ module _ {M : Type 1} (𝓤 : URA M) (H : Heap 𝓤) (A : Atoms 𝓤) (W : Given
 
   module _ (𝓣 : Tables 𝓤 H) (known : Triple 𝓤 (𝓣 .C #desk·see) (Goes 𝓤 H A mem run)) (l₀ l₁ l₂ l₃ l₄ l₅ l₆ l₇ l₈ l₉ : ℕ) where
     abbrev En : Env 𝓤 H
-    En = (S′.mir, l₀) ∷ (slice imm, l₁) ∷ (Vi′.mir, l₂) ∷ (word, l₃) ∷ (S′.mir, l₄) ∷ (word, l₅) ∷ (tyBool, l₆) ∷ (word, l₇) ∷ (tyPtr, l₈) ∷ (T′.mir, l₉) ∷ []
+    En = (S′.mir, l₀) ∷ (slice imm, l₁) ∷ (Vi′.mir, l₂) ∷ (word, l₃) ∷ (S′.mir, l₄) ∷ (word, l₅) ∷ (tyBool, l₆) ∷ (word, l₇) ∷ (tyPtr, l₈) ∷
+        (T′.mir, l₉) ∷ []
 
     -- the slice, then the locals, the last first: _k stands at 3 + 2 · (9 − k), and that it ends beside it
     abbrev Inv : Turn → List (Item 𝓤)
@@ -198,8 +201,8 @@ module _ {M : Type 1} (𝓤 : URA M) (H : Heap 𝓤) (A : Atoms 𝓤) (W : Given
         rewrite ! 9 (λ (y : Bool). ‵ (fat fullShare tyBool l₆ 0 (vbool y))) e refl $
         leaves-loop ! (held ! 9 refl) $ exec ! (𝓣 .C) (𝓣 .Λ) En mir′.t-5 (atRet En Post) $
         assigns ! (of-opd ! (held ! 13 refl)) (here !) (init ! 21 refl (LL.lawful S.the-type S′.the-laws 𝓤 H A W .typed (t .s) _ (t .is) .0)) $
-        returns ! (look ! 21 refl) $ move ! (upward 3 10) $ full ! $ full ! $ full ! $ full ! $ full ! $ full ! $ full ! $ free1 ! $ free1 ! $ free1 ! $
-        free0 ! $
+        returns ! (look ! 21 refl) $ move ! (upward 3 10) $ full ! $ full ! $ full ! $ full ! $ full ! $ full ! $ full ! $ free1 ! $ free1 ! $
+        free1 ! $ free0 ! $
         by ! (exits (t .s) (t .is) (all t e))
 
     one : (t : Turn) → ltb (t .i) n ≡ true → ent 𝓤 (⋆ 𝓤 H A (Inv t)) (Wp 𝓤 H (𝓣 .C) (𝓣 .Λ) En mir′.turn-1 (Turned t))
@@ -217,7 +220,8 @@ module _ {M : Type 1} (𝓤 : URA M) (H : Heap 𝓤) (A : Atoms 𝓤) (W : Given
         rewrite ! 9 (λ (y : Bool). ‵ (fat fullShare tyBool l₆ 0 (vbool y))) e refl $
         stays ! (held ! 9 refl) $
         assigns ! (bin ! (held ! 11 refl) (lit ! tt) (record { fits = fits })) (here !) (init ! 7 refl (tt, record { fits = fits })) $
-        assigns ! (bin ! (load ! (from ! (fld ! refl (stop !))) (look-in ! 19 (sub ! 0 refl (whole !)))) (held ! 7 refl) tt) (here !) (init ! 5 refl (tt, tt)) $
+        assigns ! (bin ! (load ! (from ! (fld ! refl (stop !))) (look-in ! 19 (sub ! 0 refl (whole !)))) (held ! 7 refl) tt) (here !)
+        (init ! 5 refl (tt, tt)) $
         rewrite ! 5 (λ (p : ℕ). ‵ (fat fullShare tyPtr l₈ 0 (vptr b p))) (sym (place-is 48 o i)) refl $
         looks-slice ! tt T.the-row (Is T.the-row) (shows 𝓤 H A T.the-row) R.vals R.tells (R.copy 𝓤 H A W) ys b o (λ q′.
         elem-out ! T.the-row (Is T.the-row) (shows 𝓤 H A T.the-row) R.vals R.tells q′ ys i blank b o there (λ g.
@@ -233,7 +237,8 @@ module _ {M : Type 1} (𝓤 : URA M) (H : Heap 𝓤) (A : Atoms 𝓤) (W : Given
         let r-is = subst (Is S.the-row r) (LL.tells S.the-type S′.the-laws r (u ∷ []) is) is in
         land ! (here !) (store ! 14 refl (LL.lawful S.the-type S′.the-laws 𝓤 H A W .typed r _ is .0)) $ drop ! $
         rewrite ! 13 (λ (w : Val). ‵ (fat fullShare S′.mir l₄ 0 w)) (ap only (LL.tells S.the-type S′.the-laws r (u ∷ []) is)) refl $
-        assigns-last ! (bin ! (held ! 11 refl) (lit ! tt) (record { fits = next-fits })) (here !) (store ! 11 refl (tt, record { fits = next-fits })) $
+        assigns-last ! (bin ! (held ! 11 refl) (lit ! tt) (record { fits = next-fits })) (here !)
+        (store ! 11 refl (tt, record { fits = next-fits })) $
         rewrite ! 11 (λ (j : ℕ). ‵ (fat fullShare word l₅ 0 (vint w64 j))) (add-one i) refl $
         forget ! 9 refl $ forget ! 7 refl $ forget ! 5 refl $ forget ! 3 refl $ move ! (1 ∷ 0 ∷ []) $
         again ! Less Inv t (record { i = suc i; le = lt; s = r; is = r-is; seen = seen-more v ys i (t .s) r there (t .seen) got }) sooner))))
@@ -249,7 +254,8 @@ module _ {M : Type 1} (𝓤 : URA M) (H : Heap 𝓤) (A : Atoms 𝓤) (W : Given
     loops = loop-rule 𝓤 H (W .laws) 𝓣 Less ends En mir′.turn-1 Left (λ t. ⋆ 𝓤 H A (Inv t)) turn
 
   walk : (𝓣 : Tables 𝓤 H) → Triple 𝓤 (𝓣 .C #booking·unseen) (Begins 𝓤 H A mem run) → Triple 𝓤 (𝓣 .C #desk·see) (Goes 𝓤 H A mem run)
-      → ent 𝓤 (onEntry 𝓤 H A scan.signature (κ, tt) (q, tt) x at) (WpFn 𝓤 H (𝓣 .C) (𝓣 .Λ) code.function (sliceVal (b, o) (length ys) ∷ view-val v ∷ []) Post)
+      → ent 𝓤 (onEntry 𝓤 H A scan.signature (κ, tt) (q, tt) x at)
+      (WpFn 𝓤 H (𝓣 .C) (𝓣 .Λ) code.function (sliceVal (b, o) (length ys) ∷ view-val v ∷ []) Post)
   walk 𝓣 known-unseen known-see =
       qed W ((‵ (flft κ q) ⊛ ‵ ftrue) ∷ ‵ (owns (ShrSlice (named 0) κ T.the-row ∷ Vi.the-row ∷ []) x at) ∷ []) ∵ enter ! (𝓣 .C) (𝓣 .Λ) code.function
       (sliceVal (b, o) (length ys) ∷ view-val v ∷ []) _ $
@@ -299,5 +305,6 @@ scan-spec 𝓤 H 𝓜 𝓖 𝓡 =
     entered 𝓤 H (tripleOf 𝓤 H (𝓖 .A) scan.signature (scan.spec 𝓤 H (𝓖 .A) (𝓜 .mem) (𝓡 .run)))
     (tables 𝓤 H 𝓜 𝓡 code.env .C) (tables 𝓤 H 𝓜 𝓡 code.env .Λ) #desk·scan code.function (code.unfolded 𝓤 H 𝓜 𝓡)
     (meets 𝓤 H (𝓖 .A) (givenOf 𝓤 H 𝓜 𝓖) (𝓜 .mem) (𝓡 .run) (tablesOf 𝓤 H 𝓜 (tables 𝓤 H 𝓜 𝓡 code.env))
-    (cited 𝓤 H (Begins 𝓤 H (𝓖 .A) (𝓜 .mem) (𝓡 .run)) 𝓜 𝓡 code.env #booking·unseen unseen-def.routine code.calls-booking·unseen (unseen-thm.met 𝓤 H 𝓜 𝓖 𝓡))
+    (cited 𝓤 H (Begins 𝓤 H (𝓖 .A) (𝓜 .mem) (𝓡 .run)) 𝓜 𝓡 code.env #booking·unseen unseen-def.routine code.calls-booking·unseen
+    (unseen-thm.met 𝓤 H 𝓜 𝓖 𝓡))
     (cited 𝓤 H (Goes 𝓤 H (𝓖 .A) (𝓜 .mem) (𝓡 .run)) 𝓜 𝓡 code.env #desk·see see-def.routine code.calls-desk·see (see-thm.met 𝓤 H 𝓜 𝓖 𝓡)))

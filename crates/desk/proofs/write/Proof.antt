@@ -1,5 +1,5 @@
--- `write` meets its contract: a walk of its MIR, by hand. In a turn the borrow is opened, an entry is read, written one place up, and the borrow is closed;
--- after the
+-- `write` meets its contract: a walk of its MIR, by hand. In a turn the borrow is opened, an entry is read, written one place up, and the borrow is
+-- closed; after the
 -- last turn it is opened once more where the list has the place. Assumes nothing.
 use mathlib.Core.Path.{_≡_, refl, sym, ap, subst, _∙_}
 use mathlib.Core.Bool.{Bool, true, false}
@@ -25,10 +25,11 @@ use prog.Wp.{Heap, Env, Out, Wp, WpFn, Tables, afterSeq, afterBlock, afterTurn, 
 use ghost.Atoms.{Atoms}
 use contract.Monad.{Fun}
 use contract.Running.{givenOf, tables, tablesOf}
-use types.Kit.{Given, Item, ‵, _⊛_, ⋆, anyQ, atRet, _$_, _∵_, !, qed, by, move, drop, split, join, rewrite, fsplit, fjoin, feqI, suffices, frame, done}
+use types.Kit.{Given, Item, ‵, _⊛_, ⋆, anyQ, atRet, _$_, _∵_, !, qed, by, move, drop, split, join, rewrite, fsplit, fjoin, feqI, suffices, frame}
+use types.Kit.{done}
 use types.Part.{whole, sub, look-in}
-use types.Run.{look, look-raw, store, store-raw, init, forget, stop, hop, fld, from, load, lit, unit-lit, of-opd, bin, assigns, assigns-last, first, branches}
-use types.Run.{skips, stays, leaves-loop, Below, again, exec, returns, enter, alloc1, alloc0, params1, pass1, pass0, free1, free0}
+use types.Run.{look, look-raw, store, store-raw, init, forget, stop, hop, fld, from, load, lit, unit-lit, of-opd, bin, assigns, assigns-last, first}
+use types.Run.{branches, skips, stays, leaves-loop, Below, again, exec, returns, enter, alloc1, alloc0, params1, pass1, pass0, free1, free0}
 use sound.WpLaws.{WpFn-mono}
 use sound.Loop.{loop-rule}
 use denote.RattleType.{owns}
@@ -141,16 +142,16 @@ module _ {M : Type 1} (𝓤 : URA M) (H : Heap 𝓤) (A : Atoms 𝓤) (W : Given
       suffices ! _ (ends-at 𝓤 H A write.ended stayed (write.clauses 𝓤 H A mem run) W (((κ, tt), (q, tt), tt, x, at), tt) vunit tt (l, (tt, (tt, tt)))
       (k, (tt, (tt, tt)))) $ says ! e $
       nothing ! $ owned ! T.the-row (Is T.the-row) (R.makes 𝓤 H A W) h _ h-is $ fjoin ! $
-      owned ! C.the-row (Is C.the-row) (LL.makes C.the-type C′.the-plain 𝓤 H A) c _ c-is $ fjoin ! $ nothing ! $ move ! (4 ∷ 0 ∷ []) $ join ! $ frame ! $
-      move ! (1 ∷ 2 ∷ []) $ fjoin ! $
-      pureI ! (at-slice T.the-row (list l) (at .0)) (tt, (tt, tt)) (ap (λ (m : ℕ). sliceVal (b, o) m ∷ []) (sym k), subst (Room T.the-row) (sym k) room) $
-      fjoin ! $ fjoin ! $ frame ! $
+      owned ! C.the-row (Is C.the-row) (LL.makes C.the-type C′.the-plain 𝓤 H A) c _ c-is $ fjoin ! $ nothing ! $ move ! (4 ∷ 0 ∷ []) $ join ! $
+      frame ! $ move ! (1 ∷ 2 ∷ []) $ fjoin ! $
+      pureI ! (at-slice T.the-row (list l) (at .0)) (tt, (tt, tt))
+      (ap (λ (m : ℕ). sliceVal (b, o) m ∷ []) (sym k), subst (Room T.the-row) (sym k) room) $ fjoin ! $ fjoin ! $ frame ! $
       feqI ! (List Val) (vunit ∷ []) (vunit ∷ []) refl $ done !
 
   module _ (𝓣 : Tables 𝓤 H) (l₀ l₁ l₂ l₃ l₄ l₅ l₆ l₇ l₈ l₉ l₁₀ l₁₁ l₁₂ l₁₃ l₁₄ l₁₅ l₁₆ l₁₇ : ℕ) where
     abbrev En : Env 𝓤 H
-    En = (tyUnit, l₀) ∷ (slice mut, l₁) ∷ (C′.mir, l₂) ∷ (T′.mir, l₃) ∷ (word, l₄) ∷ (word, l₅) ∷ (word, l₆) ∷ (tyBool, l₇) ∷ (word, l₈) ∷ (tyPtr, l₉) ∷
-        (T′.mir, l₁₀) ∷ (word, l₁₁) ∷ (word, l₁₂) ∷ (tyPtr, l₁₃) ∷ (word, l₁₄) ∷ (tyBool, l₁₅) ∷ (word, l₁₆) ∷ (tyPtr, l₁₇) ∷ []
+    En = (tyUnit, l₀) ∷ (slice mut, l₁) ∷ (C′.mir, l₂) ∷ (T′.mir, l₃) ∷ (word, l₄) ∷ (word, l₅) ∷ (word, l₆) ∷ (tyBool, l₇) ∷ (word, l₈) ∷
+        (tyPtr, l₉) ∷ (T′.mir, l₁₀) ∷ (word, l₁₁) ∷ (word, l₁₂) ∷ (tyPtr, l₁₃) ∷ (word, l₁₄) ∷ (tyBool, l₁₅) ∷ (word, l₁₆) ∷ (tyPtr, l₁₇) ∷ []
 
     -- the borrow at a turn's list, then the locals, the last first: _k stands at 3 + 2 · (17 − k), and that it ends beside it
     abbrev Inv : Turn → List (Item 𝓤)
@@ -158,7 +159,8 @@ module _ {M : Type 1} (𝓤 : URA M) (H : Heap 𝓤) (A : Atoms 𝓤) (W : Given
         (free word l₁₄ (free tyPtr l₁₃ (free word l₁₂ (free word l₁₁
         (free T′.mir l₁₀ (free tyPtr l₉ (free word l₈ (free tyBool l₇
         (free word l₆ (holds word l₅ (vint w64 (t .i)) (holds word l₄ (vint w64 (c .end))
-        (holds T′.mir l₃ (R.val h) (holds C′.mir l₂ (change-val c) (holds (slice mut) l₁ (sliceVal (b, o) (length ys)) (free tyUnit l₀ []))))))))))))))))))
+        (holds T′.mir l₃ (R.val h) (holds C′.mir l₂ (change-val c)
+        (holds (slice mut) l₁ (sliceVal (b, o) (length ys)) (free tyUnit l₀ []))))))))))))))))))
 
     -- the same after the last turn
     abbrev Over : Turn → Bool → List Holding → List (Item 𝓤)
@@ -167,7 +169,8 @@ module _ {M : Type 1} (𝓤 : URA M) (H : Heap 𝓤) (A : Atoms 𝓤) (W : Given
         (free word l₁₂ (free word l₁₁ (free T′.mir l₁₀ (free tyPtr l₉
         (free word l₈ (holds tyBool l₇ (vbool false) (holds word l₆ (vint w64 (c .at))
         (holds word l₅ (vint w64 (t .i)) (holds word l₄ (vint w64 (c .end))
-        (holds T′.mir l₃ (R.val h) (holds C′.mir l₂ (change-val c) (holds (slice mut) l₁ (sliceVal (b, o) (length ys)) (free tyUnit l₀ []))))))))))))))))))
+        (holds T′.mir l₃ (R.val h) (holds C′.mir l₂ (change-val c)
+        (holds (slice mut) l₁ (sliceVal (b, o) (length ys)) (free tyUnit l₀ []))))))))))))))))))
 
     abbrev Left : Out → SProp 𝓤
     Left = afterBlock 𝓤 H (afterSeq 𝓤 H (Wp 𝓤 H (𝓣 .C) (𝓣 .Λ) En mir′.t-4 (atReturn 𝓤 H En Post)) (atReturn 𝓤 H En Post))
@@ -180,8 +183,8 @@ module _ {M : Type 1} (𝓤 : URA M) (H : Heap 𝓤) (A : Atoms 𝓤) (W : Given
     leave t y l k e =
         qed W (Over t y l) ∵ exec ! (𝓣 .C) (𝓣 .Λ) En mir′.t-8 (atRet En Post) $
         assigns ! (of-opd ! (unit-lit !)) (here !) (init ! 37 refl (tt, tt)) $
-        returns ! (look ! 37 refl) $ move ! (upward 3 18) $ full ! $ full ! $ full ! $ full ! $ full ! $ full ! $ full ! $ full ! $ free1 ! $ free1 ! $
-        free1 ! $ free1 ! $ free1 ! $ free1 ! $ full ! $ full ! $ free1 ! $ free1 ! $ free0 ! $
+        returns ! (look ! 37 refl) $ move ! (upward 3 18) $ full ! $ full ! $ full ! $ full ! $ full ! $ full ! $ full ! $ full ! $ free1 ! $
+        free1 ! $ free1 ! $ free1 ! $ free1 ! $ free1 ! $ full ! $ full ! $ free1 ! $ free1 ! $ free0 ! $
         by ! (exits l k e)
 
     last : (t : Turn) → ltb (t .i) (c .end) ≡ false → ent 𝓤 (⋆ 𝓤 H A (Inv t)) (Wp 𝓤 H (𝓣 .C) (𝓣 .Λ) En mir′.turn-1 (Turned t))
@@ -202,7 +205,8 @@ module _ {M : Type 1} (𝓤 : URA M) (H : Heap 𝓤) (A : Atoms 𝓤) (W : Given
         let there′ : c .at < length (t .l) = subst (λ (m : ℕ). c .at < m) (sym (t .same)) there in
         let fits = R.fits (length ys) (c .at) room there in
         assigns ! (bin ! (held ! 25 refl) (lit ! tt) (record { fits = fits })) (here !) (init ! 5 refl (tt, record { fits = fits })) $
-        assigns ! (bin ! (load ! (from ! (fld ! refl (stop !))) (look-in ! 35 (sub ! 0 refl (whole !)))) (held ! 5 refl) tt) (here !) (init ! 3 refl (tt, tt)) $
+        assigns ! (bin ! (load ! (from ! (fld ! refl (stop !))) (look-in ! 35 (sub ! 0 refl (whole !)))) (held ! 5 refl) tt) (here !)
+        (init ! 3 refl (tt, tt)) $
         rewrite ! 3 (λ (p : ℕ). ‵ (fat fullShare tyPtr l₁₇ 0 (vptr b p))) (sym (place-is 48 o (c .at))) refl $
         opens-slice ! tt T.the-row (t .l) b o $ elem-out ! T.the-row (Is T.the-row) (shows 𝓤 H A T.the-row) R.vals R.tells fullShare (t .l)
         (c .at) blank b o there′ (λ _.
@@ -239,10 +243,11 @@ module _ {M : Type 1} (𝓤 : URA M) (H : Heap 𝓤) (A : Atoms 𝓤) (W : Given
         assigns ! (bin ! (load ! (from ! (fld ! refl (stop !))) (look-in ! 35 (sub ! 0 refl (whole !)))) (held ! 21 refl) tt) (here !)
         (init ! 19 refl (tt, tt)) $
         rewrite ! 19 (λ (p : ℕ). ‵ (fat fullShare tyPtr l₉ 0 (vptr b p))) (sym (place-is 48 o i)) refl $
-        opens-slice ! tt T.the-row (t .l) b o $ elem-out ! T.the-row (Is T.the-row) (shows 𝓤 H A T.the-row) R.vals R.tells fullShare (t .l) i blank b o there
-        (λ g.
+        opens-slice ! tt T.the-row (t .l) b o $ elem-out ! T.the-row (Is T.the-row) (shows 𝓤 H A T.the-row) R.vals R.tells fullShare
+        (t .l) i blank b o there (λ g.
         -- [list[i]; what it owns; the others; the open borrow; obs; auth; the locals from 6]
-        assigns ! (of-opd ! (load ! (from ! (hop ! (look ! 22 refl) (stop !))) (look-raw ! 0 refl))) (here !) (init ! 20 refl (R.typed 𝓤 H A W elem g)) $
+        assigns ! (of-opd ! (load ! (from ! (hop ! (look ! 22 refl) (stop !))) (look-raw ! 0 refl))) (here !)
+        (init ! 20 refl (R.typed 𝓤 H A W elem g)) $
         elem-back ! T.the-row fullShare (t .l) i blank (R.vals elem) b o there $
         -- [the row; the open borrow; obs; auth; the locals from 4]
         assigns ! (bin ! (held ! 28 refl) (lit ! tt) positive) (here !) (init ! 16 refl (tt, record { fits = omega (arith, next-fits) })) $
@@ -255,7 +260,8 @@ module _ {M : Type 1} (𝓤 : URA M) (H : Heap 𝓤) (A : Atoms 𝓤) (W : Given
         move ! (1 ∷ []) $ drop ! $ owned ! T.the-row (Is T.the-row) (R.makes 𝓤 H A W) elem _ g $ move ! (1 ∷ 0 ∷ []) $
         elem-put ! T.the-row fullShare (t .l) (i - 1) elem (R.vals elem) b o above $
         closes-slice ! tt T.the-row (t .l) (set (t .l) (i - 1) elem) (length-set (t .l) (i - 1) elem) b o $
-        assigns-last ! (bin ! (held ! 27 refl) (lit ! tt) (record { fits = next-fits })) (here !) (store ! 27 refl (tt, record { fits = next-fits })) $
+        assigns-last ! (bin ! (held ! 27 refl) (lit ! tt) (record { fits = next-fits })) (here !)
+        (store ! 27 refl (tt, record { fits = next-fits })) $
         rewrite ! 27 (λ (j : ℕ). ‵ (fat fullShare word l₅ 0 (vint w64 j))) (add-one i) refl $
         forget ! 23 refl $ forget ! 21 refl $ forget ! 19 refl $ forget ! 17 refl $ forget ! 15 refl $ forget ! 13 refl $ forget ! 11 refl $
         again ! Less Inv t (next t lt) sooner))
@@ -273,15 +279,16 @@ module _ {M : Type 1} (𝓤 : URA M) (H : Heap 𝓤) (A : Atoms 𝓤) (W : Given
   walk : (𝓣 : Tables 𝓤 H) → ent 𝓤 (onEntry 𝓤 H A write.signature (κ, tt) (q, tt) x at)
       (WpFn 𝓤 H (𝓣 .C) (𝓣 .Λ) code.function (sliceVal (b, o) (length ys) ∷ change-val c ∷ R.val h ∷ []) Post)
   walk 𝓣 =
-      qed W ((‵ (flft κ q) ⊛ ‵ ftrue) ∷ ‵ (owns (MutSlice (named 0) κ T.the-row ∷ C.the-row ∷ T.the-row ∷ []) x at) ∷ []) ∵ enter ! (𝓣 .C) (𝓣 .Λ) code.function
-      (sliceVal (b, o) (length ys) ∷ change-val c ∷ R.val h ∷ []) _ $
+      qed W ((‵ (flft κ q) ⊛ ‵ ftrue) ∷ ‵ (owns (MutSlice (named 0) κ T.the-row ∷ C.the-row ∷ T.the-row ∷ []) x at) ∷ []) ∵ enter ! (𝓣 .C)
+      (𝓣 .Λ) code.function (sliceVal (b, o) (length ys) ∷ change-val c ∷ R.val h ∷ []) _ $
       alloc1 ! (λ l₀. alloc1 ! {τ = slice mut} (λ l₁. alloc1 ! {τ = C′.mir}
       (λ l₂. alloc1 ! {τ = T′.mir} (λ l₃. alloc1 ! (λ l₄. alloc1 !
       (λ l₅. alloc1 ! (λ l₆. alloc1 ! (λ l₇. alloc1 ! (λ l₈. alloc1 !
       (λ l₉. alloc1 ! {τ = T′.mir} (λ l₁₀. alloc1 ! (λ l₁₁. alloc1 !
       (λ l₁₂. alloc1 ! (λ l₁₃. alloc1 ! (λ l₁₄. alloc1 ! (λ l₁₅. alloc1 ! (λ l₁₆. alloc1 ! (λ l₁₇. alloc0 ! $ params1 ! $
       pass1 ! (init ! 32 refl (tt, (tt, (record { fits = room .0 }, tt)))) $
-      pass1 ! (init ! 30 refl (LL.lawful C.the-type C′.the-laws 𝓤 H A W .typed c _ c-is .0)) $ pass1 ! (init ! 28 refl (R.typed 𝓤 H A W h h-is)) $ pass0 ! $
+      pass1 ! (init ! 30 refl (LL.lawful C.the-type C′.the-laws 𝓤 H A W .typed c _ c-is .0)) $ pass1 ! (init ! 28 refl (R.typed 𝓤 H A W h h-is)) $
+      pass0 ! $
       assigns ! (of-opd ! (load ! (from ! (fld ! refl (stop !))) (look-in ! 30 (sub ! 1 refl (whole !))))) (here !)
       (init ! 26 refl (tt, record { fits = end-fits })) $
       assigns ! (of-opd ! (load ! (from ! (fld ! refl (stop !))) (look-in ! 30 (sub ! 0 refl (whole !))))) (here !)
@@ -294,7 +301,8 @@ module _ {M : Type 1} (𝓤 : URA M) (H : Heap 𝓤) (A : Atoms 𝓤) (W : Given
 module _ {M : Type 1} (𝓤 : URA M) (H : Heap 𝓤) (A : Atoms 𝓤) (W : Given 𝓤 H A) (mem : Memory → SProp 𝓤) (run : Routine → Fun 𝓤) (𝓣 : Tables 𝓤 H) where
   walks : Walks 𝓤 H A write.ended stayed (WpFn 𝓤 H (𝓣 .C) (𝓣 .Λ) code.function) (write.clauses 𝓤 H A mem run)
   walks = walked 𝓤 H A write.ended stayed (write.clauses 𝓤 H A mem run) (WpFn 𝓤 H (𝓣 .C) (𝓣 .Λ) code.function)
-      (λ κs. (slice-vals, (change-vals, (R.vals, tt)))) (λ κs. (mut-slice-tells (named 0) (κs .0) T.the-row, (LL.tells C.the-type C′.the-laws, (R.tells, tt))))
+      (λ κs. (slice-vals, (change-vals, (R.vals, tt)))) (λ κs.
+      (mut-slice-tells (named 0) (κs .0) T.the-row, (LL.tells C.the-type C′.the-laws, (R.tells, tt))))
       (λ κs qs bounds a g are. needs 𝓤 (Fits (length (a .0 .now)) (a .1 .0)) _ (λ fit.
       walk 𝓤 H A W mem run (κs .0) (qs .0) (a .0 .ptr .0) (a .0 .ptr .1) (a .0 .name) (a .0 .now) (a .1 .0) (a .1 .1 .0) (are .0 .0 .1) (are .1 .0)
       (are .1 .1 .0) fit 𝓣))
