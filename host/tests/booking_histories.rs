@@ -138,11 +138,10 @@ fn the_histories_of_the_program() {
         from_empty += usize::from(ledgered);
         let mut ledger = None;
         for step in &history.steps {
-            let (rows, day) = (desk.holdings(), desk.day());
+            let (rows, day) = (desk.places(), desk.day());
             let printed = desk.step(step);
-            if let Step::New(head, room) = step {
-                assert!(*room <= PLACES as u64, "{}", history.title);
-                ledger = Some(Ledger::new(*head, *room as usize));
+            if let Step::New(head) = step {
+                ledger = Some(Ledger::new(*head, PLACES));
             }
             let Step::Order(order) = step else { continue };
             let mut book = LentBook::stored(day.head, &rows, day.totals, rows.len());
@@ -162,7 +161,7 @@ fn the_histories_of_the_program() {
                 assert_eq!((left.number, figures.0), wanted, "{what}: {order:?}");
                 let count = desk.day().count as usize;
                 assert_eq!(
-                    desk.holdings()[..count],
+                    desk.places()[..count],
                     ledger.holdings(),
                     "{what}: {order:?}"
                 );

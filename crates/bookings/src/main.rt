@@ -196,15 +196,9 @@ fn give(book: Book, order: Order) -> Book {
     let list = whole.list;
     let reply = whole.reply;
     let day = reply.day;
+    let finding = reply.finding;
     let totals = day.totals;
-    print_reply(reply.finding, totals);
-    Book { list, day }
-}
-
-// An empty book, in the same list, and its line.
-fn start(book: Book, day: Day) -> Book {
-    print_head(day);
-    let list = book.list;
+    print_reply(finding, totals);
     Book { list, day }
 }
 
@@ -223,6 +217,12 @@ fn put(book: Book, h: Holding, place: u64) -> Book {
 fn store(book: Book, day: Day) -> Book {
     let list = book.list;
     Book { list, day }
+}
+
+// An empty book in the same list, and its line.
+fn start(book: Book, day: Day) -> Book {
+    print_head(day);
+    store(book, day)
 }
 
 // One step.
