@@ -170,12 +170,12 @@ fn the_histories_of_the_program() {
         }
     }
     assert!(
-        from_empty >= 30,
+        from_empty >= 25,
         "{from_empty} histories from an empty book"
     );
-    orders.has_seen(&[0, 2, 3, 6, 7, 8, 24, 25, 26, 27], 10);
-    // A record of cases has no side, kind or currency that is none.
-    for number in [4, 5, 23] {
+    orders.has_seen(&[0, 3, 6, 7, 8, 24, 25, 26, 27], 10);
+    // The list has a place for every holding, and no holding of it a side, kind or currency that is none.
+    for number in [2, 4, 5, 23] {
         assert_eq!(orders.seen[number], 0, "{number}");
     }
     let count: usize = orders.seen.iter().sum();

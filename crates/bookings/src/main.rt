@@ -1,5 +1,5 @@
 // Runs the histories of orders on standard input: each order is given to a book in a list of 256 holdings, and what it gets is printed.
-// A step of a history is ten eight-byte little-endian numbers: its sort, its own numbers, and zeros. A line is decimal numbers after commas.
+// A step of a history is ten eight-byte little-endian numbers: its sort, its own numbers, and zeros. Lines are decimal numbers with commas.
 use daybook::Day;
 use daybook::Finding;
 use desk::Order;
@@ -84,7 +84,7 @@ fn rating_of(rating: u64) -> Rating {
     }
 }
 
-// The holding of the numbers 1 to 7 of a step.
+// The holding of the numbers 1 to 7 of a step; of the maturity's bits the lowest 32.
 fn holding_of(step: &[u8; 80]) -> Holding {
     let side = side_of(words::word(step, 1));
     let kind = kind_of(words::word(step, 2));
@@ -225,7 +225,7 @@ fn start(book: Book, day: Day) -> Book {
     store(book, day)
 }
 
-// One step.
+// One step: an empty book, a trade added or taken, a move, a holding written to a place, something else stored, or the book printed.
 fn run(book: Book, step: &[u8; 80]) -> Book {
     let sort = words::word(step, 0);
     match sort {

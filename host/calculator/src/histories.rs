@@ -176,8 +176,8 @@ impl Desk {
                 String::new()
             }
             Step::Show => {
-                let places = PLACES.min(self.day.count as usize + 1);
-                self.places()[..places].iter().map(shown).collect()
+                let shows = (self.day.count as usize).saturating_add(1);
+                self.places().iter().take(shows).map(shown).collect()
             }
         }
     }
