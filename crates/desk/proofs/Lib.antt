@@ -1,4 +1,6 @@
 pub mod Moving
+pub mod Mapped
+pub mod Apart
 pub mod Seen
 pub mod Judging
 pub mod Booked

@@ -3,6 +3,7 @@ use booking::Change;
 use booking::Opening;
 use booking::Scan;
 use daybook::Day;
+use daybook::Finding;
 use daybook::Reply;
 use holding::Currency;
 use holding::Holding;
@@ -14,7 +15,7 @@ use holding::Side;
 ghost use mathlib.Core.Path.{_≡_};
 ghost use lib.ListN.{length};
 ghost use Rattle.booking.specs.Seeing.{Countable, Fits, changed};
-ghost use Rattle.desk.specs.Desk.{orderOf, putOf, Views, ViewsAgain, Lies, Sees, Scans, Judgeable, Judges, Examines, Books};
+ghost use Rattle.desk.specs.Desk.{orderOf, putOf, changeOf, Views, ViewsAgain, Lies, Sees, Scans, Judgeable, Judges, Examines, Books};
 
 // An order to a book of records: a holding is added or taken, or the book moves to a later date.
 pub enum Order {
@@ -80,6 +81,29 @@ fn put_of(order: Order, value: u64) -> Holding
     }
 }
 
+// The change of an accepted order; a refused one has none.
+fn change_of(room: usize, out: booking::Outcome) -> Change
+    ensures { λ r. ⌜ r ≡ changeOf room out ⌝ }
+{
+    let change = out.change;
+    let reply = out.reply;
+    let finding = reply.finding;
+    match finding {
+        Finding::Accepted(_) => return change,
+        Finding::Refused(number, _) => {
+            if number == 0 {
+                return change;
+            }
+            return Change {
+                first: 1,
+                end: 0,
+                at: room,
+                value: 0,
+            };
+        }
+    }
+}
+
 // An order to a book in a list of so many entries, before they are seen.
 fn open(day: Day, room: usize, order: Order) -> View
     ensures { λ r. ⌜ Views day room order r ⌝ }
@@ -97,7 +121,7 @@ fn open(day: Day, room: usize, order: Order) -> View
 
 // One holding more is seen, after i others.
 fn see(scan: Scan, i: usize, view: View, h: Holding) -> Scan
-    requires { ⌜ Countable i scan ⌝ }
+    requires { ⌜ Countable (view .opening .account) i scan ⌝ }
     ensures { λ r. ⌜ Sees view scan i h r ⌝ }
 {
     let opening = view.opening;
@@ -143,7 +167,7 @@ fn conclude(view: View, seen: Scan, moved: Scan) -> Outcome
     let o = order_of(order);
     let out = booking::conclude(day, view.room, o, opening, seen, moved);
     let reply = out.reply;
-    let change = out.change;
+    let change = change_of(view.room, out);
     let put = put_of(order, change.value);
     Outcome {
         reply,

@@ -176,7 +176,7 @@ module _ {M : Type 1} (𝓤 : URA M) (H : Heap 𝓤) (A : Atoms 𝓤) (W : Given
         land ! (from ! (stop !)) (init ! 9 refl (subst (λ (y : Val). Holds (hasTy tyUnit y) × WT y) (sym (ap only e′)) (tt, tt))) $
         assigns ! (of-opd ! (load ! (from ! (fld ! refl (stop !))) (look-in ! 19 (sub ! 0 refl (whole !))))) (from ! (stop !)) (init ! 27 refl (LL.lawful P.the-type P′.the-laws 𝓤 H A W .typed (r .reply) _ (fields .0) .0)) $
         returns ! (look ! 27 refl) $ move ! (upward 5 12) $ full ! $ full ! $ full ! $ full ! $ full ! $ full ! $ full ! $ full ! $ full ! $ full ! $ full ! $ full ! $ free0 ! $
-        keep ! (0 ∷ 1 ∷ []) $ by ! (exits (r .reply) _ (zs .0) (books ys d w r (zs .0) examines l e) l (fields .0))))))))))))))))))))))))
+        keep ! (0 ∷ 1 ∷ []) $ by ! (exits (r .reply) _ (zs .0) (books ys d w r (zs .0) examines e) l (fields .0))))))))))))))))))))))))
 
 module _ {M : Type 1} (𝓤 : URA M) (H : Heap 𝓤) (A : Atoms 𝓤) (W : Given 𝓤 H A) (mem : Memory → SProp 𝓤) (run : Routine → Fun 𝓤) (𝓣 : Tables 𝓤 H)
     (known-examine : Triple 𝓤 (𝓣 .C #desk·examine) (Examine 𝓤 H A mem run)) (known-write : Triple 𝓤 (𝓣 .C #desk·write) (Write 𝓤 H A mem run)) where

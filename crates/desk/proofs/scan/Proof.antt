@@ -1,4 +1,4 @@
--- `scan` meets its contract: a walk of its MIR, by hand. In a turn the slice is looked into, an entry is copied, the slice is shut, and `see` is called; all that is known 
+-- `scan` meets its contract: a walk of its MIR, by hand. In a turn the slice is looked into, an entry is copied, the slice is shut, and `see` is called; all that is known
 -- of the callees is that they meet their contracts. Assumes nothing.
 use mathlib.Core.Path.{_≡_, refl, sym, ap, subst}
 use mathlib.Core.Bool.{Bool, true, false}
@@ -162,7 +162,7 @@ module _ {M : Type 1} (𝓤 : URA M) (H : Heap 𝓤) (A : Atoms 𝓤) (W : Given
   goes-see t h h-is l =
       let few : t .i < 256 = omega (arith, l, lies .few) in
       let there : t .i ≤ length ys = omega (arith, l, lies .within) in
-      qed W (‵ ftrue ∷ []) ∵ says ! (countable v ys (t .i) (t .s) few there (t .seen)) $ nothing ! $
+      qed W (‵ ftrue ∷ []) ∵ says ! (countable v ys (t .i) (t .s) (lies .valued) few there (t .seen)) $ nothing ! $
       owned ! T.the-row (Is T.the-row) (R.makes 𝓤 H A W) h _ h-is $ fjoin ! $ owned ! Vi.the-row (Is Vi.the-row) (LL.makes Vi.the-type Vi′.the-plain 𝓤 H A) v _ v-is $ fjoin ! $
       owned ! usize (Is usize) (uint-makes 𝓤 H A W w64) (t .i) _ (refl, omega (arith, few)) $ fjoin ! $
       owned ! S.the-row (Is S.the-row) (LL.makes S.the-type S′.the-plain 𝓤 H A) (t .s) _ (t .is) $ fjoin ! $ move ! (1 ∷ 0 ∷ []) $ join ! $ done !
