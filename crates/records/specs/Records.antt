@@ -1,7 +1,7 @@
 -- THE PAGE OF THE EXPORTED BOOKINGS. Document 02 f), "The book is the caller's list of holding records, changed in place": a record is 56 bytes, seven numbers. Assumes nothing.
 use mathlib.Core.{Path._≡_, Bool.Bool, Bool.cond, Bool._||_, List.List, List.[], List._∷_, List._++_}
-use Prim.Native.Nat.{ℕ, _+_, _*_, _/_}
-use lib.{Dec.ltb, ListN.length, ListN.take}
+use Prim.Native.Nat.{ℕ, _*_, _/_}
+use lib.{Dec.ltb, ListN.length, ListN.take, ListN.drop}
 use Rattle.lists.specs.Tables.{listTo, front}
 use Rattle.holding.specs.Holding.{numbersOf, rowBy}
 use Rattle.holding.specs.declared.{Head.Head, Row.Row}
@@ -16,12 +16,12 @@ use Rattle.daybook.specs.declared.Order.{Order}
 unfoldable pub recordsIn : List ℕ → ℕ
 recordsIn bytes = length bytes / 56
 
--- the numbers of record k, in the order of the columns, and its row
-unfoldable pub numbersAt : List ℕ → ℕ → List ℕ
-numbersAt bytes k = listTo 7 (λ j. wordAt bytes (7 * k + j))
+-- the bytes of record k, and the row whose numbers they are, in the order of the columns
+unfoldable pub recordAt : List ℕ → ℕ → List ℕ
+recordAt bytes k = take 56 (drop (56 * k) bytes)
 
 unfoldable pub rowAt : List ℕ → ℕ → Row
-rowAt bytes k = rowBy (numbersAt bytes k)
+rowAt bytes k = rowBy (decode (recordAt bytes k))
 
 -- the rows of a list of records
 unfoldable pub rowsIn : List ℕ → List Row
