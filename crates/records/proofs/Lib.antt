@@ -2,3 +2,4 @@ pub mod Bytes
 pub mod Rows
 pub mod Places
 pub mod Rewriting
+pub mod Totals

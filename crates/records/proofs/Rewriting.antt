@@ -1,11 +1,11 @@
 -- A list of records that is written: a row put at a place, and records that move up. Assumes nothing.
 use mathlib.Core.Path.{_≡_, refl, sym, ap, _∙_}
 use mathlib.Core.List.{List, [], _∷_, _++_, append-assoc, append-nil}
-use Prim.Native.Nat.{ℕ, suc, _+_, _-_, _*_, _≤_, _<_, _^_}
+use Prim.Native.Nat.{ℕ, _+_, _-_, _*_, _/_, _≤_, _<_, _^_}
 use native.Mathlib.Numerals.{add-one}
 use native.Mathlib.Omega.{arith}
 use lib.ListN.{length, getD, take, drop, set, length-set, length-drop}
-use lib.Seq.{take-suc, drop-drop, ext-getD, getD-take, getD-drop, getD-set-same, getD-set-other, take-at, drop-at, length-take-le}
+use lib.Seq.{take-suc, set-out, drop-drop, ext-getD, getD-take, getD-drop, getD-set-same, getD-set-other, take-at, drop-at, length-take-le}
 use Rattle.lists.specs.Tables.{Each, front, overwrite}
 use Rattle.lists.proofs.Overwrite.{overwrite-none, overwrite-overwrite, length-overwrite}
 use Rattle.lists.proofs.Tables.{length-to, getD-to}
@@ -188,3 +188,21 @@ module _ (first end : ℕ) (old : List ℕ) where
         (k + 1) refl)
         (k + 1) refl)
         (λ p l. m .ahead p (omega (arith, m .until, many)))
+
+-- a list that was written is written again: a row at a place, or none at one that it has not
+module _ {xs : List Row} {before now : List ℕ} (w : Rewritten xs before now) where
+  same-room : recordsIn now ≡ recordsIn before
+  unfolding recordsIn
+  same-room = ap (_/ 56) (w .long)
+
+  pub then-put : {after : List ℕ} (at : ℕ) (x : Row) → Rewritten (set (rowsIn now) at x) now after → Rewritten (set xs at x) before after
+  then-put at x v = record {
+    long = v .long ∙ w .long;
+    rows = v .rows ∙ ap (λ (ys : List Row). set ys at x) (w .rows);
+    rest = rw same-room at (v .rest) ∙ w .rest;
+  }
+
+  pub then-none : (at : ℕ) (x : Row) → recordsIn now ≤ at → Rewritten (set xs at x) before now
+  then-none at x h =
+      let out : length xs ≤ at = omega (arith, ap (length {A = Row}) (w .rows), length-rows now) in
+      record { long = w .long; rows = w .rows ∙ sym (set-out xs at x out); rest = w .rest }

@@ -7,7 +7,7 @@ use Rattle.holding.specs.declared.{Head.Head, Row.Row}
 use Rattle.words.specs.Words.{encode}
 use Rattle.lent.specs.Boundary.{Answers}
 use Rattle.daybook.specs.Orders.{answerOf}
-use Rattle.daybook.specs.declared.{Day.Day, Reply.Reply}
+use Rattle.daybook.specs.declared.{Day.Day, Finding.Finding}
 use Rattle.records.specs.Records.{recordsIn, rowsIn, totalsIn, dayIn}
 
 -- the records of a list are then these rows: as many bytes, and those past the last record kept
@@ -23,12 +23,12 @@ pub record Stored (number : ℕ) (five : List ℕ) (h : Head) (d : Day) : Type 0
   pub count : d .count ≡ number
   pub whole : 40 ≤ length five → d ≡ dayIn number five h
 
--- there is room for the totals of an accepted order
-abbrev pub Writable : Reply → List ℕ → Type 0
-Writable reply old = answerOf (reply .finding) .number ≡ 0 → 40 ≤ length old
+-- five totals of an accepted order, and room for them
+abbrev pub Writable : Finding → List ℕ → List ℕ → Type 0
+Writable f five old = answerOf f .number ≡ 0 → (length five ≡ 5) × (40 ≤ length old)
 
--- a reply as the host gets it: the answer, and the totals of an accepted order, which are then read back
-pub record Replied (reply : Reply) (old new answer answer′ : List ℕ) (r : ℕ) : Type 0 where
-  pub returned : Answers (answerOf (reply .finding)) answer answer′ r
-  pub written : new ≡ cond (eqb (answerOf (reply .finding) .number) 0) (front (encode (reply .day .totals)) old) old
-  pub back : answerOf (reply .finding) .number ≡ 0 → totalsIn new ≡ reply .day .totals
+-- a finding as the host gets it: the answer, and the totals of an accepted order, which are then read back
+pub record Replied (f : Finding) (five old new answer answer′ : List ℕ) (r : ℕ) : Type 0 where
+  pub returned : Answers (answerOf f) answer answer′ r
+  pub written : new ≡ cond (eqb (answerOf f .number) 0) (front (encode five) old) old
+  pub back : answerOf f .number ≡ 0 → totalsIn new ≡ five

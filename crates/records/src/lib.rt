@@ -5,7 +5,6 @@ use booking::Scan;
 use daybook::Day;
 use daybook::Finding;
 use daybook::Order;
-use daybook::Reply;
 use holding::Account;
 use holding::Head;
 use holding::Row;
@@ -15,7 +14,7 @@ ghost use Prim.Native.Nat.{_+_, _*_, _≤_, _<_};
 ghost use lib.ListN.{length, take, set};
 ghost use Rattle.booking.specs.Seeing.{Seen, movedUp, changed, Fits, Concluded};
 ghost use Rattle.dates.specs.Calendar.{isDate};
-ghost use Rattle.daybook.specs.Book.{valued, makeBook};
+ghost use Rattle.daybook.specs.{Book.valued, Book.makeBook, Orders.answerOf};
 ghost use Rattle.daybook.specs.declared.Order.{the-variants.MoveTo};
 ghost use Rattle.records.specs.Records.{recordsIn, rowAt, rowsIn, tooShort, makeSlices, Books};
 ghost use Rattle.records.specs.Writing.{Rewritten, Stored, Writable, Replied};
@@ -139,21 +138,38 @@ fn day_of(count: u64, totals: &[u8], head: Head) -> Day
     }
 }
 
-// What the host gets of a reply: an accepted order's totals and new count are written, and the answer's number is returned.
-fn answer_to(reply: Reply, totals: &mut [u8], answer: &mut [u8]) -> u64
-    requires { ⌜ Writable reply (now totals) ⌝ }
-    ensures { λ r. ⌜ Replied reply (now (totals .entry)) (now (totals .exit)) (now (answer .entry)) (now (answer .exit)) r ⌝ }
+// The number of a finding, 0 for accepted.
+fn number_of(finding: Finding) -> u64
+    ensures { λ r. ⌜ r ≡ answerOf finding .number ⌝ }
 {
-    let finding = reply.finding;
     match finding {
-        Finding::Accepted(count) => {
-            let day = reply.day;
-            let five = day.totals;
-            words::write_words(&five, 5, totals);
-            return lent::put_answer(0, count, 0, answer);
-        }
-        Finding::Refused(number, place) => return lent::put_answer(number, place, 0, answer),
+        Finding::Accepted(_) => return 0,
+        Finding::Refused(number, _) => return number,
     }
+}
+
+// The value beside it: the new count, or the place.
+fn value_of(finding: Finding) -> u64
+    ensures { λ r. ⌜ r ≡ answerOf finding .first ⌝ }
+{
+    match finding {
+        Finding::Accepted(count) => return count,
+        Finding::Refused(_, place) => return place,
+    }
+}
+
+// What the host gets of a finding: the totals of an accepted order, and the answer, whose number is returned.
+fn answer_to(finding: Finding, five: &[u64], totals: &mut [u8], answer: &mut [u8]) -> u64
+    requires { ⌜ Writable finding (now five) (now totals) ⌝ }
+    ensures { λ r. ⌜ Replied finding (now (five .entry)) (now (totals .entry)) (now (totals .exit)) (now (answer .entry)) (now (answer .exit)) r ⌝ }
+{
+    let number = number_of(finding);
+    let value = value_of(finding);
+    if number != 0 {
+        return lent::put_answer(number, value, 0, answer);
+    }
+    words::write_words(five, 5, totals);
+    lent::put_answer(number, value, 0, answer)
 }
 
 // An order to a lent book of so many records: its list, its totals and the answer are written. The answer's number is returned.
@@ -174,7 +190,10 @@ pub fn book(
     let outcome = judge(list, day, order, short);
     let change = outcome.change;
     write(list, change, booking::trade_of(order));
-    answer_to(outcome.reply, totals, answer)
+    let reply = outcome.reply;
+    let next = reply.day;
+    let five = next.totals;
+    answer_to(reply.finding, &five, totals, answer)
 }
 
 // A lent book moves to a date: no record changes.
@@ -193,5 +212,8 @@ pub fn move_to(
     let short = too_short(totals.len(), answer.len());
     let day = day_of(count, totals, head);
     let outcome = judge(list, day, Order::MoveTo(to), short);
-    answer_to(outcome.reply, totals, answer)
+    let reply = outcome.reply;
+    let next = reply.day;
+    let five = next.totals;
+    answer_to(reply.finding, &five, totals, answer)
 }
