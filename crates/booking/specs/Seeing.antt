@@ -80,12 +80,13 @@ pub record Examined (short : Bool) (b : Book) (o : Order) (opening : Opening) (s
   pub seen : Seen (opening .account) (tradeOf o) (take (opening .count) (b .list)) scan
   pub again : (to : ℕ) → o ≡ MoveTo to → isDate to ≡ true → Seen (onDate to (opening .account)) (tradeOf o) (take (opening .count) (b .list)) moved
 
--- what was seen was seen of some holdings, no more than a book may have, and the list has those that are counted
+-- what was seen was seen of some holdings, no more than a book may have; where nothing refused it before, of as many as are counted, and the list has them
 pub record Known (d : Day) (room : ℕ) (o : Order) (opening : Opening) (scan : Scan) : Type 0 where
   pub rows : List Row
   pub few : length rows ≤ 256
   pub valued : isDate (opening .account .date) ≡ true
   pub seen : Seen (opening .account) (tradeOf o) rows scan
+  pub count : opening .number ≡ 0 → length rows ≡ d .count
   pub within : opening .number ≡ 0 → d .count ≤ room
 
 -- a change that a list of so many entries has room for

@@ -26,15 +26,15 @@ pub record Closed (number : ℕ) (r : Opening) : Type 0 where
   pub valued : isDate (r .account .date) ≡ true
 
 -- no entry of a list of so many is changed
-unfoldable pub noChange : ℕ → Change
+abbrev pub noChange : ℕ → Change
 noChange room = record { first = 1; end = 0; at = room; value = 0 }
 
 -- refused with number and place, all else as it was
-unfoldable pub refusalOf : Day → ℕ → ℕ → ℕ → Outcome
+abbrev pub refusalOf : Day → ℕ → ℕ → ℕ → Outcome
 refusalOf d room number place = record { reply = record { finding = Refused number place; day = d }; change = noChange room }
 
 -- accepted with the count that is then stored
-unfoldable pub acceptanceOf : Day → Change → Outcome
+abbrev pub acceptanceOf : Day → Change → Outcome
 acceptanceOf d c = record { reply = record { finding = Accepted (d .count); day = d }; change = c }
 
 -- what refuses a value added to so much: 8, and where it joins so many 3 and 2
@@ -79,17 +79,18 @@ pub record Raisable (d : Day) (p rate : ℕ) : Type 0 where
 -- a total has the margin of what is held, by a holding of the book
 pub record Lowerable (d : Day) (s : Scan) (p rate : ℕ) : Type 0 where
   pub place : p < 5
+  pub low : getD (d .totals) p 0 ≤ 256 * marginLimit
   pub enough : rate * s .held ≤ getD (d .totals) p 0
   pub there : 1 ≤ s .held → s .at < d .count
 
--- an adding and a taking are settled, whatever rows and trade have these numbers
-pub record Adds (d : Day) (room : ℕ) (s : Scan) (value p rate : ℕ) (r : Outcome) : Type 0 where
+-- an adding and a taking are settled, whatever rows have these numbers
+pub record Adds (d : Day) (room : ℕ) (s : Scan) (t : Row) (p rate : ℕ) (r : Outcome) : Type 0 where
   pub fits : Fits room (r .change)
-  pub settled : (t : Row) (rows : List Row) → t .value ≡ value → Traded d room t s rows → Rated (accountAt d) t p rate → Settles d room rows (Add t) r
+  pub settled : (rows : List Row) → Traded d room t s rows → Rated (accountAt d) t p rate → Settles d room rows (Add t) r
 
-pub record Takes (d : Day) (room : ℕ) (s : Scan) (value p rate : ℕ) (r : Outcome) : Type 0 where
+pub record Takes (d : Day) (room : ℕ) (s : Scan) (t : Row) (p rate : ℕ) (r : Outcome) : Type 0 where
   pub fits : d .count ≤ room → Fits room (r .change)
-  pub settled : (t : Row) (rows : List Row) → t .value ≡ value → Traded d room t s rows → Rated (accountAt d) t p rate → Settles d room rows (Take t) r
+  pub settled : (rows : List Row) → Traded d room t s rows → Rated (accountAt d) t p rate → Settles d room rows (Take t) r
 
 -- a move, of rows that were seen once more
 pub record Moves (d : Day) (room to : ℕ) (moved : Scan) (r : Outcome) : Type 0 where
@@ -100,6 +101,8 @@ pub record Moves (d : Day) (room to : ℕ) (moved : Scan) (r : Outcome) : Type 0
 pub record Tradable (d : Day) (s : Scan) (a : Account) (t : Row) : Type 0 where
   pub rows : List Row
   pub few : length rows ≤ 256
+  pub count : length rows ≡ d .count
+  pub valued : isDate (a .date) ≡ true
   pub clear : firstFault (rowsFaults a rows) .number ≡ 0
   pub counted : Counted a t rows s
   pub totals : d .totals ≡ s .totals

@@ -102,8 +102,8 @@ pub fn again(order: Order, opening: Opening) -> Opening
     ensures { λ r. ⌜ OpensAgain order opening r ⌝ }
 {
     match order {
-        Order::Add(_) => return closed(0),
-        Order::Take(_) => return closed(0),
+        Order::Add(_t) => return closed(0),
+        Order::Take(_t) => return closed(0),
         Order::MoveTo(to) => {
             if !dates::is_date(to) {
                 return closed(24);
@@ -130,7 +130,7 @@ pub fn trade_of(order: Order) -> Row
     match order {
         Order::Add(t) => return t,
         Order::Take(t) => return t,
-        Order::MoveTo(_) => {
+        Order::MoveTo(_to) => {
             return Row {
                 side: 0,
                 kind: 0,
@@ -260,11 +260,12 @@ fn adding_fault(held: u64, value: u64, joins: bool, count: usize, room: usize) -
     0
 }
 
-// Adding to a book that was seen without fault: a value at a rate, to the total at place p.
-fn adding(day: Day, room: usize, scan: Scan, value: u64, p: usize, rate: u64) -> Outcome
+// Adding a trade to a book that was seen without fault: at its rate, to the total at place p.
+fn adding(day: Day, room: usize, scan: Scan, t: Row, p: usize, rate: u64) -> Outcome
     requires { ⌜ Raisable day p rate ⌝ }
-    ensures { λ r. ⌜ Adds day room scan value p rate r ⌝ }
+    ensures { λ r. ⌜ Adds day room scan t p rate r ⌝ }
 {
+    let value = t.value;
     let held = scan.held;
     let at = scan.at;
     let count = day.count;
@@ -273,25 +274,27 @@ fn adding(day: Day, room: usize, scan: Scan, value: u64, p: usize, rate: u64) ->
     if number != 0 {
         return refused(day, room, number, 0);
     }
-    let mut next = day;
-    next.totals[p] = next.totals[p] + rate * value;
-    if joins {
-        next.count = count + 1;
-    }
     let change = Change {
         first: 1,
         end: 0,
         at,
         value: held + value,
     };
+    let mut next = day;
+    next.totals[p] = next.totals[p] + rate * value;
+    if joins {
+        next.count = count + 1;
+        return accepted(next, change);
+    }
     accepted(next, change)
 }
 
 // Taking in the same way: what is held no more leaves, and later ones move up.
-fn taking(day: Day, room: usize, scan: Scan, value: u64, p: usize, rate: u64) -> Outcome
+fn taking(day: Day, room: usize, scan: Scan, t: Row, p: usize, rate: u64) -> Outcome
     requires { ⌜ Lowerable day scan p rate ⌝ }
-    ensures { λ r. ⌜ Takes day room scan value p rate r ⌝ }
+    ensures { λ r. ⌜ Takes day room scan t p rate r ⌝ }
 {
+    let value = t.value;
     let held = scan.held;
     let at = scan.at;
     let count = day.count;
@@ -373,9 +376,9 @@ fn traded(day: Day, room: usize, scan: Scan, account: Account, t: Row, adds: boo
             let p = (period - 1) as usize;
             let rate = rates::rate(account, h);
             if adds {
-                return adding(day, room, scan, t.value, p, rate);
+                return adding(day, room, scan, t, p, rate);
             }
-            return taking(day, room, scan, t.value, p, rate);
+            return taking(day, room, scan, t, p, rate);
         }
     }
 }

@@ -1,0 +1,10 @@
+pub mod Tested
+pub mod Rows
+pub mod Seen
+pub mod Opened
+pub mod Found
+pub mod Changed
+pub mod Settled
+pub mod Moved
+pub mod Tradable
+pub mod Concluded

@@ -1,0 +1,14 @@
+pub mod Descriptions
+pub mod Trades
+pub mod Holdings
+pub mod Totals
+pub mod Written
+pub mod Cases
+pub mod Checked
+pub mod Described
+pub mod Executed
+pub mod Adding
+pub mod Taking
+pub mod Moving
+pub mod NoOther
+pub mod Bookings

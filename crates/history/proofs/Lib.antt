@@ -1,0 +1,4 @@
+pub mod Rows
+pub mod Accepted
+pub mod Lengths
+pub mod History

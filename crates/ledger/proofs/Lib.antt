@@ -1,0 +1,4 @@
+pub mod Ordered
+pub mod Holdings
+pub mod Reckoned
+pub mod One
