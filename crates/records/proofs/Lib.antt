@@ -2,4 +2,5 @@ pub mod Bytes
 pub mod Rows
 pub mod Places
 pub mod Rewriting
+pub mod Seen
 pub mod Totals

@@ -191,9 +191,10 @@ pub fn book(
     let change = outcome.change;
     write(list, change, booking::trade_of(order));
     let reply = outcome.reply;
+    let finding = reply.finding;
     let next = reply.day;
     let five = next.totals;
-    answer_to(reply.finding, &five, totals, answer)
+    answer_to(finding, &five, totals, answer)
 }
 
 // A lent book moves to a date: no record changes.
@@ -213,7 +214,8 @@ pub fn move_to(
     let day = day_of(count, totals, head);
     let outcome = judge(list, day, Order::MoveTo(to), short);
     let reply = outcome.reply;
+    let finding = reply.finding;
     let next = reply.day;
     let five = next.totals;
-    answer_to(reply.finding, &five, totals, answer)
+    answer_to(finding, &five, totals, answer)
 }

@@ -1,48 +1,35 @@
+-- `see_rows` sees one record after another: before each turn those before it were seen. Assumes nothing.
+use Prim.Native.Nat.{_-_}
+use native.Mathlib.Omega.{arith}
+use borrow.Author.Needs.{needs}
+use Rattle.records.proofs.Seen.{Seeing, seeing-countable, seeing-more, seeing-all}
 use Rattle.records.proofs.see_rows.Statement.{statement}
 use Rattle.records.proofs.see_rows.Tie as tie
-use Rattle.records.proofs.see_rows.Reads as reads
-use Rattle.records.proofs.see_rows.Lts as lts
-use Rattle.booking.proofs.see.Reads as see-reads
-use Rattle.booking.proofs.unseen.Reads as unseen-reads
-use Rattle.records.proofs.row_at.Reads as row-at-reads
 
 abbrev Inv-loop : tie.InvT-loop
-Inv-loop list n account trade scan₀ i₀ scan i = ?
+Inv-loop list n account trade scan₀ i₀ scan i = Seeing account trade list n i scan
 
 abbrev μ-loop : tie.MeasureT-loop
-μ-loop list n account trade scan₀ i₀ scan i = ?
+μ-loop list n account trade scan₀ i₀ scan i = n - i
 
--- src/lib.rt:60:9
-unseen-requires : tie.Need-unseen-requires Inv-loop μ-loop
-unseen-requires c κs = ?
-
--- src/lib.rt:62:5
 loop-holds : tie.Need-loop-holds Inv-loop μ-loop
-loop-holds c = ?
+loop-holds c = record { few = omega arith; seen = c .unseen .ensures _ _ }
 
--- src/lib.rt:63:47
-row-at-requires : tie.Need-row-at-requires Inv-loop μ-loop
-row-at-requires c κs = ?
+-- what is asked, from the loop on
+module _ (c : tie.At-loop Inv-loop μ-loop) where
+  abbrev start : tie.Start Inv-loop μ-loop
+  start = c .before .before .before
 
--- src/lib.rt:63:9
 see-requires : tie.Need-see-requires Inv-loop μ-loop
-see-requires c κs = ?
+see-requires c κs =
+    let turn = c .before in
+    let asked = start (turn .before) .pre in
+    seeing-countable (turn .before .loop .inv) (turn .loop-test .taken) (asked .0) (asked .2) (asked .1)
 
--- src/lib.rt:64:13
-add-i : tie.Need-add-i Inv-loop μ-loop
-add-i c = ?
-
--- src/lib.rt:62:5
-loop-less : tie.Need-loop-less Inv-loop μ-loop
-loop-less c = ?
-
--- src/lib.rt:62:5
 loop-again : tie.Need-loop-again Inv-loop μ-loop
-loop-again c = ?
-
--- src/lib.rt:56:1
-returns : tie.Need-returns Inv-loop μ-loop
-returns c = ?
+loop-again c =
+    let turn = c .before .before in
+    seeing-more (turn .before .loop .inv) (turn .loop-test .taken) (start (turn .before) .pre .0) (c .before .row-at .ensures) (c .see .ensures)
 
 pub see-rows-spec : {M : Type 1} → statement M
 see-rows-spec =
@@ -50,11 +37,11 @@ see-rows-spec =
     (tie.spec
     Inv-loop
     μ-loop
-    unseen-requires
+    (λ c κs. search needs)
     loop-holds
-    row-at-requires
+    (λ c κs. omega arith)
     see-requires
-    add-i
-    loop-less
+    (λ c. omega arith)
+    (λ c. omega arith)
     loop-again
-    returns)
+    (λ c. seeing-all (c .before .loop .inv) (c .loop-test .left)))
