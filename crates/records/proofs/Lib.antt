@@ -3,4 +3,5 @@ pub mod Rows
 pub mod Places
 pub mod Rewriting
 pub mod Seen
+pub mod Judged
 pub mod Totals

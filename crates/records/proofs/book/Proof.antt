@@ -32,7 +32,7 @@ write-requires c κs = search needs
 
 -- src/lib.rt:197:24
 slice-aggregate-answer-to : tie.Need-slice-aggregate-answer-to
-slice-aggregate-answer-to c = ?
+slice-aggregate-answer-to c = {! c .before .five .given !}
 
 -- src/lib.rt:197:5
 answer-to-requires : tie.Need-answer-to-requires

@@ -1,50 +1,31 @@
+-- `judge` sees the records of a book, for a move twice, and concludes. Assumes nothing.
 use borrow.Author.Needs.{needs}
+use Rattle.records.specs.Records.{recordsIn}
+use Rattle.records.proofs.Judged.{known, judged}
 use Rattle.records.proofs.judge.Statement.{statement}
 use Rattle.records.proofs.judge.Tie as tie
-use Rattle.records.proofs.judge.Reads as reads
-use Rattle.records.proofs.judge.Lts as lts
-use Rattle.booking.proofs.again.Reads as again-reads
-use Rattle.booking.proofs.conclude.Reads as conclude-reads
-use Rattle.booking.proofs.open.Reads as open-reads
-use Rattle.booking.proofs.trade_of.Reads as trade-of-reads
-use Rattle.records.proofs.see_rows.Reads as see-rows-reads
 
--- src/lib.rt:73:9
-open-requires : tie.Need-open-requires
-open-requires c κs = search needs
-
--- src/lib.rt:74:9
-trade-of-requires : tie.Need-trade-of-requires
-trade-of-requires c κs = search needs
-
--- src/lib.rt:75:9
-see-rows-requires : tie.Need-see-rows-requires
-see-rows-requires c κs = search needs
-
--- src/lib.rt:76:9
-again-requires : tie.Need-again-requires
-again-requires c κs = search needs
-
--- src/lib.rt:77:9
-see-rows-requires-2 : tie.Need-see-rows-requires-2
-see-rows-requires-2 c κs = search needs
-
--- src/lib.rt:78:5
 conclude-requires : tie.Need-conclude-requires
-conclude-requires c κs = ?
+unfolding recordsIn
+conclude-requires c κs =
+    let seen = c .before .before in
+    known _ _ (seen .before .before .«open» .ensures) (seen .before .trade-of .ensures) (seen .see-rows .ensures)
 
--- src/lib.rt:69:1
 returns : tie.Need-returns
-returns c = ?
+unfolding recordsIn
+returns c =
+    let again = c .before .before in
+    let seen = again .before in
+    judged _ _ (seen .before .before .«open» .ensures) (seen .before .trade-of .ensures) (seen .see-rows .ensures) (again .again .ensures) (c .before .see-rows2 .ensures) (c .conclude .ensures)
 
 pub judge-spec : {M : Type 1} → statement M
 judge-spec =
     tie.close
     (tie.spec
-    open-requires
-    trade-of-requires
-    see-rows-requires
-    again-requires
-    see-rows-requires-2
+    (λ c κs. search needs)
+    (λ c κs. search needs)
+    (λ c κs. search needs)
+    (λ c κs. search needs)
+    (λ c κs. search needs)
     conclude-requires
     returns)
