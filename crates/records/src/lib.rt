@@ -5,6 +5,7 @@ use booking::Scan;
 use daybook::Day;
 use daybook::Finding;
 use daybook::Order;
+use daybook::Reply;
 use holding::Account;
 use holding::Head;
 use holding::Row;
@@ -159,7 +160,7 @@ fn value_of(finding: Finding) -> u64
 }
 
 // What the host gets of a finding: the totals of an accepted order, and the answer, whose number is returned.
-fn answer_to(finding: Finding, five: &[u64], totals: &mut [u8], answer: &mut [u8]) -> u64
+fn put_finding(finding: Finding, five: &[u64], totals: &mut [u8], answer: &mut [u8]) -> u64
     requires { ⌜ Writable finding (now five) (now totals) ⌝ }
     ensures { λ r. ⌜ Replied finding (now (five .entry)) (now (totals .entry)) (now (totals .exit)) (now (answer .entry)) (now (answer .exit)) r ⌝ }
 {
@@ -170,6 +171,17 @@ fn answer_to(finding: Finding, five: &[u64], totals: &mut [u8], answer: &mut [u8
     }
     words::write_words(five, 5, totals);
     lent::put_answer(number, value, 0, answer)
+}
+
+// The same of a reply, with the totals that are then stored.
+fn put_reply(reply: Reply, totals: &mut [u8], answer: &mut [u8]) -> u64
+    requires { ⌜ Writable (reply .finding) (reply .day .totals) (now totals) ⌝ }
+    ensures { λ r. ⌜ Replied (reply .finding) (reply .day .totals) (now (totals .entry)) (now (totals .exit)) (now (answer .entry)) (now (answer .exit)) r ⌝ }
+{
+    let finding = reply.finding;
+    let day = reply.day;
+    let five = day.totals;
+    put_finding(finding, &five, totals, answer)
 }
 
 // An order to a lent book of so many records: its list, its totals and the answer are written. The answer's number is returned.
@@ -190,11 +202,7 @@ pub fn book(
     let outcome = judge(list, day, order, short);
     let change = outcome.change;
     write(list, change, booking::trade_of(order));
-    let reply = outcome.reply;
-    let finding = reply.finding;
-    let next = reply.day;
-    let five = next.totals;
-    answer_to(finding, &five, totals, answer)
+    put_reply(outcome.reply, totals, answer)
 }
 
 // A lent book moves to a date: no record changes.
@@ -213,9 +221,5 @@ pub fn move_to(
     let short = too_short(totals.len(), answer.len());
     let day = day_of(count, totals, head);
     let outcome = judge(list, day, Order::MoveTo(to), short);
-    let reply = outcome.reply;
-    let finding = reply.finding;
-    let next = reply.day;
-    let five = next.totals;
-    answer_to(finding, &five, totals, answer)
+    put_reply(outcome.reply, totals, answer)
 }

@@ -1,4 +1,4 @@
--- `answer_to` writes the totals of an accepted order, and the answer. Assumes nothing.
+-- `put_finding` writes the totals of an accepted order, and the answer. Assumes nothing.
 use mathlib.Core.Path.{_≡_, refl, sym, _∙_}
 use Prim.Native.Nat.{_<_, _≤_, _^_}
 use native.Mathlib.Omega.{arith}
@@ -6,8 +6,8 @@ use lib.ListN.{length}
 use borrow.Author.Needs.{needs}
 use Rattle.lists.proofs.Entries.{at-each}
 use Rattle.records.proofs.Totals.{replied-accepted, replied-refused}
-use Rattle.records.proofs.answer_to.Statement.{statement}
-use Rattle.records.proofs.answer_to.Tie as tie
+use Rattle.records.proofs.put_finding.Statement.{statement}
+use Rattle.records.proofs.put_finding.Tie as tie
 
 -- the call, from where the finding was found to be accepted
 module _ (c : tie.Else1) where
@@ -32,8 +32,8 @@ returns-2 c =
     replied-accepted _ _ _ _ _ _ _ _ _ (at .before .number-of .ensures) (at .value-of .ensures) (put .put-answer2 .ensures) (no .if1 .left)
     (room no .1) (room no .0) (at-each (λ x. x < 2 ^ 64) 0 (start no .args .five .now) (λ i _. at .before .before .before .before .shared-slice-known .given i .fits)) (wrote .write-words .ensures)
 
-pub answer-to-spec : {M : Type 1} → statement M
-answer-to-spec =
+pub put-finding-spec : {M : Type 1} → statement M
+put-finding-spec =
     tie.close
     (tie.spec
     (λ c κs. search needs)
