@@ -5,3 +5,4 @@ pub mod Rewriting
 pub mod Seen
 pub mod Judged
 pub mod Totals
+pub mod Booked

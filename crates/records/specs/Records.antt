@@ -36,14 +36,7 @@ encodeRows (r ∷ rs) = encode (numbersOf r) ++ encodeRows rs
 unfoldable pub totalsIn : List ℕ → List ℕ
 totalsIn bytes = take 5 (decode bytes)
 
--- what is stored with a book, and the book, as they are lent
-unfoldable pub dayIn : ℕ → List ℕ → Head → Day
-dayIn count totals h = record { date = h .date; letter = h .letter; count = count; totals = totalsIn totals }
-
-unfoldable pub lentBook : ℕ → List ℕ → Head → List ℕ → Book
-lentBook count totals h list = makeBook (dayIn count totals h) (rowsIn list)
-
--- 2 holds of another list: fewer than 40 bytes of totals, or an answer slice of fewer than 16
+-- 2 holds of another list than the book's: fewer than 40 bytes of totals, or an answer slice of fewer than 16
 unfoldable pub tooShort : ℕ → ℕ → Bool
 tooShort totals answer = ltb totals 40 || ltb answer 16
 
@@ -56,26 +49,36 @@ pub record Slices : Type 0 where
 abbrev pub makeSlices : List ℕ → List ℕ → List ℕ → Slices
 makeSlices list totals answer = record { list = list; totals = totals; answer = answer }
 
+unfoldable pub shortIn : Slices → Bool
+shortIn s = tooShort (length (s .totals)) (length (s .answer))
+
+-- what is stored with a book of so many records, and the book, as they are lent
+unfoldable pub dayIn : ℕ → List ℕ → Head → Day
+dayIn count totals h = record { date = h .date; letter = h .letter; count = count; totals = totalsIn totals }
+
+unfoldable pub lentBook : ℕ → Head → Slices → Book
+lentBook count h s = makeBook (dayIn count (s .totals) h) (rowsIn (s .list))
+
 -- the head of the book after an order: only a move changes its date
 unfoldable pub headAfter : Order → Head → Head
 headAfter o h = record { date = dateAfter o (h .date); letter = h .letter }
 
 -- what an exported booking promises of an order to what is lent, before and after, and of the number that it returns
 module _ (o : Order) (count : ℕ) (h : Head) (before after : Slices) (r : ℕ) where
-  abbrev pub bookOf : Book
-  bookOf = lentBook count (before .totals) h (before .list)
+  abbrev book : Book
+  book = lentBook count h before
 
-  abbrev pub shortOf : Bool
-  shortOf = tooShort (length (before .totals)) (length (before .answer))
+  abbrev accepts : Bool
+  accepts = accepted (shortIn before) book o
 
   pub record Books : Type 0 where
     -- the refusal number, 0 for accepted, is returned; the new count and 0, or the place and 0, stand in the answer slice
-    pub returned : Answers (outcome shortOf bookOf o) (before .answer) (after .answer) r
+    pub returned : Answers (outcome (shortIn before) book o) (before .answer) (after .answer) r
     -- the records after an accepted order stand first in the list; bytes past them keep what they held
-    pub list : after .list ≡ cond (accepted shortOf bookOf o) (front (encodeRows (holdingsAfter o (holdingsIn bookOf))) (before .list)) (before .list)
+    pub list : after .list ≡ cond accepts (front (encodeRows (holdingsAfter o (holdingsIn book))) (before .list)) (before .list)
     -- the totals after it stand first in theirs
-    pub totals : after .totals ≡ cond (accepted shortOf bookOf o) (front (encode (dayAfter (bookOf .day) (holdingsIn bookOf) o .totals)) (before .totals)) (before .totals)
+    pub totals : after .totals ≡ cond accepts (front (encode (dayAfter (book .day) (holdingsIn book) o .totals)) (before .totals)) (before .totals)
     -- the book that is then lent, with the count that was answered, is the one that the order leaves
-    pub next : r ≡ 0 → lentBook (wordAt (after .answer) 0) (after .totals) (headAfter o h) (after .list) ≡ booked shortOf bookOf o
+    pub next : r ≡ 0 → lentBook (wordAt (after .answer) 0) (headAfter o h) after ≡ booked (shortIn before) book o
     -- a refusal writes to neither
     pub untouched : (r ≡ 0 → ⊥) → (after .list ≡ before .list) × (after .totals ≡ before .totals)
