@@ -157,7 +157,7 @@ pub(crate) fn halves(answer: &[u8; 16]) -> (u64, u64) {
 #[cfg(target_endian = "big")]
 compile_error!("numbers are lent as their own bytes, which must be those of little-endian numbers");
 
-fn bytes(numbers: &[u64]) -> &[u8] {
+pub(crate) fn bytes(numbers: &[u64]) -> &[u8] {
     // SAFETY: the same memory for the same time; a byte needs no alignment, and a number has no padding.
     unsafe { std::slice::from_raw_parts(numbers.as_ptr().cast(), size_of_val(numbers)) }
 }

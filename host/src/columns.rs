@@ -8,7 +8,7 @@ use crate::{
 };
 
 /// The number of no rating in a column.
-const NO_RATING: u64 = 2;
+pub(crate) const NO_RATING: u64 = 2;
 
 /// Defines the columns by their names, in the order in which they are lent.
 macro_rules! columns {
@@ -254,7 +254,7 @@ impl Columns<Vec<u64>> {
 }
 
 /// The numbers of the issuers of holdings: of corporations from 100 by first appearance.
-fn issuer_numbers(holdings: &[Holding]) -> Vec<u64> {
+pub(crate) fn issuer_numbers(holdings: &[Holding]) -> Vec<u64> {
     let mut corporations: HashMap<Issuer, u64> = HashMap::new();
     let number = |holding: &Holding| {
         holding.issuer.number().unwrap_or_else(|| {

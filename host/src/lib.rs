@@ -6,9 +6,9 @@
 //!
 //! A desk makes a [`Book`] of [`Holding`]s on its valuation date, in a participant's or a client's account, and a
 //! [`Proposal`] on it, or reads both from a file with [`read()`]; [`check()`] gives the least margin, or the
-//! [`Refusal`]. Both are done by code that was proved: this package lends it the memory and names its answers.
-//! Callers that keep a [`Head`] and [`Columns`] of numbers use [`check_columns`], [`read_columns`] and
-//! [`read_leis`], and [`raw`] has these calls on bytes.
+//! [`Refusal`]. Through the day a [`DayBook`] books trades as they come, and moves to a later date. All this is done by
+//! code that was proved: this package lends it the memory and names its answers. Callers that keep a [`Head`] and
+//! [`Columns`] of numbers use [`check_columns`], [`read_columns`] and [`read_leis`], and [`raw`] has all calls on bytes.
 //!
 //! The file that document 01, the customer's scope, prints, in Canadian dollars and valued on 2025-01-01:
 //!
@@ -103,20 +103,24 @@ mod check;
 mod codes;
 mod columns;
 mod date;
+mod day_book;
 mod head;
 mod issuer;
 mod lei;
 pub mod raw;
 mod read;
 mod refusal;
+mod row;
 
 pub use book::{Book, Holding, Line, Proposal};
 pub use check::{Accepted, Figures, check, check_columns};
 pub use codes::{AccountKind, Currency, Kind, Rating, Side, UnknownCode};
 pub use columns::Columns;
 pub use date::{Date, InvalidDate};
+pub use day_book::DayBook;
 pub use head::Head;
 pub use issuer::Issuer;
 pub use lei::{InvalidLei, Lei};
 pub use read::{check_file, read, read_columns, read_leis};
 pub use refusal::Refusal;
+pub use row::Row;

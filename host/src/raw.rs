@@ -1,7 +1,7 @@
-//! The exported check and the exported reader on byte slices of eight-byte little-endian numbers, and the LEIs
-//! of a file.
+//! The exported check, the exported reader and the exported bookings on byte slices of eight-byte little-endian
+//! numbers, and the LEIs of a file.
 
-use crate::Columns;
+use crate::{Columns, Row};
 
 unsafe extern "C" {
     // Fourteen slices, each a pointer and then its length in bytes.
@@ -79,6 +79,64 @@ unsafe extern "C" {
         remainder_length: usize,
         ranking: *mut u8,
         ranking_length: usize,
+        answer: *mut u8,
+        answer_length: usize,
+    ) -> u64;
+
+    // A book's list, its count, its totals, its date and its letter, the trade's numbers, and the answer. Each slice
+    // is a pointer and then its length in bytes.
+    #[link_name = "margin_add"]
+    fn exported_add(
+        list: *mut u8,
+        list_length: usize,
+        count: u64,
+        totals: *mut u8,
+        totals_length: usize,
+        date: u64,
+        letter: u64,
+        side: u64,
+        kind: u64,
+        issuer: u64,
+        maturity: u64,
+        currency: u64,
+        rating: u64,
+        value: u64,
+        answer: *mut u8,
+        answer_length: usize,
+    ) -> u64;
+
+    // The same.
+    #[link_name = "margin_take"]
+    fn exported_take(
+        list: *mut u8,
+        list_length: usize,
+        count: u64,
+        totals: *mut u8,
+        totals_length: usize,
+        date: u64,
+        letter: u64,
+        side: u64,
+        kind: u64,
+        issuer: u64,
+        maturity: u64,
+        currency: u64,
+        rating: u64,
+        value: u64,
+        answer: *mut u8,
+        answer_length: usize,
+    ) -> u64;
+
+    // A book's list, its count, its totals, its date and its letter, the new date, and the answer.
+    #[link_name = "margin_move"]
+    fn exported_move(
+        list: *const u8,
+        list_length: usize,
+        count: u64,
+        totals: *mut u8,
+        totals_length: usize,
+        date: u64,
+        letter: u64,
+        to: u64,
         answer: *mut u8,
         answer_length: usize,
     ) -> u64;
@@ -238,6 +296,182 @@ pub fn margin_leis(text: &[u8], leis: &mut [u8], answer: &mut [u8]) -> u64 {
         exported_leis(
             text.as_ptr(), text.len(),
             leis.as_mut_ptr(), leis.len(),
+            answer.as_mut_ptr(), answer.len(),
+        )
+    };
+    number
+}
+
+/// Adds a trade to a book in place, and returns the refusal number, 0 for accepted.
+///
+/// The book is a list of records, each a [`Row`] of [`Row::LENGTH`] bytes, of which the first `count` are its holdings;
+/// five totals of the holdings' margins alone, in units, one for each period; its valuation date, YYYYMMDD; and its
+/// account's letter, 0 for an approved participant and 1 for a client. Bytes of the list that make no whole record, and
+/// bytes of the totals from the 40th on, belong to nothing and are kept.
+///
+/// The value goes to the first holding equal in side, kind, issuer, maturity, currency and rating, or else the trade
+/// joins at the end. Records past the holdings are kept, and a refusal keeps the list and the totals.
+/// An answer slice of 16 bytes or more gets the new count and 0, or the place and 0; a shorter one is kept.
+///
+/// The call needs less than 16 KiB of stack: the tests make it on a thread of that size, with 256 holdings.
+///
+/// ```
+/// use margin_host::{Row, raw};
+///
+/// let bond = Row {
+///     side: 0,
+///     kind: 0,
+///     issuer: 0,
+///     maturity: 2026_01_01,
+///     value: 1_000,
+///     currency: 0,
+///     rating: 2,
+/// };
+/// let (mut list, mut totals, mut answer) = ([0; 56], [0; 40], [0; 16]);
+/// let mut add = |count, trade: Row| {
+///     raw::margin_add(&mut list, count, &mut totals, 2025_01_01, 0, &trade, &mut answer)
+/// };
+/// assert_eq!(add(0, bond), 0);
+/// assert_eq!(add(1, Row { value: 500, ..bond }), 0);
+/// assert_eq!(add(1, Row { value: 0, ..bond }), 8);
+/// assert_eq!(add(1, Row { side: 1, ..bond }), 2);
+/// assert_eq!(list, Row { value: 1_500, ..bond }.to_bytes());
+/// assert_eq!(totals[..8], (4 * 365 * 1_500_u64).to_le_bytes());
+/// ```
+#[must_use]
+pub fn margin_add(
+    list: &mut [u8],
+    count: u64,
+    totals: &mut [u8],
+    date: u64,
+    letter: u64,
+    trade: &Row,
+    answer: &mut [u8],
+) -> u64 {
+    let t = trade;
+    // SAFETY: each pointer comes from a slice that is borrowed alone for the whole call, beside that slice's own length,
+    // so nothing else refers to it meanwhile. The function presumes nothing of the bytes and the numbers and keeps no
+    // pointer.
+    #[rustfmt::skip]
+    let number = unsafe {
+        exported_add(
+            list.as_mut_ptr(), list.len(),
+            count,
+            totals.as_mut_ptr(), totals.len(),
+            date,
+            letter,
+            t.side, t.kind, t.issuer, t.maturity, t.currency, t.rating, t.value,
+            answer.as_mut_ptr(), answer.len(),
+        )
+    };
+    number
+}
+
+/// Takes a trade from a book in place, and returns the refusal number, 0 for accepted.
+///
+/// What is lent, written and kept is as with [`margin_add`]. The value is removed from the first holding equal in side,
+/// kind, issuer, maturity, currency and rating. One that is brought to zero leaves, and later ones move up; the record
+/// behind the last holding keeps what it held.
+///
+/// ```
+/// use margin_host::{Row, raw};
+///
+/// let bond = Row {
+///     side: 0,
+///     kind: 0,
+///     issuer: 0,
+///     maturity: 2026_01_01,
+///     value: 1_000,
+///     currency: 0,
+///     rating: 2,
+/// };
+/// let (mut list, mut answer) = (bond.to_bytes(), [0; 16]);
+/// let mut totals = [[0; 8]; 5];
+/// totals[0] = (4 * 365 * 1_000_u64).to_le_bytes();
+/// let mut take = |value| {
+///     let (totals, trade) = (totals.as_flattened_mut(), Row { value, ..bond });
+///     raw::margin_take(&mut list, 1, totals, 2025_01_01, 0, &trade, &mut answer)
+/// };
+/// assert_eq!(take(1_001), 27);
+/// assert_eq!(take(1_000), 0);
+/// assert_eq!((totals, answer), ([[0; 8]; 5], [0; 16]));
+/// ```
+#[must_use]
+pub fn margin_take(
+    list: &mut [u8],
+    count: u64,
+    totals: &mut [u8],
+    date: u64,
+    letter: u64,
+    trade: &Row,
+    answer: &mut [u8],
+) -> u64 {
+    let t = trade;
+    // SAFETY: as in `margin_add`.
+    #[rustfmt::skip]
+    let number = unsafe {
+        exported_take(
+            list.as_mut_ptr(), list.len(),
+            count,
+            totals.as_mut_ptr(), totals.len(),
+            date,
+            letter,
+            t.side, t.kind, t.issuer, t.maturity, t.currency, t.rating, t.value,
+            answer.as_mut_ptr(), answer.len(),
+        )
+    };
+    number
+}
+
+/// Refigures the five totals of a book for a later date, and returns the refusal number, 0 for accepted.
+///
+/// What is lent is as with [`margin_add`]. The list is read only; the caller keeps the new date. A refusal keeps the
+/// totals. An answer slice of 16 bytes or more gets the count and 0, or the place and 0; a shorter one is kept.
+///
+/// ```
+/// use margin_host::{Row, raw};
+///
+/// let bond = Row {
+///     side: 0,
+///     kind: 0,
+///     issuer: 0,
+///     maturity: 2026_01_01,
+///     value: 1_000,
+///     currency: 0,
+///     rating: 2,
+/// };
+/// let (list, mut answer) = (bond.to_bytes(), [0; 16]);
+/// let mut totals = [[0; 8]; 5];
+/// totals[0] = (4 * 365 * 1_000_u64).to_le_bytes();
+/// let mut move_to = |to| {
+///     raw::margin_move(&list, 1, totals.as_flattened_mut(), 2025_01_01, 0, to, &mut answer)
+/// };
+/// assert_eq!(move_to(2026_01_01), 7);
+/// assert_eq!(move_to(2025_12_31), 0);
+/// assert_eq!(totals[0], (4 * 1_000_u64).to_le_bytes());
+/// ```
+#[must_use]
+pub fn margin_move(
+    list: &[u8],
+    count: u64,
+    totals: &mut [u8],
+    date: u64,
+    letter: u64,
+    to: u64,
+    answer: &mut [u8],
+) -> u64 {
+    // SAFETY: each pointer comes from a slice that is borrowed for the whole call, beside that slice's own length. The
+    // totals and the answer are borrowed alone, so nothing else refers to them meanwhile. The function presumes nothing
+    // of the bytes and the numbers and keeps no pointer.
+    #[rustfmt::skip]
+    let number = unsafe {
+        exported_move(
+            list.as_ptr(), list.len(),
+            count,
+            totals.as_mut_ptr(), totals.len(),
+            date,
+            letter,
+            to,
             answer.as_mut_ptr(), answer.len(),
         )
     };

@@ -1,43 +1,43 @@
-//! The refusals of the check and of the file's reader, in words.
+//! The refusals of the check, of the file's reader and of bookings, in words.
 
 use std::fmt;
 
-/// Why a file or a proposal was refused, with its place. Holdings, lines and records count from 0. Later
-/// numbers may follow.
+/// Why a file, a proposal or an order to a day book was refused, with its place. Holdings, lines and records count
+/// from 0, and a trade at fault has place 0. Later numbers may follow.
 #[derive(Clone, Copy, Debug, PartialEq, Eq, Hash)]
 #[non_exhaustive]
 pub enum Refusal {
     /// 1: the holding columns, price, currency and rating among them, or the line columns differ in length or
     /// hold no whole numbers.
     ColumnsDiffer,
-    /// 2: a list to be written is shorter than what must be written.
+    /// 2: a list to be written is shorter than what must be written, or than its count.
     ListTooShort,
-    /// 3: more than 256 holdings.
+    /// 3: more than 256 holdings, or a trade that would be one more.
     TooManyHoldings,
     /// 4: a side that is neither long nor short.
     SideUnknown {
-        /// The holding at fault.
+        /// The holding at fault; 0 also for a trade.
         holding: u64,
     },
     /// 5: a kind that is neither bond nor coupon nor residual.
     KindUnknown {
-        /// The holding at fault.
+        /// The holding at fault; 0 also for a trade.
         holding: u64,
     },
     /// 6: an issuer that is none of Canada, the provinces, the United States, the United Kingdom and the numbers
     /// of corporations.
     IssuerUnknown {
-        /// The holding at fault.
+        /// The holding at fault; 0 also for a trade.
         holding: u64,
     },
-    /// 7: a maturity on or before the valuation date, or past its 100th anniversary.
+    /// 7: a maturity on or before the valuation date or a date that a book is moved to, or past its 100th anniversary.
     MaturityOutOfRange {
-        /// The holding at fault.
+        /// The holding at fault; 0 also for a trade.
         holding: u64,
     },
-    /// 8: a market value outside 1 to 100,000,000,000 cents.
+    /// 8: a market value, or one with what a trade adds, outside 1 to 100,000,000,000 cents.
     ValueOutOfRange {
-        /// The holding at fault.
+        /// The holding at fault; 0 also for a trade.
         holding: u64,
     },
     /// 9: more than 512 lines.
@@ -107,17 +107,17 @@ pub enum Refusal {
     },
     /// 23: a currency that is neither CAD nor USD nor GBP.
     CurrencyUnknown {
-        /// The holding at fault.
+        /// The holding at fault; 0 also for a trade.
         holding: u64,
     },
-    /// 24: a valuation date or a maturity that is no day of the years 1900 to 2299.
+    /// 24: a valuation date, a date to move to or a maturity that is no day of the years 1900 to 2299.
     DateInvalid {
-        /// The holding at fault; 0 also for the valuation date.
+        /// The holding at fault; 0 also for the valuation date, the date to move to and a trade.
         holding: u64,
     },
     /// 25 of the check: a corporation without a rating, a government with one, or an unknown rating.
     RatingInvalid {
-        /// The holding at fault.
+        /// The holding at fault; 0 also for a trade.
         holding: u64,
     },
     /// 25 of the reader: an LEI whose check digits do not fit, a corporation without a rating, or a government
@@ -128,10 +128,16 @@ pub enum Refusal {
     },
     /// 26: an account that is neither an approved participant's nor a client's.
     AccountUnknown,
+    /// 27 of a lent book: the totals stored with it are not those of its holdings.
+    StoredTotalsDiffer,
+    /// 27 of taking: zero, or more than the first equal holding holds, which is nothing if none is equal.
+    TakenOutOfRange,
+    /// 27 of moving: a date that is not later than the book's.
+    DateNotLater,
 }
 
 impl Refusal {
-    /// The number, 1 to 26.
+    /// The number, 1 to 27.
     ///
     /// ```
     /// use margin_host::Refusal;
@@ -167,6 +173,7 @@ impl Refusal {
             Refusal::DateInvalid { .. } => 24,
             Refusal::RatingInvalid { .. } | Refusal::LeiOrRatingInvalid { .. } => 25,
             Refusal::AccountUnknown => 26,
+            Refusal::StoredTotalsDiffer | Refusal::TakenOutOfRange | Refusal::DateNotLater => 27,
         }
     }
 
@@ -187,7 +194,10 @@ impl Refusal {
             | Refusal::TooManyLines
             | Refusal::TotalsDiffer
             | Refusal::FileTooLong
-            | Refusal::AccountUnknown => 0,
+            | Refusal::AccountUnknown
+            | Refusal::StoredTotalsDiffer
+            | Refusal::TakenOutOfRange
+            | Refusal::DateNotLater => 0,
             Refusal::SideUnknown { holding }
             | Refusal::KindUnknown { holding }
             | Refusal::IssuerUnknown { holding }
@@ -227,8 +237,9 @@ impl Refusal {
         }
     }
 
-    /// The refusal with this number and these places, if there is one. The place of 25 is taken for a holding,
-    /// as the check gives it; [`Refusal::from_reader_parts`] takes it for a record.
+    /// The refusal with this number and these places, if they say which. The place of 25 is taken for a holding,
+    /// as the check gives it; [`Refusal::from_reader_parts`] takes it for a record. Between the meanings of 27 its
+    /// number does not decide.
     ///
     /// ```
     /// use margin_host::Refusal;
@@ -236,6 +247,7 @@ impl Refusal {
     /// let refusal = Refusal::from_parts(14, 3, 0);
     /// assert_eq!(refusal, Some(Refusal::AmountZero { line: 3 }));
     /// assert_eq!(Refusal::from_parts(14, 3, 1), None);
+    /// assert_eq!(Refusal::from_parts(27, 0, 0), None);
     /// ```
     #[must_use]
     pub fn from_parts(number: u64, place: u64, second: u64) -> Option<Refusal> {
@@ -309,6 +321,9 @@ impl fmt::Display for Refusal {
             25 if matches!(self, Refusal::LeiOrRatingInvalid { .. }) => {
                 write!(f, "record {place}, counting from 0, {fault}")
             }
+            4..=8 | 23 | 25 if place == 0 => {
+                write!(f, "holding 0, counting from 0, or the trade {fault}")
+            }
             4..=8 | 10 | 23 | 25 => write!(f, "holding {place}, counting from 0, {fault}"),
             11..=15 => write!(f, "line {place}, counting from 0, {fault}"),
             16 => write!(
@@ -318,7 +333,8 @@ impl fmt::Display for Refusal {
             19..=22 => write!(f, "record {place}, counting from 0, {fault}"),
             24 if place == 0 => write!(
                 f,
-                "the valuation date, or the maturity of holding 0, counting from 0, {fault}"
+                "the valuation date, the date to move to, or the maturity of the trade or of holding 0, counting \
+                 from 0, {fault}"
             ),
             24 => write!(
                 f,
@@ -340,10 +356,12 @@ impl Refusal {
             Refusal::ListTooShort => {
                 "a list lent for the results is too short: remainder, ranking and the columns of \
                  the holdings need one entry for each holding, the columns of the lines one for \
-                 each line, the head two entries, the LEIs 20 bytes for each corporation, the answer 16 \
-                 bytes"
+                 each line, the head two entries, the LEIs 20 bytes for each corporation, the list of a \
+                 day book 56 bytes for each holding, its totals five entries, the answer 16 bytes"
             }
-            Refusal::TooManyHoldings => "the book has more than 256 holdings",
+            Refusal::TooManyHoldings => {
+                "the book has more than 256 holdings, or would have with the trade"
+            }
             Refusal::SideUnknown { .. } => {
                 "has an unknown side: it must be 0 for long or 1 for short"
             }
@@ -356,10 +374,11 @@ impl Refusal {
                  United States, 12 for the United Kingdom or 100 to 355 for a corporation"
             }
             Refusal::MaturityOutOfRange { .. } => {
-                "has a maturity on or before the valuation date, or past its 100th anniversary"
+                "has a maturity on or before the valuation date or the date to move to, or past the former's \
+                 100th anniversary"
             }
             Refusal::ValueOutOfRange { .. } => {
-                "has a market value outside 1 to 100,000,000,000 cents"
+                "has a market value, or a sum with the trade, outside 1 to 100,000,000,000 cents"
             }
             Refusal::CurrencyUnknown { .. } => {
                 "has an unknown currency: it must be 0 for CAD, 1 for USD or 2 for GBP"
@@ -374,6 +393,13 @@ impl Refusal {
             }
             Refusal::TooManyLines => "the proposal has more than 512 lines",
             Refusal::PriceTooHigh { .. } => "has a price outside 0 to 43,800",
+            Refusal::StoredTotalsDiffer => {
+                "the totals stored with the book are not those of its holdings"
+            }
+            Refusal::TakenOutOfRange => {
+                "the trade takes zero, or more than the first equal holding holds"
+            }
+            Refusal::DateNotLater => "the date to move to is not later than the valuation date",
             _ => self.fault_of_lines(),
         }
     }

@@ -224,7 +224,7 @@ fn parts_and_back() {
 }
 
 /// Number, place and second place, and what it says.
-const SENTENCES: [((u64, u64, u64), &str); 27] = [
+const SENTENCES: [((u64, u64, u64), &str); 28] = [
     (
         (1, 0, 0),
         "the columns of the holdings, price, currency and rating among them, must all have the \
@@ -234,13 +234,21 @@ const SENTENCES: [((u64, u64, u64), &str); 27] = [
         (2, 0, 0),
         "a list lent for the results is too short: remainder, ranking and the columns of \
          the holdings need one entry for each holding, the columns of the lines one for \
-         each line, the head two entries, the LEIs 20 bytes for each corporation, the answer \
-         16 bytes",
+         each line, the head two entries, the LEIs 20 bytes for each corporation, the list of a \
+         day book 56 bytes for each holding, its totals five entries, the answer 16 bytes",
     ),
-    ((3, 0, 0), "the book has more than 256 holdings"),
+    (
+        (3, 0, 0),
+        "the book has more than 256 holdings, or would have with the trade",
+    ),
     (
         (4, 0, 0),
-        "holding 0, counting from 0, has an unknown side: it must be 0 for long or 1 for \
+        "holding 0, counting from 0, or the trade has an unknown side: it must be 0 for long or 1 \
+         for short",
+    ),
+    (
+        (4, 1, 0),
+        "holding 1, counting from 0, has an unknown side: it must be 0 for long or 1 for \
          short",
     ),
     (
@@ -256,13 +264,13 @@ const SENTENCES: [((u64, u64, u64), &str); 27] = [
     ),
     (
         (7, 255, 0),
-        "holding 255, counting from 0, has a maturity on or before the valuation date, or \
-         past its 100th anniversary",
+        "holding 255, counting from 0, has a maturity on or before the valuation date or the date \
+         to move to, or past the former's 100th anniversary",
     ),
     (
         (8, 3, 0),
-        "holding 3, counting from 0, has a market value outside 1 to 100,000,000,000 \
-         cents",
+        "holding 3, counting from 0, has a market value, or a sum with the trade, outside 1 to \
+         100,000,000,000 cents",
     ),
     ((9, 0, 0), "the proposal has more than 512 lines"),
     (
@@ -332,8 +340,8 @@ const SENTENCES: [((u64, u64, u64), &str); 27] = [
     ),
     (
         (24, 0, 0),
-        "the valuation date, or the maturity of holding 0, counting from 0, is no day of \
-         the years 1900 to 2299",
+        "the valuation date, the date to move to, or the maturity of the trade or of holding 0, \
+         counting from 0, is no day of the years 1900 to 2299",
     ),
     (
         (24, 9, 0),
@@ -364,6 +372,28 @@ fn every_refusal_in_words() {
         "record 9, counting from 0, has an LEI whose check digits do not fit it, no rating on a \
          corporation, or a rating on a government"
     );
+}
+
+#[test]
+fn the_meanings_of_27_in_words() {
+    for (refusal, words) in [
+        (
+            Refusal::StoredTotalsDiffer,
+            "the totals stored with the book are not those of its holdings",
+        ),
+        (
+            Refusal::TakenOutOfRange,
+            "the trade takes zero, or more than the first equal holding holds",
+        ),
+        (
+            Refusal::DateNotLater,
+            "the date to move to is not later than the valuation date",
+        ),
+    ] {
+        let parts = (refusal.number(), refusal.place(), refusal.second());
+        assert_eq!(parts, (27, 0, 0));
+        assert_eq!(refusal.to_string(), words);
+    }
 }
 
 #[test]

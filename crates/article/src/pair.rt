@@ -39,6 +39,7 @@ pub fn leg_of(account: Account, h: Holding) -> Leg
 {
     let row = holding::row_of(h);
     let letter = account.letter;
+    let period = rates::period(account, h.maturity);
     Leg {
         letter: holding::letter_number(letter),
         side: row.side,
@@ -46,8 +47,8 @@ pub fn leg_of(account: Account, h: Holding) -> Leg
         issuer: row.issuer,
         currency: row.currency,
         rating: row.rating,
-        period: rates::period(account, h.maturity),
-        rate: rates::rate(account, h),
+        period,
+        rate: rates::rate_in(account, h, period),
     }
 }
 

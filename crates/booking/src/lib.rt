@@ -188,7 +188,7 @@ pub fn see(scan: Scan, i: usize, account: Account, row: Row, trade: Row) -> Scan
         Built::Made(h) => {
             let period = rates::period(account, h.maturity);
             let p = (period - 1) as usize;
-            let margin = rates::rate(account, h) * h.value;
+            let margin = rates::rate_in(account, h, period) * h.value;
             let mut next = scan;
             next.totals[p] = next.totals[p] + margin;
             if next.at == i {
@@ -374,7 +374,7 @@ fn traded(day: Day, room: usize, scan: Scan, account: Account, t: Row, adds: boo
         Built::Made(h) => {
             let period = rates::period(account, h.maturity);
             let p = (period - 1) as usize;
-            let rate = rates::rate(account, h);
+            let rate = rates::rate_in(account, h, period);
             if adds {
                 return adding(day, room, scan, t, p, rate);
             }

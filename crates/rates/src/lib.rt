@@ -48,12 +48,12 @@ fn class_of(issuer: Issuer) -> usize
     }
 }
 
-// What a bond of this issuer and term has: in period 1 the year's fraction, of a government.
-fn bond_rate(account: Account, issuer: Issuer, maturity: u32) -> u64
+// What a bond of this issuer and term, in its period, has: in period 1 the year's fraction, of a government.
+fn bond_rate(account: Account, issuer: Issuer, maturity: u32, period: u64) -> u64
+    requires { ⌜ (period ≡ periodOf account maturity) × ((1 ≤ period) × (period ≤ 5)) ⌝ }
     ensures { λ r. ⌜ (r ≡ bondRate (classOf issuer) account maturity) × (r ≤ 8000000000) ⌝ }
 {
     let class = class_of(issuer);
-    let period = period(account, maturity);
     let at = (period - 1) as usize;
     let flat = FLAT[class][at] as u64;
     if class == 2 {
@@ -76,14 +76,15 @@ fn strip_rate(account: Account, bond: u64, maturity: u32) -> u64
     bond * 3
 }
 
-// The rate of a holding alone.
-pub fn rate(account: Account, h: Holding) -> u64
+// The rate of a holding alone, whose period was worked out.
+pub fn rate_in(account: Account, h: Holding, period: u64) -> u64
+    requires { ⌜ (period ≡ periodOf account (h .maturity)) × ((1 ≤ period) × (period ≤ 5)) ⌝ }
     ensures { λ r. ⌜ r ≡ rateOf account h ⌝ }
 {
     let kind = h.kind;
     let issuer = h.issuer;
     let maturity = h.maturity;
-    let bond = bond_rate(account, issuer, maturity);
+    let bond = bond_rate(account, issuer, maturity, period);
     match kind {
         Kind::Bond => bond,
         Kind::Coupon => strip_rate(account, bond, maturity),

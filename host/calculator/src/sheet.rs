@@ -3,7 +3,7 @@
 use std::collections::HashMap;
 use std::ops::{Deref, DerefMut};
 
-use margin_host::{Columns, Head, Line};
+use margin_host::{Columns, Head, Line, Row};
 
 use crate::{Account, Position};
 
@@ -17,25 +17,6 @@ pub const CLIENT: u64 = 1;
 pub const FIRST_CORPORATION: u64 = 100;
 /// The rating number of a government.
 pub const NOT_RATED: u64 = 2;
-
-/// One holding in the papers' numbers.
-#[derive(Clone, Copy, Debug, PartialEq, Eq)]
-pub struct Row {
-    /// 0 long, 1 short.
-    pub side: u64,
-    /// 0 bond or debenture, 1 stripped coupon, 2 residual.
-    pub kind: u64,
-    /// 0 Canada, 1 to 10 a province, 11 the United States, 12 the United Kingdom, 100 to 355 a corporation.
-    pub issuer: u64,
-    /// The maturity, YYYYMMDD.
-    pub maturity: u64,
-    /// Market value in Canadian cents.
-    pub value: u64,
-    /// 0 CAD, 1 USD, 2 GBP.
-    pub currency: u64,
-    /// Of a corporation 0 single A or higher, 1 lower; of a government 2.
-    pub rating: u64,
-}
 
 /// The head of an approved participant's book on this valuation date.
 #[must_use]

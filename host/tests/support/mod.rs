@@ -3,6 +3,7 @@
 // Each test file takes what it needs.
 #![allow(dead_code)]
 
+pub mod booking;
 pub mod faults;
 pub mod file;
 pub mod lent;

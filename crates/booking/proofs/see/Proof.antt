@@ -20,15 +20,15 @@ returns-2 c = λ rows l seen.
     seen-fault seen _ (made .before .if1 .left) l number other refl refl
 
 -- from where its rate is known to where the row made its record
-abbrev made : tie.After-rate → tie.After-holding-of
+abbrev made : tie.After-rate-in → tie.After-holding-of
 made c = c .before .before .before .before .before
 
-abbrev start : tie.After-rate → tie.Start
+abbrev start : tie.After-rate-in → tie.Start
 start c = made c .before .before .before
 
-module _ (c : tie.After-rate) where
-  margin-low : c .rate .result * c .before .before .before .built2 .given .0 .0 .value ≤ marginLimit
-  margin-low = made-high (made c .holding-of .ensures) (c .before .before .before .built2 .given .1) (start c .pre .valued) (c .rate .ensures)
+module _ (c : tie.After-rate-in) where
+  margin-low : c .rate-in .result * c .before .before .before .built2 .given .0 .0 .value ≤ marginLimit
+  margin-low = made-high (made c .holding-of .ensures) (c .before .before .before .built2 .given .1) (start c .pre .valued) (c .rate-in .ensures)
 
 mul-margin : tie.Need-mul-margin
 mul-margin c = omega (arith, margin-low (c .before))
@@ -49,7 +49,7 @@ returns-3 c = λ rows l seen.
     seen-counted seen _ none (made-row builds built .1) refl refl
     (counted-here seen _ none l (c .before .before .if2 .taken) (sym (c .before .is-alike .ensures) ∙ c .if3 .taken) refl refl
     (totals-next seen _ none (omega (arith, at .before .period .ensures)) (made-period builds built (at .before .period .ensures .0) (omega (arith, at .before .period .ensures)))
-    (made-margin builds built (at .rate .ensures))))
+    (made-margin builds built (at .rate-in .ensures))))
 
 returns-4 : tie.Need-returns-4
 returns-4 c = λ rows l seen.
@@ -60,7 +60,7 @@ returns-4 c = λ rows l seen.
     seen-counted seen _ none (made-row builds built .1) refl refl
     (counted-past seen _ none l (c .before .before .if2 .taken) (sym (c .before .is-alike .ensures) ∙ c .if3 .left) refl refl
     (totals-next seen _ none (omega (arith, at .before .period .ensures)) (made-period builds built (at .before .period .ensures .0) (omega (arith, at .before .period .ensures)))
-    (made-margin builds built (at .rate .ensures))))
+    (made-margin builds built (at .rate-in .ensures))))
 
 returns-5 : tie.Need-returns-5
 returns-5 c = λ rows l seen.
@@ -71,7 +71,7 @@ returns-5 c = λ rows l seen.
     seen-counted seen _ none (made-row builds built .1) refl refl
     (counted-later seen _ none l (c .if2 .left) refl refl
     (totals-next seen _ none (omega (arith, at .before .period .ensures)) (made-period builds built (at .before .period .ensures .0) (omega (arith, at .before .period .ensures)))
-    (made-margin builds built (at .rate .ensures))))
+    (made-margin builds built (at .rate-in .ensures))))
 
 pub see-spec : {M : Type 1} → statement M
 see-spec =

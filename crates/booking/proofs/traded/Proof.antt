@@ -27,30 +27,30 @@ returns c =
     }
 
 -- where its rate is known
-module _ (c : tie.After-rate) where
+module _ (c : tie.After-rate-in) where
   abbrev made : tie.After-described
   made = c .before .before .before .before .before
 
   abbrev start : tie.Start
   start = made .before
 
-  rated : {a : Account} → start .args .account ≡ a → Rated a (start .args .t) (c .before .period .result - 1) (c .rate .result)
+  rated : {a : Account} → start .args .account ≡ a → Rated a (start .args .t) (c .before .period .result - 1) (c .rate-in .result)
   rated w =
-      subst (λ (a : Account). Rated a (start .args .t) (c .before .period .result - 1) (c .rate .result)) w
+      subst (λ (a : Account). Rated a (start .args .t) (c .before .period .result - 1) (c .rate-in .result)) w
       (described-rated (start .args .t) (made .described .ensures) (c .before .before .before .built2 .given .1) (c .before .period .ensures .0)
-      (omega (arith, c .before .period .ensures)) (c .rate .ensures))
+      (omega (arith, c .before .period .ensures)) (c .rate-in .ensures))
 
 adding-requires : tie.Need-adding-requires
 adding-requires c κs =
     let at = c .before in
     raisable (start at .args .t) (made at .described .ensures) (at .before .before .before .built2 .given .1) (at .before .period .ensures .0)
-    (omega (arith, at .before .period .ensures)) (at .rate .ensures) (start at .pre) (omega (arith, at .before .period .ensures))
+    (omega (arith, at .before .period .ensures)) (at .rate-in .ensures) (start at .pre) (omega (arith, at .before .period .ensures))
 
 taking-requires : tie.Need-taking-requires
 taking-requires c κs =
     let at = c .before in
     lowerable (start at .args .t) (made at .described .ensures) (at .before .before .before .built2 .given .1) (at .before .period .ensures .0)
-    (omega (arith, at .before .period .ensures)) (at .rate .ensures) (start at .pre) (omega (arith, at .before .period .ensures))
+    (omega (arith, at .before .period .ensures)) (at .rate-in .ensures) (start at .pre) (omega (arith, at .before .period .ensures))
 
 returns-2 : tie.Need-returns-2
 unfolding tradeOrder

@@ -46,33 +46,32 @@ module _ (class period own flat : ℕ) (a : Account) (m : ℕ) (read : flat ≡ 
 cast-flat : tie.Need-cast-flat
 cast-flat c =
     let found = c .before in
-    record { fits = small _ _ _ _ _ _ refl (found .before .class-of .ensures .0) (found .period .ensures .0) }
+    record { fits = small _ _ _ _ _ _ refl (found .class-of .ensures .0) (found .before .pre .0) }
 
 mul-result : tie.Need-mul-result
 mul-result c =
     let found = c .before .before .before .before in
-    record { fits = below _ _ _ _ _ _ refl (found .before .class-of .ensures .0) (found .period .ensures .0) _ (omega arith) }
+    record { fits = below _ _ _ _ _ _ refl (found .class-of .ensures .0) (found .before .pre .0) _ (omega arith) }
 
 returns : tie.Need-returns
 returns c =
     let found = c .before .before in
-    whole _ _ _ _ _ _ refl (found .before .class-of .ensures .0) (found .period .ensures .0) (c .if1 .taken)
+    whole _ _ _ _ _ _ refl (found .class-of .ensures .0) (found .before .pre .0) (c .if1 .taken)
 
 returns-2 : tie.Need-returns-2
 returns-2 c =
     let found = c .before .before .before .before in
-    early _ _ _ _ _ _ refl (found .before .class-of .ensures .0) (found .period .ensures .0) _ (omega arith) (omega arith) (c .before .before .if1 .left) (omega arith)
+    early _ _ _ _ _ _ refl (found .class-of .ensures .0) (found .before .pre .0) _ (omega arith) (omega arith) (c .before .before .if1 .left) (omega arith)
 
 returns-3 : tie.Need-returns-3
 returns-3 c =
     let found = c .before .before .before in
-    late _ _ _ _ _ _ refl (found .before .class-of .ensures .0) (found .period .ensures .0) (c .if2 .left)
+    late _ _ _ _ _ _ refl (found .class-of .ensures .0) (found .before .pre .0) (c .if2 .left)
 
 pub bond-rate-spec : {M : Type 1} → statement M
 bond-rate-spec =
     tie.close
     (tie.spec
-    (λ c κs. search needs)
     (λ c κs. search needs)
     (λ c. search needs)
     (λ c. search needs)

@@ -14,18 +14,18 @@ letter-number-requires c κs = search needs
 period-requires : tie.Need-period-requires
 period-requires c κs = search needs
 
-rate-requires : tie.Need-rate-requires
-rate-requires c κs = search needs
+rate-in-requires : tie.Need-rate-in-requires
+rate-in-requires c κs = search needs
 
 returns : tie.Need-returns
 unfolding legOf
 returns c =
-    let lettered = c .before .before in
-    let row = lettered .before .row-of .ensures in
+    let lettered = c .before in
+    let row = lettered .before .before .row-of .ensures in
     let letter = lettered .letter-number .ensures in
-    let period = c .before .period .ensures .0 in
-    let rate = c .rate .ensures in
+    let period = lettered .before .period .ensures .0 in
+    let rate = c .rate-in .ensures in
     (rw (row, letter, period, rate), λ g. rw (row, letter, period, rate) (leg-rates _ _ g))
 
 pub leg-of-spec : {M : Type 1} → statement M
-leg-of-spec = tie.close (tie.spec row-of-requires letter-number-requires period-requires rate-requires returns)
+leg-of-spec = tie.close (tie.spec row-of-requires period-requires letter-number-requires rate-in-requires returns)
