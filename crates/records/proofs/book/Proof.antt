@@ -1,66 +1,62 @@
+-- `book` judges an order, writes the change and puts the reply. Assumes nothing.
+use mathlib.Core.Path.{subst}
+use mathlib.Core.Bool.{Bool}
+use Prim.Native.Nat.{_<_}
 use borrow.Author.Needs.{needs}
+use Rattle.lists.proofs.Entries.{at-each}
+use Rattle.daybook.specs.Book.{makeBook}
+use Rattle.booking.specs.Seeing.{Concluded}
+use Rattle.records.specs.Records.{Slices, rowsIn, shortIn, makeSlices}
+use Rattle.records.proofs.Booked.{room, as-booked, books}
 use Rattle.records.proofs.book.Statement.{statement}
 use Rattle.records.proofs.book.Tie as tie
-use Rattle.records.proofs.book.Reads as reads
-use Rattle.records.proofs.book.Lts as lts
-use Rattle.booking.proofs.trade_of.Reads as trade-of-reads
-use Rattle.records.proofs.day_of.Reads as day-of-reads
-use Rattle.records.proofs.judge.Reads as judge-reads
-use Rattle.records.proofs.put_reply.Reads as put-reply-reads
-use Rattle.records.proofs.too_short.Reads as too-short-reads
-use Rattle.records.proofs.write.Reads as write-reads
 
--- src/lib.rt:200:9
-too-short-requires : tie.Need-too-short-requires
-too-short-requires c κs = search needs
+-- what was lent, and the outcome
+module _ (c : tie.After-judge) where
+  abbrev day-read : tie.After-day-of
+  day-read = c .before .before
 
--- src/lib.rt:201:9
-day-of-requires : tie.Need-day-of-requires
-day-of-requires c κs = search needs
+  abbrev entered : tie.After-slice-known
+  entered = day-read .before .before .before .before .before
 
--- src/lib.rt:202:9
-judge-requires : tie.Need-judge-requires
-judge-requires c κs = search needs
+  abbrev start : tie.Start
+  start = entered .before
 
--- src/lib.rt:204:25
-trade-of-requires : tie.Need-trade-of-requires
-trade-of-requires c κs = search needs
+  abbrev lent : Slices
+  lent = makeSlices (start .args .list .now) (start .args .totals .now) (start .args .answer .now)
 
--- src/lib.rt:204:5
-write-requires : tie.Need-write-requires
-write-requires c κs = search needs
+  concluded : Concluded (shortIn lent) (makeBook (day-read .day-of .result) (rowsIn (lent .list))) (start .args .order) (c .judge .result)
+  unfolding shortIn
+  concluded = subst (λ (s : Bool). Concluded s (makeBook (day-read .day-of .result) (rowsIn (lent .list))) (start .args .order) (c .judge .result)) (day-read .before .before .too-short .ensures) (c .judge .ensures .1)
 
--- src/lib.rt:205:5
 put-reply-requires : tie.Need-put-reply-requires
-put-reply-requires c κs = ?
+put-reply-requires c κs =
+    let judged = c .before .before .before .before .before .before .before .before in
+    room (lent judged) (day-read judged .day-of .ensures) (concluded judged)
 
--- src/lib.rt:188:1
-same-length : tie.Need-same-length
-same-length c = search needs
-
--- src/lib.rt:188:1
-same-length-2 : tie.Need-same-length-2
-same-length-2 c = search needs
-
--- src/lib.rt:188:1
-same-length-3 : tie.Need-same-length-3
-same-length-3 c = search needs
-
--- src/lib.rt:188:1
 returns : tie.Need-returns
-returns c = ?
+returns c =
+    let put = c .before .before .before .before in
+    let known = put .before .before .before in
+    let wrote = known .before .before in
+    let judged = wrote .before .before .before .before in
+    books (lent judged) (day-read judged .day-of .ensures) (concluded judged)
+    (at-each (λ x. x < 256) 0 (lent judged .list) (λ i _. entered judged .slice-known .given i .fits))
+    (at-each (λ x. x < 256) 0 (wrote .write .last .0) (λ i _. known .slice-known4 .given i .fits))
+    (as-booked (lent judged) (day-read judged .day-of .ensures) (concluded judged) (wrote .before .trade-of .ensures) (wrote .write .ensures))
+    (put .put-reply .ensures)
 
 pub book-spec : {M : Type 1} → statement M
 book-spec =
     tie.close
     (tie.spec
-    too-short-requires
-    day-of-requires
-    judge-requires
-    trade-of-requires
-    write-requires
+    (λ c κs. search needs)
+    (λ c κs. search needs)
+    (λ c κs. search needs)
+    (λ c κs. search needs)
+    (λ c κs. search needs)
     put-reply-requires
-    same-length
-    same-length-2
-    same-length-3
+    (λ c. search needs)
+    (λ c. search needs)
+    (λ c. search needs)
     returns)

@@ -1,49 +1,60 @@
+-- `move_to` judges a move, which changes no record, and puts the reply. Assumes nothing.
+use mathlib.Core.Path.{refl, subst}
+use mathlib.Core.Bool.{Bool}
+use mathlib.Core.List.{List}
+use Prim.Native.Nat.{ℕ, _<_}
 use borrow.Author.Needs.{needs}
+use Rattle.lists.proofs.Entries.{at-each}
+use Rattle.daybook.specs.Book.{makeBook}
+use Rattle.daybook.specs.declared.Order.{the-variants.MoveTo}
+use Rattle.booking.specs.Seeing.{Concluded}
+use Rattle.records.specs.Records.{Slices, rowsIn, shortIn, makeSlices}
+use Rattle.records.proofs.Bytes.{Bytes}
+use Rattle.records.proofs.Booked.{room, as-moved, books}
 use Rattle.records.proofs.move_to.Statement.{statement}
 use Rattle.records.proofs.move_to.Tie as tie
-use Rattle.records.proofs.move_to.Reads as reads
-use Rattle.records.proofs.move_to.Lts as lts
-use Rattle.records.proofs.day_of.Reads as day-of-reads
-use Rattle.records.proofs.judge.Reads as judge-reads
-use Rattle.records.proofs.put_reply.Reads as put-reply-reads
-use Rattle.records.proofs.too_short.Reads as too-short-reads
 
--- src/lib.rt:221:9
-too-short-requires : tie.Need-too-short-requires
-too-short-requires c κs = search needs
+-- what was lent, and the outcome
+module _ (c : tie.After-judge) where
+  abbrev day-read : tie.After-day-of
+  day-read = c .before
 
--- src/lib.rt:222:9
-day-of-requires : tie.Need-day-of-requires
-day-of-requires c κs = search needs
+  abbrev entered : tie.After-shared-slice-known
+  entered = day-read .before .before .before .before .before
 
--- src/lib.rt:223:9
-judge-requires : tie.Need-judge-requires
-judge-requires c κs = search needs
+  abbrev start : tie.Start
+  start = entered .before
 
--- src/lib.rt:224:5
+  abbrev lent : Slices
+  lent = makeSlices (start .args .list .now) (start .args .totals .now) (start .args .answer .now)
+
+  concluded : Concluded (shortIn lent) (makeBook (day-read .day-of .result) (rowsIn (lent .list))) (MoveTo (start .args .to)) (c .judge .result)
+  unfolding shortIn
+  concluded = subst (λ (s : Bool). Concluded s (makeBook (day-read .day-of .result) (rowsIn (lent .list))) (MoveTo (start .args .to)) (c .judge .result)) (day-read .before .before .too-short .ensures) (c .judge .ensures .1)
+
+  own : Bytes (lent .list)
+  own = at-each (λ x. x < 256) 0 (lent .list) (λ i _. entered .shared-slice-known .given i .fits)
+
 put-reply-requires : tie.Need-put-reply-requires
-put-reply-requires c κs = ?
+put-reply-requires c κs =
+    let judged = c .before .before in
+    room (lent judged) (day-read judged .day-of .ensures) (concluded judged)
 
--- src/lib.rt:209:1
-same-length : tie.Need-same-length
-same-length c = search needs
-
--- src/lib.rt:209:1
-same-length-2 : tie.Need-same-length-2
-same-length-2 c = search needs
-
--- src/lib.rt:209:1
 returns : tie.Need-returns
-returns c = ?
+returns c =
+    let put = c .before .before .before .before in
+    let judged = put .before .before .before in
+    let same = as-moved (lent judged) (day-read judged .day-of .ensures) (concluded judged) (start judged .args .to) refl in
+    books (lent judged) (day-read judged .day-of .ensures) (concluded judged) (own judged) (own judged) same (put .put-reply .ensures)
 
 pub move-to-spec : {M : Type 1} → statement M
 move-to-spec =
     tie.close
     (tie.spec
-    too-short-requires
-    day-of-requires
-    judge-requires
+    (λ c κs. search needs)
+    (λ c κs. search needs)
+    (λ c κs. search needs)
     put-reply-requires
-    same-length
-    same-length-2
+    (λ c. search needs)
+    (λ c. search needs)
     returns)
