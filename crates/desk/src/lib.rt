@@ -89,7 +89,7 @@ fn change_of(room: usize, out: booking::Outcome) -> Change
     let reply = out.reply;
     let finding = reply.finding;
     match finding {
-        Finding::Accepted(_) => return change,
+        Finding::Done(_) => return change,
         Finding::Refused(number, _) => {
             if number == 0 {
                 return change;
