@@ -1,4 +1,5 @@
--- THE PAGE OF THE EXPORTED BOOKINGS. Document 02 f), "The book is the caller's list of holding records, changed in place": a record is 56 bytes, seven numbers. Assumes nothing.
+-- THE PAGE OF THE EXPORTED BOOKINGS. Document 02 f), "The book is the caller's list of holding records, changed in place": a record is 56 bytes, the seven numbers
+-- of a holding in the order of the columns. Assumes nothing.
 use mathlib.Core.{Path._≡_, Bool.Bool, Bool.cond, Bool._||_, List.List, List.[], List._∷_, List._++_}
 use Prim.Native.Nat.{ℕ, _*_, _/_}
 use lib.{Dec.ltb, ListN.length, ListN.take, ListN.drop}
@@ -16,7 +17,7 @@ use Rattle.daybook.specs.declared.Order.{Order}
 unfoldable pub recordsIn : List ℕ → ℕ
 recordsIn bytes = length bytes / 56
 
--- the bytes of record k, and the row whose numbers they are, in the order of the columns
+-- the bytes of record k, and the row whose numbers they are
 unfoldable pub recordAt : List ℕ → ℕ → List ℕ
 recordAt bytes k = take 56 (drop (56 * k) bytes)
 
