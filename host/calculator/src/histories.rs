@@ -3,8 +3,9 @@
 //! The program has a list of [`PLACES`] holdings, each at first a long Canada bond in CAD without maturity, value and
 //! rating, and what is stored with a book. [`stdin`] has a record of ten eight-byte little-endian numbers for each
 //! [`Step`]: its number, its own numbers, and zeros. [`stdout`] has lines of decimal numbers with commas between them and
-//! CRLF after each: for a new book `N`, date, letter and room; for an order its refusal number or 0, the place or the new
-//! count, and the five totals that are then stored; for the list a line `H` for each of its places.
+//! CRLF after each: for a new book `N`, date and letter; for an order its refusal number or 0, the place or the new count,
+//! and the five totals that are then stored; for the list a line `H` for each holding of the book, and for what stands
+//! behind the last.
 
 use std::fmt::Write;
 
@@ -18,7 +19,7 @@ mod full;
 mod typed;
 
 /// The places of the program's list.
-pub const PLACES: usize = 257;
+pub const PLACES: usize = 256;
 
 /// What a place of the list has before anything is written to it.
 const BLANK: Row = Row {
@@ -45,8 +46,8 @@ pub struct Day {
 /// One record of the input.
 #[derive(Clone, Copy, Debug, PartialEq, Eq)]
 pub enum Step {
-    /// 0, date, letter, room: from here on the first so many places of the list are lent, with an empty book.
-    New(Head, u64),
+    /// 0, date, letter: an empty book. The list is as it was.
+    New(Head),
     /// 1, side, kind, issuer, maturity, value, currency, rating: a trade is added. 2, the same: it is taken. 3, date: the
     /// book moves.
     Order(Order),
@@ -54,7 +55,7 @@ pub enum Step {
     Put(Row, u64),
     /// 5, date, letter, count, the five totals: this is stored with the book.
     Store(Day),
-    /// 6: the places that are lent are printed.
+    /// 6: the holdings of the book are printed, and what stands behind them where the list goes on.
     Show,
 }
 
@@ -104,7 +105,7 @@ impl Step {
     #[must_use]
     pub fn numbers(&self) -> [u64; 10] {
         let (kind, own) = match *self {
-            Step::New(Head { date, letter }, room) => (0, vec![date, letter, room]),
+            Step::New(Head { date, letter }) => (0, vec![date, letter]),
             Step::Order(Order::Add(row)) => (1, row.to_numbers().to_vec()),
             Step::Order(Order::Take(row)) => (2, row.to_numbers().to_vec()),
             Step::Order(Order::Move(to)) => (3, vec![to]),
@@ -127,7 +128,6 @@ impl Step {
 #[derive(Clone, Debug)]
 pub struct Desk {
     list: Vec<u8>,
-    room: usize,
     day: Day,
 }
 
@@ -143,7 +143,6 @@ impl Desk {
     pub fn new() -> Desk {
         Desk {
             list: BLANK.to_bytes().repeat(PLACES),
-            room: 0,
             day: Day {
                 head: Head { date: 0, letter: 0 },
                 count: 0,
@@ -159,14 +158,13 @@ impl Desk {
     /// If a step names a place that the list does not have.
     pub fn step(&mut self, step: &Step) -> String {
         match *step {
-            Step::New(head, room) => {
-                self.room = room as usize;
+            Step::New(head) => {
                 self.day = Day {
                     head,
                     count: 0,
                     totals: [0; 5],
                 };
-                format!("N,{},{},{room}\r\n", head.date, head.letter)
+                format!("N,{},{}\r\n", head.date, head.letter)
             }
             Step::Order(order) => self.order(&order),
             Step::Put(row, place) => {
@@ -177,18 +175,18 @@ impl Desk {
                 self.day = day;
                 String::new()
             }
-            Step::Show => self.holdings().iter().map(shown).collect(),
+            Step::Show => {
+                let shows = (self.day.count as usize).saturating_add(1);
+                self.places().iter().take(shows).map(shown).collect()
+            }
         }
     }
 
-    /// The places that are lent.
+    /// What stands at the places of the list.
     #[must_use]
-    pub fn holdings(&self) -> Vec<Row> {
-        let records = &self.list.as_chunks().0[..self.room];
-        records
-            .iter()
-            .map(|record| Row::from_bytes(*record))
-            .collect()
+    pub fn places(&self) -> Vec<Row> {
+        let records = self.list.as_chunks().0.iter();
+        records.map(|record| Row::from_bytes(*record)).collect()
     }
 
     /// What is stored with the book.
@@ -198,7 +196,7 @@ impl Desk {
     }
 
     fn order(&mut self, order: &Order) -> String {
-        let list = &mut self.list[..Row::LENGTH * self.room];
+        let list = &mut self.list;
         let Day {
             head: Head { date, letter },
             count,

@@ -1,11 +1,10 @@
 //! Lent books with faults of their own, which come before those of an order.
 
-use super::{BLANK, Day, History, Step};
+use super::{BLANK, Day, History, PLACES, Step};
 use crate::{Order, Row, VALUED, participant, totals_of};
 use margin_host::Head;
 
 const COUNT: usize = 5;
-const ROOM: u64 = 6;
 
 /// Five holdings, of which two are alike in all but the value.
 fn rows() -> [Row; COUNT] {
@@ -73,10 +72,10 @@ pub(super) fn add_to(list: &mut Vec<History>) {
     history("lent holdings with a fault", holdings());
 }
 
-/// The sound book, put into a list of six places.
+/// The sound book, put into the list.
 fn sound() -> Vec<Step> {
     let puts = (0..).zip(rows()).map(|(place, row)| Step::Put(row, place));
-    let start = [Step::New(participant(VALUED), ROOM)];
+    let start = [Step::New(participant(VALUED))];
     start
         .into_iter()
         .chain(puts)
@@ -130,11 +129,11 @@ fn heads() -> Vec<Step> {
         ..stored()
     };
     let days = [
-        with(VALUED, 0, ROOM + 1),
-        with(VALUED, 0, 256),
-        with(VALUED, 0, 257),
-        with(0, 2, u64::MAX),
-        with(0, 2, ROOM + 1),
+        with(VALUED, 0, COUNT as u64 + 1),
+        with(VALUED, 0, PLACES as u64),
+        with(VALUED, 0, PLACES as u64 + 1),
+        with(VALUED, 0, u64::MAX),
+        with(0, 2, PLACES as u64 + 1),
         with(0, 2, COUNT as u64),
         with(2025_02_29, 0, COUNT as u64),
         with(VALUED, 2, COUNT as u64),

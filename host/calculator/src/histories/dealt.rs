@@ -1,6 +1,6 @@
 //! Histories made from a seed.
 
-use super::{History, Step, letter};
+use super::{History, PLACES, Step, letter};
 use crate::Ledger;
 use crate::dealing::{Dealer, Style, fault_of_cases};
 use crate::samples::{ANY, CORPORATE, DOMESTIC, PERIODS, Random, Shape, valuation_date};
@@ -40,18 +40,17 @@ pub(super) fn add_to(list: &mut Vec<History>) {
             date: valuation_date(&mut random),
             letter: letter(turn),
         };
-        let room = random.pick(&[3, 10, 40]);
         let title = format!("dealt {turn}: {}", shape.name);
-        let steps = dealt(&mut random, style, head, room, 60);
+        let steps = dealt(&mut random, style, head, 60);
         list.push(History { title, steps });
     }
 }
 
 /// So many orders to an empty book, and its list.
-fn dealt(random: &mut Random, style: Style, head: Head, room: usize, orders: usize) -> Vec<Step> {
-    let mut ledger = Ledger::new(head, room);
+fn dealt(random: &mut Random, style: Style, head: Head, orders: usize) -> Vec<Step> {
+    let mut ledger = Ledger::new(head, PLACES);
     let mut dealer = Dealer::new(random, style, &ledger);
-    let mut steps = vec![Step::New(head, room as u64)];
+    let mut steps = vec![Step::New(head)];
     for _ in 0..orders {
         let order = dealer.order(random, &ledger);
         // What is refused changes nothing, in the ledger either.

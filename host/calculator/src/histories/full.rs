@@ -1,10 +1,8 @@
-//! Books of 256 holdings, in a list that is full with them and in one that is not.
+//! A book of 256 holdings, which fills the list.
 
-use super::{BLANK, Day, History, PLACES, Step};
+use super::{BLANK, History, PLACES, Step};
 use crate::calendar::days_after;
-use crate::{Order, Row, VALUED, participant, totals_of};
-
-const HOLDINGS: usize = 256;
+use crate::{Order, Row, VALUED, participant};
 
 /// A coupon that matures so many days after the valuation date.
 fn coupon(days: usize) -> Row {
@@ -17,37 +15,14 @@ fn coupon(days: usize) -> Row {
 }
 
 pub(super) fn add_to(list: &mut Vec<History>) {
-    let rows: Vec<Row> = (0..HOLDINGS)
-        .map(|number| coupon(20 * (number + 1)))
-        .collect();
+    let rows: Vec<Row> = (1..=PLACES).map(|number| coupon(20 * number)).collect();
     let adds = rows.iter().map(|row| Step::Order(Order::Add(*row)));
-    let start = [Step::New(participant(VALUED), PLACES as u64)];
+    let start = [Step::New(participant(VALUED))];
     let steps = start.into_iter().chain(adds).chain(at_the_limit(&rows));
     list.push(History {
-        title: "256 holdings in a list of 257 places".into(),
-        steps: steps.collect(),
+        title: "256 holdings".into(),
+        steps: steps.chain([Step::Show]).collect(),
     });
-    // The list still has the book of before, but for what has changed at its limit.
-    let title = "256 holdings in a full list".to_string();
-    let stored = Day {
-        head: participant(VALUED),
-        count: HOLDINGS as u64,
-        totals: totals_of(participant(VALUED), &rows),
-    };
-    let rows_again = (0..)
-        .zip(&rows)
-        .skip(100)
-        .map(|(place, row)| Step::Put(*row, place));
-    let start = [Step::New(participant(VALUED), HOLDINGS as u64)];
-    let steps = start
-        .into_iter()
-        .chain(rows_again)
-        .chain([Step::Store(stored)]);
-    let steps = steps
-        .chain(at_the_limit(&rows))
-        .chain([Step::Show])
-        .collect();
-    list.push(History { title, steps });
 }
 
 /// A 257th holding, one more after one has left, and a move that the last holding alone bears.
@@ -59,8 +34,8 @@ fn at_the_limit(rows: &[Row]) -> Vec<Step> {
         Order::Add(of(0)),
         Order::Add(of(100_000_000_001)),
         Order::Take(another),
-        Order::Add(rows[HOLDINGS - 1]),
-        Order::Take(rows[HOLDINGS - 1]),
+        Order::Add(rows[PLACES - 1]),
+        Order::Take(rows[PLACES - 1]),
         Order::Take(rows[100]),
         Order::Add(another),
         Order::Add(another),

@@ -2,6 +2,7 @@
 
 use super::{BLANK, History, Step};
 use crate::{Order, Row, VALUED, client, participant};
+use margin_host::Head;
 
 const BOND: Row = Row {
     issuer: 7,
@@ -30,7 +31,7 @@ pub(super) fn add_to(list: &mut Vec<History>) {
         let title = title.to_string();
         list.push(History { title, steps });
     };
-    let empty = Step::New(participant(VALUED), 4);
+    let empty = Step::New(participant(VALUED));
     history(
         "joining, adding, taking, leaving and joining again",
         empty,
@@ -39,38 +40,25 @@ pub(super) fn add_to(list: &mut Vec<History>) {
     history("the limits of a value", empty, &limits());
     history(
         "each part of a description",
-        Step::New(client(VALUED), 20),
+        Step::New(client(VALUED)),
         &descriptions(),
     );
     history("descriptions at fault", empty, &at_fault());
-    history("moving", Step::New(client(VALUED), 6), &moving());
+    history("moving", Step::New(client(VALUED)), &moving());
     history(
         "moving over the ends of months",
-        Step::New(participant(2024_01_30), 3),
+        Step::New(participant(2024_01_30)),
         &month_ends(),
     );
     history(
-        "no place left",
-        Step::New(participant(VALUED), 2),
-        &no_place(),
-    );
-    history(
-        "no place at all",
-        Step::New(participant(VALUED), 0),
-        &[add(BOND, 0), add(BOND, 1), take(BOND, 1)],
-    );
-    history(
         "a valuation date that is none",
-        Step::New(client(2025_02_29), 2),
+        Step::New(client(2025_02_29)),
         &[add(BOND, 1), move_to(2026_01_01)],
     );
-    let nobody = Step::New(
-        margin_host::Head {
-            date: VALUED,
-            letter: 2,
-        },
-        2,
-    );
+    let nobody = Step::New(Head {
+        date: VALUED,
+        letter: 2,
+    });
     history(
         "nobody's account",
         nobody,
@@ -297,19 +285,4 @@ fn month_ends() -> Vec<Step> {
     ];
     steps.extend(days.map(move_to));
     steps
-}
-
-fn no_place() -> Vec<Step> {
-    let third = Row { kind: 2, ..BOND };
-    vec![
-        add(BOND, 1),
-        add(COUPON, 1),
-        add(third, 0),
-        add(third, 1),
-        add(BOND, 1),
-        take(third, 1),
-        take(BOND, 2),
-        add(third, 1),
-        add(BOND, 1),
-    ]
 }

@@ -1,0 +1,10 @@
+pub mod Moving
+pub mod Mapped
+pub mod Apart
+pub mod Seen
+pub mod Judging
+pub mod Booked
+pub mod Rows
+pub mod Values
+pub mod Walks
+pub mod Shared
