@@ -1,7 +1,7 @@
 -- THE PAGE OF THE EXPORTED BOOKINGS. Document 02 f), "The book is the caller's list of holding records, changed in place": a record is 56 bytes, seven numbers. Assumes nothing.
 use mathlib.Core.{Path._≡_, Bool.Bool, Bool.cond, Bool._||_, List.List, List.[], List._∷_, List._++_}
-use Prim.Native.Nat.{ℕ, _+_, _*_, _/_}
-use lib.{Dec.ltb, ListN.length, ListN.take}
+use Prim.Native.Nat.{ℕ, _*_, _/_}
+use lib.{Dec.ltb, ListN.length, ListN.take, ListN.drop}
 use Rattle.lists.specs.Tables.{listTo, front}
 use Rattle.holding.specs.Holding.{numbersOf, rowBy}
 use Rattle.holding.specs.declared.{Head.Head, Row.Row}
@@ -16,12 +16,12 @@ use Rattle.daybook.specs.declared.Order.{Order}
 unfoldable pub recordsIn : List ℕ → ℕ
 recordsIn bytes = length bytes / 56
 
--- the numbers of record k, in the order of the columns, and its row
-unfoldable pub numbersAt : List ℕ → ℕ → List ℕ
-numbersAt bytes k = listTo 7 (λ j. wordAt bytes (7 * k + j))
+-- the bytes of record k, and the row whose numbers they are, in the order of the columns
+unfoldable pub recordAt : List ℕ → ℕ → List ℕ
+recordAt bytes k = take 56 (drop (56 * k) bytes)
 
 unfoldable pub rowAt : List ℕ → ℕ → Row
-rowAt bytes k = rowBy (numbersAt bytes k)
+rowAt bytes k = rowBy (decode (recordAt bytes k))
 
 -- the rows of a list of records
 unfoldable pub rowsIn : List ℕ → List Row
@@ -36,14 +36,7 @@ encodeRows (r ∷ rs) = encode (numbersOf r) ++ encodeRows rs
 unfoldable pub totalsIn : List ℕ → List ℕ
 totalsIn bytes = take 5 (decode bytes)
 
--- what is stored with a book, and the book, as they are lent
-unfoldable pub dayIn : ℕ → List ℕ → Head → Day
-dayIn count totals h = record { date = h .date; letter = h .letter; count = count; totals = totalsIn totals }
-
-unfoldable pub lentBook : ℕ → List ℕ → Head → List ℕ → Book
-lentBook count totals h list = makeBook (dayIn count totals h) (rowsIn list)
-
--- 2 holds of another list: fewer than 40 bytes of totals, or an answer slice of fewer than 16
+-- 2 holds of another list than the book's: fewer than 40 bytes of totals, or an answer slice of fewer than 16
 unfoldable pub tooShort : ℕ → ℕ → Bool
 tooShort totals answer = ltb totals 40 || ltb answer 16
 
@@ -56,26 +49,36 @@ pub record Slices : Type 0 where
 abbrev pub makeSlices : List ℕ → List ℕ → List ℕ → Slices
 makeSlices list totals answer = record { list = list; totals = totals; answer = answer }
 
+unfoldable pub shortIn : Slices → Bool
+shortIn s = tooShort (length (s .totals)) (length (s .answer))
+
+-- what is stored with a book of so many records, and the book, as they are lent
+unfoldable pub dayIn : ℕ → List ℕ → Head → Day
+dayIn count totals h = record { date = h .date; letter = h .letter; count = count; totals = totalsIn totals }
+
+unfoldable pub lentBook : ℕ → Head → Slices → Book
+lentBook count h s = makeBook (dayIn count (s .totals) h) (rowsIn (s .list))
+
 -- the head of the book after an order: only a move changes its date
 unfoldable pub headAfter : Order → Head → Head
 headAfter o h = record { date = dateAfter o (h .date); letter = h .letter }
 
 -- what an exported booking promises of an order to what is lent, before and after, and of the number that it returns
 module _ (o : Order) (count : ℕ) (h : Head) (before after : Slices) (r : ℕ) where
-  abbrev pub bookOf : Book
-  bookOf = lentBook count (before .totals) h (before .list)
+  abbrev book : Book
+  book = lentBook count h before
 
-  abbrev pub shortOf : Bool
-  shortOf = tooShort (length (before .totals)) (length (before .answer))
+  abbrev accepts : Bool
+  accepts = accepted (shortIn before) book o
 
   pub record Books : Type 0 where
     -- the refusal number, 0 for accepted, is returned; the new count and 0, or the place and 0, stand in the answer slice
-    pub returned : Answers (outcome shortOf bookOf o) (before .answer) (after .answer) r
+    pub returned : Answers (outcome (shortIn before) book o) (before .answer) (after .answer) r
     -- the records after an accepted order stand first in the list; bytes past them keep what they held
-    pub list : after .list ≡ cond (accepted shortOf bookOf o) (front (encodeRows (holdingsAfter o (holdingsIn bookOf))) (before .list)) (before .list)
+    pub list : after .list ≡ cond accepts (front (encodeRows (holdingsAfter o (holdingsIn book))) (before .list)) (before .list)
     -- the totals after it stand first in theirs
-    pub totals : after .totals ≡ cond (accepted shortOf bookOf o) (front (encode (dayAfter (bookOf .day) (holdingsIn bookOf) o .totals)) (before .totals)) (before .totals)
+    pub totals : after .totals ≡ cond accepts (front (encode (dayAfter (book .day) (holdingsIn book) o .totals)) (before .totals)) (before .totals)
     -- the book that is then lent, with the count that was answered, is the one that the order leaves
-    pub next : r ≡ 0 → lentBook (wordAt (after .answer) 0) (after .totals) (headAfter o h) (after .list) ≡ booked shortOf bookOf o
+    pub next : r ≡ 0 → lentBook (wordAt (after .answer) 0) (headAfter o h) after ≡ booked (shortIn before) book o
     -- a refusal writes to neither
     pub untouched : (r ≡ 0 → ⊥) → (after .list ≡ before .list) × (after .totals ≡ before .totals)

@@ -1,44 +1,34 @@
--- What is read and written of a lent book: a record, records that move up, what is stored, and a reply. Assumes nothing.
+-- What is read and written of a lent book: its records, what is stored with it, and a reply. Assumes nothing.
 use mathlib.Core.{Path._≡_, Bool.cond, List.List}
-use Prim.Native.Nat.{ℕ, _-_, _*_, _≤_}
-use lib.{Dec.eqb, ListN.length, ListN.take, ListN.drop}
-use Rattle.lists.specs.Tables.{front, overwrite}
-use Rattle.holding.specs.Holding.{numbersOf}
+use Prim.Native.Nat.{ℕ, _*_, _≤_}
+use lib.{Dec.eqb, ListN.length, ListN.drop}
+use Rattle.lists.specs.Tables.{front}
 use Rattle.holding.specs.declared.{Head.Head, Row.Row}
 use Rattle.words.specs.Words.{encode}
 use Rattle.lent.specs.Boundary.{Answers}
-use Rattle.daybook.specs.{Book.valued, Orders.answerOf}
-use Rattle.daybook.specs.declared.{Day.Day, Reply.Reply}
-use Rattle.booking.specs.Seeing.{changed}
-use Rattle.booking.specs.declared.Change.{Change}
-use Rattle.records.specs.Records.{recordsIn, rowsIn, dayIn}
+use Rattle.daybook.specs.Orders.{answerOf}
+use Rattle.daybook.specs.declared.{Day.Day, Finding.Finding}
+use Rattle.records.specs.Records.{recordsIn, rowsIn, totalsIn, dayIn}
 
--- the bytes with a row as record k, all others kept
-unfoldable pub withRow : List ℕ → ℕ → Row → List ℕ
-withRow bytes k row = overwrite (56 * k) (encode (numbersOf row)) bytes
-
--- the bytes with the records from `first` to before `end` moved up by one place
-unfoldable pub closedUp : ℕ → ℕ → List ℕ → List ℕ
-closedUp first end bytes = overwrite (56 * (first - 1)) (take (56 * (end - first)) (drop (56 * first) bytes)) bytes
-
--- bytes changed as their rows are to be: as many bytes, and those past the last record kept
-pub record Rewritten (c : Change) (t : Row) (before after : List ℕ) : Type 0 where
+-- the records of a list are then these rows: as many bytes, and those past the last record kept
+pub record Rewritten (wanted : List Row) (before after : List ℕ) : Type 0 where
   pub long : length after ≡ length before
-  pub rows : rowsIn after ≡ changed c (valued t (c .value)) (rowsIn before)
+  pub rows : rowsIn after ≡ wanted
   pub rest : drop (56 * recordsIn before) after ≡ drop (56 * recordsIn before) before
 
--- what is stored with a book, where its five totals are there to be read; the rest of it in any case
-pub record Stored (count : ℕ) (totals : List ℕ) (h : Head) (d : Day) : Type 0 where
+-- what is stored with a book, where its five totals are there to be read; all else of it in any case
+pub record Stored (number : ℕ) (five : List ℕ) (h : Head) (d : Day) : Type 0 where
   pub date : d .date ≡ h .date
   pub letter : d .letter ≡ h .letter
-  pub count : d .count ≡ count
-  pub whole : 40 ≤ length totals → d ≡ dayIn count totals h
+  pub count : d .count ≡ number
+  pub whole : 40 ≤ length five → d ≡ dayIn number five h
 
--- there is room for the totals of an accepted order
-abbrev pub Writable : Reply → List ℕ → Type 0
-Writable reply totals = answerOf (reply .finding) .number ≡ 0 → 40 ≤ length totals
+-- five totals of an accepted order, and room for them
+abbrev pub Writable : Finding → List ℕ → List ℕ → Type 0
+Writable f five old = answerOf f .number ≡ 0 → (length five ≡ 5) × (40 ≤ length old)
 
--- a reply as the host gets it: the answer, and the totals of an accepted order
-pub record Replied (reply : Reply) (totals totals′ answer answer′ : List ℕ) (r : ℕ) : Type 0 where
-  pub returned : Answers (answerOf (reply .finding)) answer answer′ r
-  pub totals : totals′ ≡ cond (eqb (answerOf (reply .finding) .number) 0) (front (encode (reply .day .totals)) totals) totals
+-- a finding as the host gets it: the answer, and the totals of an accepted order, which are then read back
+pub record Replied (f : Finding) (five old new answer answer′ : List ℕ) (r : ℕ) : Type 0 where
+  pub returned : Answers (answerOf f) answer answer′ r
+  pub written : new ≡ cond (eqb (answerOf f .number) 0) (front (encode five) old) old
+  pub back : answerOf f .number ≡ 0 → totalsIn new ≡ five

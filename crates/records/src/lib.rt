@@ -10,13 +10,15 @@ use holding::Account;
 use holding::Head;
 use holding::Row;
 ghost use mathlib.Core.Path.{_≡_};
+ghost use mathlib.Core.Bool.{true};
 ghost use Prim.Native.Nat.{_+_, _*_, _≤_, _<_};
-ghost use lib.ListN.{length, take};
-ghost use Rattle.booking.specs.Seeing.{Seen, Fits, Concluded};
-ghost use Rattle.daybook.specs.Book.{makeBook};
+ghost use lib.ListN.{length, take, set};
+ghost use Rattle.booking.specs.Seeing.{Seen, movedUp, changed, Fits, Concluded};
+ghost use Rattle.dates.specs.Calendar.{isDate};
+ghost use Rattle.daybook.specs.{Book.valued, Book.makeBook, Orders.answerOf};
 ghost use Rattle.daybook.specs.declared.Order.{the-variants.MoveTo};
 ghost use Rattle.records.specs.Records.{recordsIn, rowAt, rowsIn, tooShort, makeSlices, Books};
-ghost use Rattle.records.specs.Writing.{withRow, closedUp, Rewritten, Stored, Writable, Replied};
+ghost use Rattle.records.specs.Writing.{Rewritten, Stored, Writable, Replied};
 
 // The row of record i: side, kind, issuer, maturity, value, currency, rating.
 fn row_at(list: &[u8], i: usize) -> Row
@@ -38,7 +40,7 @@ fn row_at(list: &[u8], i: usize) -> Row
 // Writes a row as record i; all other bytes are kept.
 fn put_row(list: &mut [u8], i: usize, row: Row)
     requires { ⌜ 56 * i + 56 ≤ length (now list) ⌝ }
-    ensures { λ _. ⌜ now (list .exit) ≡ withRow (now (list .entry)) i row ⌝ }
+    ensures { λ _. ⌜ Rewritten (set (rowsIn (now (list .entry))) i row) (now (list .entry)) (now (list .exit)) ⌝ }
 {
     let w = 7 * i;
     words::put_word(list, w, row.side);
@@ -52,7 +54,7 @@ fn put_row(list: &mut [u8], i: usize, row: Row)
 
 // The first n records, seen one after another.
 fn see_rows(list: &[u8], n: usize, account: Account, trade: Row) -> Scan
-    requires { ⌜ (56 * n ≤ length (now list)) × (n ≤ 256) ⌝ }
+    requires { ⌜ (56 * n ≤ length (now list)) × (n ≤ 256) × (isDate (account .date) ≡ true) ⌝ }
     ensures { λ r. ⌜ Seen account trade (take n (rowsIn (now (list .entry)))) r ⌝ }
 {
     let mut scan = booking::unseen();
@@ -80,7 +82,7 @@ fn judge(list: &[u8], day: Day, order: Order, short: bool) -> Outcome
 // Records from `first` to before `end` move up by one place.
 fn move_up(list: &mut [u8], first: usize, end: usize)
     requires { ⌜ (1 ≤ first) × (56 * end ≤ length (now list)) ⌝ }
-    ensures { λ _. ⌜ now (list .exit) ≡ closedUp first end (now (list .entry)) ⌝ }
+    ensures { λ _. ⌜ Rewritten (movedUp first end (rowsIn (now (list .entry)))) (now (list .entry)) (now (list .exit)) ⌝ }
 {
     if first >= end {
         return;
@@ -96,7 +98,7 @@ fn move_up(list: &mut [u8], first: usize, end: usize)
 // Changes the list: records move up, and then the trade with the change's value is written, where the list has that record.
 fn write(list: &mut [u8], change: Change, trade: Row)
     requires { ⌜ Fits (recordsIn (now list)) change ⌝ }
-    ensures { λ _. ⌜ Rewritten change trade (now (list .entry)) (now (list .exit)) ⌝ }
+    ensures { λ _. ⌜ Rewritten (changed change (valued trade (change .value)) (rowsIn (now (list .entry)))) (now (list .entry)) (now (list .exit)) ⌝ }
 {
     move_up(list, change.first, change.end);
     let at = change.at;
@@ -137,21 +139,49 @@ fn day_of(count: u64, totals: &[u8], head: Head) -> Day
     }
 }
 
-// What the host gets of a reply: an accepted order's totals and new count are written, and the answer's number is returned.
-fn answer_to(reply: Reply, totals: &mut [u8], answer: &mut [u8]) -> u64
-    requires { ⌜ Writable reply (now totals) ⌝ }
-    ensures { λ r. ⌜ Replied reply (now (totals .entry)) (now (totals .exit)) (now (answer .entry)) (now (answer .exit)) r ⌝ }
+// The number of a finding, 0 for accepted.
+fn number_of(finding: Finding) -> u64
+    ensures { λ r. ⌜ r ≡ answerOf finding .number ⌝ }
+{
+    match finding {
+        Finding::Accepted(_) => return 0,
+        Finding::Refused(number, _) => return number,
+    }
+}
+
+// The value beside it: the new count, or the place.
+fn value_of(finding: Finding) -> u64
+    ensures { λ r. ⌜ r ≡ answerOf finding .first ⌝ }
+{
+    match finding {
+        Finding::Accepted(count) => return count,
+        Finding::Refused(_, place) => return place,
+    }
+}
+
+// What the host gets of a finding: the totals of an accepted order, and the answer, whose number is returned.
+fn put_finding(finding: Finding, five: &[u64], totals: &mut [u8], answer: &mut [u8]) -> u64
+    requires { ⌜ Writable finding (now five) (now totals) ⌝ }
+    ensures { λ r. ⌜ Replied finding (now (five .entry)) (now (totals .entry)) (now (totals .exit)) (now (answer .entry)) (now (answer .exit)) r ⌝ }
+{
+    let number = number_of(finding);
+    let value = value_of(finding);
+    if number != 0 {
+        return lent::put_answer(number, value, 0, answer);
+    }
+    words::write_words(five, 5, totals);
+    lent::put_answer(number, value, 0, answer)
+}
+
+// The same of a reply, with the totals that are then stored.
+fn put_reply(reply: Reply, totals: &mut [u8], answer: &mut [u8]) -> u64
+    requires { ⌜ Writable (reply .finding) (reply .day .totals) (now totals) ⌝ }
+    ensures { λ r. ⌜ Replied (reply .finding) (reply .day .totals) (now (totals .entry)) (now (totals .exit)) (now (answer .entry)) (now (answer .exit)) r ⌝ }
 {
     let finding = reply.finding;
-    match finding {
-        Finding::Accepted(count) => {
-            let day = reply.day;
-            let five = day.totals;
-            words::write_words(&five, 5, totals);
-            return lent::put_answer(0, count, 0, answer);
-        }
-        Finding::Refused(number, place) => return lent::put_answer(number, place, 0, answer),
-    }
+    let day = reply.day;
+    let five = day.totals;
+    put_finding(finding, &five, totals, answer)
 }
 
 // An order to a lent book of so many records: its list, its totals and the answer are written. The answer's number is returned.
@@ -172,7 +202,7 @@ pub fn book(
     let outcome = judge(list, day, order, short);
     let change = outcome.change;
     write(list, change, booking::trade_of(order));
-    answer_to(outcome.reply, totals, answer)
+    put_reply(outcome.reply, totals, answer)
 }
 
 // A lent book moves to a date: no record changes.
@@ -191,5 +221,5 @@ pub fn move_to(
     let short = too_short(totals.len(), answer.len());
     let day = day_of(count, totals, head);
     let outcome = judge(list, day, Order::MoveTo(to), short);
-    answer_to(outcome.reply, totals, answer)
+    put_reply(outcome.reply, totals, answer)
 }
