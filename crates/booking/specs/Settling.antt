@@ -15,7 +15,7 @@ use Rattle.daybook.specs.Book.{valued, accountAt}
 use Rattle.daybook.specs.Orders.{answerOf, rowsFaults, sumFaults, orderFaults, holdingsAfter, dayAfter, acceptedAnswer, descriptionFaults}
 use Rattle.daybook.specs.declared.{Day.Day, Reply.Reply}
 use Rattle.daybook.specs.declared.Order.{Order, the-variants.Add, the-variants.Take, the-variants.MoveTo}
-use Rattle.daybook.specs.declared.Finding.{the-variants.Accepted, the-variants.Refused}
+use Rattle.daybook.specs.declared.Finding.{the-variants.Done, the-variants.Refused}
 use Rattle.booking.specs.Seeing.{tradeOf, onDate, Counted, Seen, changed, Fits}
 use Rattle.booking.specs.declared.{Opening.Opening, Scan.Scan, Change.Change, Outcome.Outcome}
 
@@ -35,7 +35,7 @@ refusalOf d room number place = record { reply = record { finding = Refused numb
 
 -- accepted with the count that is then stored
 abbrev pub acceptanceOf : Day → Change → Outcome
-acceptanceOf d c = record { reply = record { finding = Accepted (d .count); day = d }; change = c }
+acceptanceOf d c = record { reply = record { finding = Done (d .count); day = d }; change = c }
 
 -- what refuses a value added to so much: 8, and where it joins so many 3 and 2
 unfoldable pub addingFaults : ℕ → ℕ → Bool → ℕ → ℕ → List (Bool × ℕ)

@@ -230,7 +230,7 @@ fn accepted(day: Day, change: Change) -> Outcome
     ensures { λ r. ⌜ r ≡ acceptanceOf day change ⌝ }
 {
     let count = day.count;
-    let finding = Finding::Accepted(count as u64);
+    let finding = Finding::Done(count as u64);
     let reply = Reply { finding, day };
     Outcome { reply, change }
 }

@@ -143,7 +143,7 @@ fn print_head(day: Day) {
 // Prints what an order got, 0 and the new count or a refusal and its place, and the totals that are then stored.
 fn print_reply(finding: Finding, totals: [u64; 5]) {
     match finding {
-        Finding::Accepted(count) => {
+        Finding::Done(count) => {
             io::print_decimal(libc::STDOUT_FILENO, 0);
             print_number(count);
         }

@@ -12,7 +12,7 @@ use Rattle.proposal.specs.Submission.{noRow}
 use Rattle.daybook.specs.Book.{descriptionOf, alike, placeIn, heldIn, taken, accountAt, Book, holdingsIn}
 use Rattle.daybook.specs.Orders.{answerOf, outcome, accepted, booked}
 use Rattle.daybook.specs.declared.Order.{Order, the-variants.Add, the-variants.Take, the-variants.MoveTo}
-use Rattle.daybook.specs.declared.Finding.{the-variants.Accepted, the-variants.Refused}
+use Rattle.daybook.specs.declared.Finding.{the-variants.Done, the-variants.Refused}
 
 -- "equal in side, kind, issuer, maturity, currency and rating"
 pub record Equal (r t : Row) : Type 0 where
@@ -188,7 +188,7 @@ pub record OneDescription (r t : Row) : Type 0 where
 
 -- the paper's numbers of a finding: 0 and the new count, or the refusal's number and its place
 pub record FindingAnswers (m n : ℕ) : Type 0 where
-  pub new-count : answerOf (Accepted m) ≡ makeAnswer 0 m 0
+  pub new-count : answerOf (Done m) ≡ makeAnswer 0 m 0
   pub refusal : answerOf (Refused m n) ≡ makeAnswer m n 0
 
 -- the whole: every order to every lent book has an outcome and leaves a book as is demanded, and no other answer and no other book are

@@ -11,11 +11,11 @@ use Rattle.proposal.specs.{Submission.noRow, Outcome.atPlace}
 use Rattle.daybook.specs.Book.{placeIn, heldIn, added, taken, totalsOf, headOf, accountAt, Book, holdingsIn}
 use Rattle.daybook.specs.declared.Day.{Day}
 use Rattle.daybook.specs.declared.Order.{Order, the-variants.Add, the-variants.Take, the-variants.MoveTo}
-use Rattle.daybook.specs.declared.Finding.{Finding, the-variants.Accepted, the-variants.Refused}
+use Rattle.daybook.specs.declared.Finding.{Finding, the-variants.Done, the-variants.Refused}
 
 -- the paper's number and values of a finding
 abbrev pub answerOf : Finding → Answer
-answerOf (Accepted count) = makeAnswer 0 count 0
+answerOf (Done count) = makeAnswer 0 count 0
 answerOf (Refused number place) = makeAnswer number place 0
 
 -- a lent book is first checked like any other, in a list of so many entries: 3 more than 256 holdings, 2 a list shorter than its count, 24, 26; `short` says whether

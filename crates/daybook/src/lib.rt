@@ -17,9 +17,9 @@ pub enum Order {
     MoveTo(u64),
 }
 
-// Accepted with the new count of holdings, or refused with number and place.
+// Done, with the new count of holdings, or refused with number and place.
 pub enum Finding {
-    Accepted(u64),
+    Done(u64),
     Refused(u64, u64),
 }
 

@@ -89,7 +89,7 @@ fn change_of(room: usize, out: booking::Outcome) -> Change
     let reply = out.reply;
     let finding = reply.finding;
     match finding {
-        Finding::Accepted(_) => return change,
+        Finding::Done(_) => return change,
         Finding::Refused(number, _) => {
             if number == 0 {
                 return change;
@@ -169,11 +169,7 @@ fn conclude(view: View, seen: Scan, moved: Scan) -> Outcome
     let reply = out.reply;
     let change = change_of(view.room, out);
     let put = put_of(order, change.value);
-    Outcome {
-        reply,
-        change,
-        put,
-    }
+    Outcome { reply, change, put }
 }
 
 // An order judged on a list: its holdings are seen once, and for a move once more.

@@ -15,7 +15,7 @@ use Rattle.holding.specs.declared.Head.{Head}
 use Rattle.article.specs.Answer.{Answer, makeAnswer}
 use Rattle.lent.specs.Boundary.{Answers}
 use Rattle.daybook.specs.Orders.{answerOf}
-use Rattle.daybook.specs.declared.Finding.{Finding, the-variants.Accepted, the-variants.Refused}
+use Rattle.daybook.specs.declared.Finding.{Finding, the-variants.Done, the-variants.Refused}
 use Rattle.records.specs.Records.{totalsIn, dayIn}
 use Rattle.records.specs.Writing.{Stored, Replied}
 
@@ -50,7 +50,7 @@ five-back xs old n fit h =
 
 -- a finding's answer by its number and its value
 pub answer-is : (f : Finding) → makeAnswer (answerOf f .number) (answerOf f .first) 0 ≡ answerOf f
-answer-is (Accepted count) = refl
+answer-is (Done count) = refl
 answer-is (Refused number place) = refl
 
 module _ (f : Finding) (five old new slice slice′ : List ℕ) (n v r : ℕ) (number : n ≡ answerOf f .number) (value : v ≡ answerOf f .first) (g : Answers (makeAnswer n v 0) slice slice′ r) where

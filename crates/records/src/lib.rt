@@ -144,7 +144,7 @@ fn number_of(finding: Finding) -> u64
     ensures { λ r. ⌜ r ≡ answerOf finding .number ⌝ }
 {
     match finding {
-        Finding::Accepted(_) => return 0,
+        Finding::Done(_) => return 0,
         Finding::Refused(number, _) => return number,
     }
 }
@@ -154,7 +154,7 @@ fn value_of(finding: Finding) -> u64
     ensures { λ r. ⌜ r ≡ answerOf finding .first ⌝ }
 {
     match finding {
-        Finding::Accepted(count) => return count,
+        Finding::Done(count) => return count,
         Finding::Refused(_, place) => return place,
     }
 }
