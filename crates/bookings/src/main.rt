@@ -42,57 +42,16 @@ fn no_book() -> Book {
     Book { list, day }
 }
 
-fn side_of(side: u64) -> Side {
-    match side {
-        0 => Side::Long,
-        _ => Side::Short,
-    }
-}
-
-fn kind_of(kind: u64) -> Kind {
-    match kind {
-        0 => Kind::Bond,
-        1 => Kind::Coupon,
-        _ => Kind::Residual,
-    }
-}
-
-// A number that no issuer has is taken for a province's, so that the book or the order is at fault.
-fn issuer_of(issuer: u64) -> Issuer {
-    match issuer {
-        0 => Issuer::Canada,
-        11 => Issuer::UnitedStates,
-        12 => Issuer::UnitedKingdom,
-        100..=355 => Issuer::Corporation(issuer),
-        _ => Issuer::Province(issuer),
-    }
-}
-
-fn currency_of(currency: u64) -> Currency {
-    match currency {
-        0 => Currency::Cad,
-        1 => Currency::Usd,
-        _ => Currency::Gbp,
-    }
-}
-
-fn rating_of(rating: u64) -> Rating {
-    match rating {
-        0 => Rating::SingleA,
-        1 => Rating::Lower,
-        _ => Rating::NotGiven,
-    }
-}
-
-// The holding of the numbers 1 to 7 of a step; of the maturity's bits the lowest 32.
+// The holding of the numbers 1 to 7 of a step; of the maturity's bits the lowest 32. A number that no issuer has is taken for a province's, so that the book or
+// the order is at fault.
 fn holding_of(step: &[u8; 80]) -> Holding {
-    let side = side_of(words::word(step, 1));
-    let kind = kind_of(words::word(step, 2));
-    let issuer = issuer_of(words::word(step, 3));
+    let side = holding::side_of(words::word(step, 1));
+    let kind = holding::kind_of(words::word(step, 2));
+    let issuer = holding::issuer_of(words::word(step, 3));
     let maturity = words::word(step, 4) % 4294967296;
     let value = words::word(step, 5);
-    let currency = currency_of(words::word(step, 6));
-    let rating = rating_of(words::word(step, 7));
+    let currency = holding::currency_of(words::word(step, 6));
+    let rating = holding::rating_of(words::word(step, 7));
     Holding {
         side,
         kind,

@@ -241,7 +241,8 @@ pub fn fault(account: Account, row: Row) -> u64
     money_fault(row)
 }
 
-fn side_of(side: u64) -> Side
+// From a number to its case: of a number that none has, the last.
+pub fn side_of(side: u64) -> Side
     ensures { λ r. ⌜ r ≡ sideOf side ⌝ }
 {
     match side {
@@ -250,7 +251,7 @@ fn side_of(side: u64) -> Side
     }
 }
 
-fn kind_of(kind: u64) -> Kind
+pub fn kind_of(kind: u64) -> Kind
     ensures { λ r. ⌜ r ≡ kindOf kind ⌝ }
 {
     match kind {
@@ -260,7 +261,8 @@ fn kind_of(kind: u64) -> Kind
     }
 }
 
-fn issuer_of(issuer: u64) -> Issuer
+// Of a number that no issuer has, a province of that number.
+pub fn issuer_of(issuer: u64) -> Issuer
     ensures { λ r. ⌜ r ≡ issuerOf issuer ⌝ }
 {
     match issuer {
@@ -272,7 +274,7 @@ fn issuer_of(issuer: u64) -> Issuer
     }
 }
 
-fn currency_of(currency: u64) -> Currency
+pub fn currency_of(currency: u64) -> Currency
     ensures { λ r. ⌜ r ≡ currencyOf currency ⌝ }
 {
     match currency {
@@ -282,7 +284,7 @@ fn currency_of(currency: u64) -> Currency
     }
 }
 
-fn rating_of(rating: u64) -> Rating
+pub fn rating_of(rating: u64) -> Rating
     ensures { λ r. ⌜ r ≡ ratingOf rating ⌝ }
 {
     match rating {
