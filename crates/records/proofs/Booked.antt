@@ -32,6 +32,7 @@ use Rattle.booking.specs.declared.Outcome.{Outcome}
 use Rattle.booking.proofs.Seen.{rows-numbered}
 use Rattle.records.specs.Records.{recordsIn, rowsIn, encodeRows, totalsIn, tooShort, Slices, shortIn, dayIn, lentBook, headAfter, Books}
 use Rattle.records.specs.Writing.{Rewritten, Stored, Writable, Replied}
+use Rattle.records.proofs.Lent.{lent-numbers}
 use Rattle.records.proofs.Bytes.{Bytes}
 use Rattle.records.proofs.Rows.{length-rows, rows-back, front-rows}
 use Rattle.records.proofs.Rewriting.{still}
@@ -230,6 +231,7 @@ module _ (before : Slices) {o : Order} {count : ℕ} {h : Head} {d : Day} {out :
 
     pub books : Books o count h before after r
     books = record {
+      numbers = lent-numbers count h before;
       returned = answered;
       list = by-test (λ (xs : List ℕ). after .list ≡ xs) (accepted short lent o) list-written list-kept;
       totals = by-test (λ (xs : List ℕ). after .totals ≡ xs) (accepted short lent o) totals-written totals-kept;

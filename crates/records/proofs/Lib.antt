@@ -5,4 +5,5 @@ pub mod Rewriting
 pub mod Seen
 pub mod Judged
 pub mod Totals
+pub mod Lent
 pub mod Booked

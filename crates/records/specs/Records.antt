@@ -1,12 +1,13 @@
 -- THE PAGE OF THE EXPORTED BOOKINGS. Document 02 f), "The book is the caller's list of holding records, changed in place": a record is 56 bytes, the seven numbers
 -- of a holding in the order of the columns. Assumes nothing.
-use mathlib.Core.{Path._≡_, Bool.Bool, Bool.cond, Bool._||_, List.List, List.[], List._∷_, List._++_}
-use Prim.Native.Nat.{ℕ, _*_, _/_}
-use lib.{Dec.ltb, ListN.length, ListN.take, ListN.drop}
+use mathlib.Core.{Path._≡_, Logic._↔_, Bool.Bool, Bool.cond, Bool.false, Bool._||_, List.List, List.[], List._∷_, List._++_}
+use Prim.Native.Nat.{ℕ, _+_, _*_, _/_, _≤_, _<_}
+use lib.{Dec.ltb, ListN.length, ListN.getD, ListN.take, ListN.drop}
 use Rattle.lists.specs.Tables.{listTo, front}
 use Rattle.holding.specs.Holding.{numbersOf, rowBy}
 use Rattle.holding.specs.declared.{Head.Head, Row.Row}
 use Rattle.words.specs.Words.{wordAt, decode, encode}
+use Rattle.proposal.specs.Submission.{noRow}
 use Rattle.lent.specs.Boundary.{Answers}
 use Rattle.daybook.specs.Book.{Book, makeBook, holdingsIn}
 use Rattle.daybook.specs.Orders.{holdingsAfter, dateAfter, dayAfter, outcome, accepted, booked}
@@ -60,6 +61,27 @@ dayIn count totals h = record { date = h .date; letter = h .letter; count = coun
 unfoldable pub lentBook : ℕ → Head → Slices → Book
 lentBook count h s = makeBook (dayIn count (s .totals) h) (rowsIn (s .list))
 
+-- "the caller's list of holding records": as many as there are whole 56 bytes, each with the seven numbers that stand there one after another, side, kind, issuer,
+-- maturity, value, currency, rating; the totals are five numbers, and the count, the date and the letter are those that are given
+pub record LentNumbers (count : ℕ) (h : Head) (s : Slices) : Type 0 where
+  pub records : length (lentBook count h s .list) ≡ length (s .list) / 56
+  pub each : (k : ℕ) → k < length (s .list) / 56 → getD (lentBook count h s .list) k noRow ≡ record {
+    side = wordAt (s .list) (7 * k);
+    kind = wordAt (s .list) (7 * k + 1);
+    issuer = wordAt (s .list) (7 * k + 2);
+    maturity = wordAt (s .list) (7 * k + 3);
+    value = wordAt (s .list) (7 * k + 4);
+    currency = wordAt (s .list) (7 * k + 5);
+    rating = wordAt (s .list) (7 * k + 6);
+  }
+  pub totals : 40 ≤ length (s .totals)
+      → lentBook count h s .day .totals ≡ wordAt (s .totals) 0 ∷ wordAt (s .totals) 1 ∷ wordAt (s .totals) 2 ∷ wordAt (s .totals) 3 ∷ wordAt (s .totals) 4 ∷ []
+  pub counted : lentBook count h s .day .count ≡ count
+  pub date : lentBook count h s .day .date ≡ h .date
+  pub letter : lentBook count h s .day .letter ≡ h .letter
+  -- 2 holds of another list: totals of fewer than 40 bytes, or an answer slice of fewer than 16
+  pub long : (shortIn s ≡ false) ↔ ((40 ≤ length (s .totals)) × (16 ≤ length (s .answer)))
+
 -- the head of the book after an order: only a move changes its date
 unfoldable pub headAfter : Order → Head → Head
 headAfter o h = record { date = dateAfter o (h .date); letter = h .letter }
@@ -73,6 +95,8 @@ module _ (o : Order) (count : ℕ) (h : Head) (before after : Slices) (r : ℕ) 
   accepts = accepted (shortIn before) lent o
 
   pub record Books : Type 0 where
+    -- the book that is lent is that of the numbers in the bytes
+    pub numbers : LentNumbers count h before
     -- the refusal number, 0 for accepted, is returned; the new count and 0, or the place and 0, stand in the answer slice
     pub returned : Answers (outcome (shortIn before) lent o) (before .answer) (after .answer) r
     -- the records after an accepted order stand first in the list; bytes past them keep what they held
