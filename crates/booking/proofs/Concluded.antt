@@ -22,7 +22,8 @@ use Rattle.article.specs.Answer.{Answer, makeAnswer}
 use Rattle.proposal.specs.Outcome.{atPlace, firstFault}
 use Rattle.proposal.proofs.{Places.first-at, Places.zero-at, Stages.refuses, Stages.passes, Clear.number}
 use Rattle.daybook.specs.Book.{valued, totalsOf, headOf, accountAt, Book, makeBook, holdingsIn}
-use Rattle.daybook.specs.Orders.{answerOf, lentFaults, rowsFaults, totalsFaults, orderFaults, fromTotals, fromRows, faults, holdingsAfter, dayAfter, bookAfter, acceptedAnswer, outcome, accepted, booked}
+use Rattle.daybook.specs.Orders.{answerOf, lentFaults, rowsFaults, totalsFaults, orderFaults, fromTotals, fromRows, faults}
+use Rattle.daybook.specs.Orders.{holdingsAfter, dayAfter, bookAfter, acceptedAnswer, outcome, accepted, booked}
 use Rattle.daybook.specs.declared.{Day.Day, Reply.Reply}
 use Rattle.daybook.specs.declared.Order.{Order, the-variants.Add, the-variants.Take, the-variants.MoveTo}
 use Rattle.booking.specs.Seeing.{tradeOf, onDate, Counted, Seen, Known, Examined, Concluded, changed}

@@ -124,7 +124,9 @@ module _ (a : Account) where
       (ap (λ (n : ℕ). n + marginOf a r) (getD-to 5 (λ k. totalOf a rows (suc k)) p 0 q)
       ∙ ap (λ (n : ℕ). totalOf a rows (suc p) + n) (sym (only-same (suc p) (marginOf a r)) ∙ ap (λ (n : ℕ). only n (marginOf a r) (suc p)) (sym e))
       ∙ sym (total-more rows r (suc p)))
-      (λ k o. sym (total-more rows r (suc k) ∙ ap (λ (n : ℕ). totalOf a rows (suc k) + n) (only-other (periodOf a (r .maturity)) (marginOf a r) (suc k) (λ z. o (omega (arith, z, e)))) ∙ omega arith))
+      (λ k o.
+      let other = only-other (periodOf a (r .maturity)) (marginOf a r) (suc k) (λ z. o (omega (arith, z, e))) in
+      sym (total-more rows r (suc k) ∙ ap (λ (n : ℕ). totalOf a rows (suc k) + n) other ∙ omega arith))
 
   -- a margin alone, and the totals of so many holdings, are bounded
   module _ (valued : isDate (a .date) ≡ true) where

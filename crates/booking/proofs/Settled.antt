@@ -20,7 +20,8 @@ use Rattle.daybook.specs.Book.{valued, placeIn, heldIn, added, taken, marginOf,
 use Rattle.daybook.specs.Orders.{answerOf, descriptionFaults, sumFaults, joins, joinFaults, takingFaults, orderFaults, holdingsAfter, dateAfter, stored, dayAfter, acceptedAnswer}
 use Rattle.daybook.specs.declared.{Day.Day, Reply.Reply}
 use Rattle.daybook.specs.declared.Order.{Order, the-variants.Add, the-variants.Take, the-variants.MoveTo}
-use Rattle.daybook.proofs.{Described.description-listed, Trades.First, Trades.held-first, Trades.added-first, Trades.Nowhere, Trades.held-none, Trades.added-none, Trades.taken-part, Trades.taken-whole}
+use Rattle.daybook.proofs.Described.{description-listed}
+use Rattle.daybook.proofs.Trades.{First, held-first, added-first, Nowhere, held-none, added-none, taken-part, taken-whole}
 use Rattle.daybook.proofs.Written.{front-set, front-joined}
 use Rattle.booking.specs.Seeing.{tradeOf, Counted, movedUp, changed, Fits}
 use Rattle.booking.specs.Settling.{noChange, refusalOf, acceptanceOf, addingFaults, settlement, Settles, Held, Traded, Rated}
@@ -216,7 +217,8 @@ module _ {d : Day} {room : ℕ} {t : Row} {s : Scan} {rows : List Row} {p rate :
         put-only (valued t (s .held + t .value)) xs (s .at) (s .held + t .value)
         ∙ ap (λ (x : Row). set xs (s .at) x) joined-row
         ∙ ap (λ (i : ℕ). set xs i t) (none ∙ sym (traded .held .count))
-        ∙ (sym (ap (λ (ys : List Row). front ys xs) (added-none t rows nowhere ∙ ap (λ (ys : List Row). ys ++ (t ∷ [])) (sym k)) ∙ front-joined (length rows) xs (omega (arith, l, traded .held .count)) t)))
+        ∙ sym (ap (λ (ys : List Row). front ys xs) (added-none t rows nowhere ∙ ap (λ (ys : List Row). ys ++ (t ∷ [])) (sym k))
+        ∙ front-joined (length rows) xs (omega (arith, l, traded .held .count)) t))
 
   -- what refuses a taking
   taking-faults : orderFaults room d rows (Take t) ≡ atPlace 0 (descriptionFaults a t ++ takingFaults (s .held) (t .value))

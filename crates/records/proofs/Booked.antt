@@ -1,15 +1,15 @@
 -- An order to what is lent: from the core's outcome, the records that were written and the reply that was put, to what the exported bookings promise. Assumes nothing.
 use mathlib.Core.Path.{_≡_, refl, sym, ap, subst, _∙_}
-use mathlib.Core.Bool.{Bool, true, false, cond, _||_, or-true, false≢true}
-use mathlib.Core.List.{List, [], _∷_, _++_, append-nil}
-use Prim.Native.Nat.{ℕ, _+_, _-_, _*_, _/_, _≤_, _<_}
+use mathlib.Core.Bool.{Bool, true, false, cond, or-true, false≢true}
+use mathlib.Core.List.{List, _++_, append-nil}
+use Prim.Native.Nat.{ℕ, _+_, _-_, _*_, _/_, _≤_}
 use native.Mathlib.Omega.{arith}
-use lib.Dec.{ltb, eqb}
-use lib.ListN.{length, take, drop, set, length-append, length-drop, length-set, length-take, take-append-drop}
+use lib.Dec.{ltb}
+use lib.ListN.{length, take, drop, length-append, length-drop, take-append-drop}
 use lib.Seq.{take-all, drop-length, length-take-le}
-use borrow.Author.Tests.{eqb-true, eqb-false, ltb-false, eq-eqb, ne-eqb}
+use borrow.Author.Tests.{eqb-true, ltb-false, ne-eqb}
 use Rattle.lists.specs.Choice.{firstOf}
-use Rattle.lists.specs.Tables.{listTo, front}
+use Rattle.lists.specs.Tables.{front}
 use Rattle.lists.proofs.Firsts.{Numbered, first-of-none, none-first, numbered-append, numbered-in-turn}
 use Rattle.lists.proofs.Tables.{length-to}
 use Rattle.lists.proofs.Tests.{by-test, by-end, either-way, neither}
@@ -22,14 +22,15 @@ use Rattle.words.specs.Words.{wordAt, encode}
 use Rattle.lent.specs.Boundary.{Answers}
 use Rattle.daybook.specs.Book.{valued, heldIn, totalsOf, accountAt, Book, makeBook, holdingsIn}
 use Rattle.daybook.specs.Orders.{descriptionFaults, sumFaults, joinFaults, takingFaults, dateFaults, atMatured, maturedFaults, orderFaults, fromTotals, fromRows}
-use Rattle.daybook.specs.Orders.{answerOf, lentFaults, rowsFaults, totalsFaults, faults, holdingsAfter, dateAfter, stored, dayAfter, bookAfter, acceptedAnswer, outcome, accepted, booked}
-use Rattle.daybook.specs.declared.{Day.Day, Finding.Finding}
+use Rattle.daybook.specs.Orders.{answerOf, lentFaults, rowsFaults, totalsFaults, faults}
+use Rattle.daybook.specs.Orders.{holdingsAfter, dateAfter, stored, dayAfter, bookAfter, acceptedAnswer, outcome, accepted, booked}
+use Rattle.daybook.specs.declared.{Day.Day}
 use Rattle.daybook.specs.declared.Order.{Order, the-variants.Add, the-variants.Take, the-variants.MoveTo}
 use Rattle.daybook.proofs.Described.{description-listed}
 use Rattle.booking.specs.Seeing.{tradeOf, changed, Concluded}
 use Rattle.booking.specs.declared.Outcome.{Outcome}
 use Rattle.booking.proofs.Seen.{rows-numbered}
-use Rattle.records.specs.Records.{recordsIn, rowsIn, encodeRows, totalsIn, tooShort, Slices, makeSlices, shortIn, dayIn, lentBook, headAfter, Books}
+use Rattle.records.specs.Records.{recordsIn, rowsIn, encodeRows, totalsIn, tooShort, Slices, shortIn, dayIn, lentBook, headAfter, Books}
 use Rattle.records.specs.Writing.{Rewritten, Stored, Writable, Replied}
 use Rattle.records.proofs.Bytes.{Bytes}
 use Rattle.records.proofs.Rows.{length-rows, rows-back, front-rows}
@@ -76,7 +77,8 @@ order-numbered room d rows (Add t) =
     let listed = numbered-append (λ n. n) described summed (description-listed (accountAt d) t) (omega arith, tt) in
     listed-at 0 _ (numbered-append (λ n. n) (described ++ summed) (joinFaults room rows t) listed (omega arith, (omega arith, tt)))
 order-numbered room d rows (Take t) =
-    listed-at 0 _ (numbered-append (λ n. n) (descriptionFaults (accountAt d) t) (takingFaults (heldIn rows t) (t .value)) (description-listed (accountAt d) t) (omega arith, tt))
+    let described = descriptionFaults (accountAt d) t in
+    listed-at 0 _ (numbered-append (λ n. n) described (takingFaults (heldIn rows t) (t .value)) (description-listed (accountAt d) t) (omega arith, tt))
 order-numbered room d rows (MoveTo to) =
     numbered-append number (atPlace 0 (dateFaults (d .date) to)) (maturedFaults rows to) (listed-at 0 _ (omega arith, (omega arith, tt)))
     (numbered-in-turn number (atMatured rows to) (λ k. listed-at k _ (omega arith, tt)) (length rows))
@@ -87,7 +89,8 @@ faults-numbered short b o =
     let room = length (b .list) in
     let d = b .day in
     let rows = holdingsIn b in
-    let from-totals = numbered-append number (atPlace 0 (totalsFaults d rows)) (orderFaults room d rows o) (listed-at 0 _ (omega arith, tt)) (order-numbered room d rows o) in
+    let off = atPlace 0 (totalsFaults d rows) in
+    let from-totals = numbered-append number off (orderFaults room d rows o) (listed-at 0 _ (omega arith, tt)) (order-numbered room d rows o) in
     numbered-append number (atPlace 0 (lentFaults short room d)) (fromRows room d rows o) (listed-at 0 _ (omega arith, (omega arith, (omega arith, (omega arith, tt)))))
     (numbered-append number (rowsFaults (accountAt d) rows) (fromTotals room d rows o) (rows-numbered (accountAt d) rows) from-totals)
 
@@ -153,14 +156,18 @@ module _ (before : Slices) {o : Order} {count : ℕ} {h : Head} {d : Day} {out :
       (rw five (length-to 5 _), long-totals (not-short read y))
 
   -- a change that was written leaves the book's rows, and so does a move, which changes none
-  pub as-booked : {t : Row} {after : List ℕ} → t ≡ tradeOf o → Rewritten (changed (out .change) (valued t (out .change .value)) (rowsIn (before .list))) (before .list) after
-      → Rewritten (booked short read o .list) (before .list) after
+  abbrev change-by : Row → List Row
+  change-by t = changed (out .change) (valued t (out .change .value)) (rowsIn (before .list))
+
+  pub as-booked : {t : Row} {after : List ℕ} → t ≡ tradeOf o → Rewritten (change-by t) (before .list) after → Rewritten (booked short read o .list) (before .list) after
   as-booked {after = after} is w =
-      subst (λ (xs : List Row). Rewritten xs (before .list) after) (ap (λ (x : Row). changed (out .change) (valued x (out .change .value)) (rowsIn (before .list))) is ∙ con .list) w
+      subst (λ (xs : List Row). Rewritten xs (before .list) after) (ap change-by is ∙ con .list) w
 
   pub as-moved : (to : ℕ) → o ≡ MoveTo to → Rewritten (booked short read o .list) (before .list) (before .list)
   unfolding booked bookAfter holdingsAfter holdingsIn
-  as-moved to e = rw e (still (by-test (λ (x : Book). x .list ≡ rowsIn (before .list)) (accepted short read (MoveTo to)) (λ _. front-taken (d .count) (rowsIn (before .list))) (λ _. refl)))
+  as-moved to e =
+      let rows = rowsIn (before .list) in
+      rw e (still (by-test (λ (x : Book). x .list ≡ rows) (accepted short read (MoveTo to)) (λ _. front-taken (d .count) rows) (λ _. refl)))
 
   -- what is written
   module _ {after : Slices} {r : ℕ} (own : Bytes (before .list)) (its : Bytes (after .list)) (w : Rewritten (booked short read o .list) (before .list) (after .list))

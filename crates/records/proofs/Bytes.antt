@@ -60,7 +60,8 @@ unfolding listTo encode
 encode-words zero bytes b h = refl
 encode-words (suc n) bytes b h =
     let more : 8 * suc n ≡ 8 * n + 8 = omega arith in
-    rw (encode-append (listTo n (wordAt bytes)) (wordAt bytes n ∷ []), append-nil, encode-words n bytes b (omega arith), eight-back bytes n b (omega arith), more, take-add (8 * n) 8 bytes)
+    rw (encode-append (listTo n (wordAt bytes)) (wordAt bytes n ∷ []), append-nil, encode-words n bytes b (omega arith))
+    (rw (eight-back bytes n b (omega arith), more, take-add (8 * n) 8 bytes))
 
 pub encode-decode : (n : ℕ) (bytes : List ℕ) → Bytes bytes → length bytes ≡ 8 * n → encode (decode bytes) ≡ bytes
 unfolding decode entries

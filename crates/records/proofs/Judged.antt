@@ -1,12 +1,12 @@
 -- A book as its records are: what the core asks and promises of it. Assumes nothing.
-use mathlib.Core.Path.{_≡_, refl, sym, ap, subst, _∙_}
-use mathlib.Core.Bool.{Bool, true}
+use mathlib.Core.Path.{_≡_, subst, _∙_}
+use mathlib.Core.Bool.{Bool}
 use mathlib.Core.List.{List}
-use Prim.Native.Nat.{ℕ, _≤_}
+use Prim.Native.Nat.{ℕ}
 use native.Mathlib.Omega.{arith}
 use lib.ListN.{length, take}
 use lib.Seq.{length-take-le}
-use Rattle.holding.specs.declared.{Account.Account, Row.Row}
+use Rattle.holding.specs.declared.{Row.Row}
 use Rattle.daybook.specs.Book.{makeBook}
 use Rattle.daybook.specs.declared.{Day.Day, Order.Order}
 use Rattle.booking.specs.Seeing.{tradeOf, Opens, OpensAgain, Seen, Known, Fits, Concluded, Concludes}
@@ -38,7 +38,8 @@ module _ (bytes : List ℕ) (o : Order) {short : Bool} {d : Day} {opening : Open
   }
 
   -- and what was seen once more; so the outcome is the book's
-  module _ {again : Opening} {moved : Scan} {r : Outcome} (opens-again : OpensAgain o opening again) (seen-again : Seen (again .account) trade (take (again .count) (rowsIn bytes)) moved)
+  module _ {again : Opening} {moved : Scan} {r : Outcome} (opens-again : OpensAgain o opening again)
+      (seen-again : Seen (again .account) trade (take (again .count) (rowsIn bytes)) moved)
       (g : Concludes d (recordsIn bytes) o opening scan moved r) where
     pub judged : Fits (recordsIn bytes) (r .change) × Concluded short (makeBook d (rowsIn bytes)) o r
     judged = (

@@ -8,7 +8,7 @@ use lib.ListN.{length, getD, take, drop, set, length-set, length-drop}
 use lib.Seq.{take-suc, set-out, drop-drop, ext-getD, getD-take, getD-drop, getD-set-same, getD-set-other, take-at, drop-at, length-take-le}
 use Rattle.lists.specs.Tables.{Each, front, overwrite}
 use Rattle.lists.proofs.Overwrite.{overwrite-none, overwrite-overwrite, length-overwrite}
-use Rattle.lists.proofs.Tables.{length-to, getD-to}
+use Rattle.lists.proofs.Tables.{getD-to}
 use Rattle.lists.proofs.Tests.{same-or-not, by-end}
 use Rattle.holding.specs.Holding.{numbersOf, rowBy}
 use Rattle.holding.specs.declared.Row.{Row}
@@ -22,7 +22,7 @@ use Rattle.records.specs.Records.{recordsIn, recordAt, rowAt, rowsIn}
 use Rattle.records.specs.Writing.{Rewritten}
 use Rattle.records.proofs.Bytes.{encode-append}
 use Rattle.records.proofs.Rows.{length-record, length-row, length-rows, whole}
-use Rattle.records.proofs.Places.{over-before, over-past, moved-none, length-moved, moved-in, moved-before, moved-past}
+use Rattle.records.proofs.Places.{over-before, over-past, length-moved, moved-in, moved-before, moved-past}
 
 pub row-of : (bytes : List ℕ) (k : ℕ) → k < recordsIn bytes → getD (rowsIn bytes) k noRow ≡ rowAt bytes k
 unfolding rowsIn
@@ -49,8 +49,8 @@ module _ (before after : List ℕ) (long : length after ≡ length before) where
       byte-of after k j low ∙ e j low ∙ sym (byte-of before m j low)))
 
   -- each record has the row that is wanted, and bytes past the last are kept
-  rewritten : (wanted : List Row) → length wanted ≡ room → ((k : ℕ) → k < room → rowAt after k ≡ getD wanted k noRow) → ((p : ℕ) → 56 * room ≤ p → getD after p 0 ≡ getD before p 0)
-      → Rewritten wanted before after
+  rewritten : (wanted : List Row) → length wanted ≡ room → ((k : ℕ) → k < room → rowAt after k ≡ getD wanted k noRow)
+      → ((p : ℕ) → 56 * room ≤ p → getD after p 0 ≡ getD before p 0) → Rewritten wanted before after
   unfolding recordsIn
   rewritten wanted many each past =
       let n = 56 * recordsIn before in
@@ -79,11 +79,13 @@ word-over numbers old so-far after w p i h room e q f =
     let many : length (take i numbers) ≡ i = length-take-le i numbers (omega arith) in
     let long : 8 * w + length part ≡ 8 * p = omega (arith, length-encode (take i numbers), many) in
     let one : take (i + 1) numbers ≡ take i numbers ++ (v ∷ []) = rw add-one (take-suc numbers i 0 h) in
-    let both : encode (take (i + 1) numbers) ≡ part ++ littleEndian 8 v = ap encode one ∙ encode-append (take i numbers) (v ∷ []) ∙ ap (part ++_) (append-nil (littleEndian 8 v)) in
+    let last : encode (v ∷ []) ≡ littleEndian 8 v = append-nil (littleEndian 8 v) in
+    let both : encode (take (i + 1) numbers) ≡ part ++ littleEndian 8 v = ap encode one ∙ encode-append (take i numbers) (v ∷ []) ∙ ap (part ++_) last in
     f ∙ word-overwrite so-far p v ∙ rw (← long, e, both) (overwrite-overwrite (8 * w) part (littleEndian 8 v) old (omega arith))
 
 -- all of them are the bytes of a row
-pub row-over : (row : Row) (old now : List ℕ) (w i : ℕ) → w ≡ 7 * i → now ≡ overwrite (8 * w) (encode (take 7 (numbersOf row))) old → now ≡ overwrite (56 * i) (encode (numbersOf row)) old
+pub row-over : (row : Row) (old now : List ℕ) (w i : ℕ) → w ≡ 7 * i → now ≡ overwrite (8 * w) (encode (take 7 (numbersOf row))) old
+    → now ≡ overwrite (56 * i) (encode (numbersOf row)) old
 unfolding numbersOf
 row-over row old now w i s e =
     let at : 8 * w ≡ 56 * i = omega arith in
@@ -105,16 +107,19 @@ module _ (row : Row) (before after : List ℕ) (i : ℕ) (h : 56 * i + 56 ≤ le
   unfolding recordAt overwrite front
   here =
       let long : length (take (56 * i) before) ≡ 56 * i = length-take-le (56 * i) before (omega arith) in
-      rw (e, drop-at (take (56 * i) before) (bytes ++ drop (length bytes) (drop (56 * i) before)) (56 * i) long, take-at bytes (drop (length bytes) (drop (56 * i) before)) 56 (length-row row))
+      let rest = drop (length bytes) (drop (56 * i) before) in
+      rw (e, drop-at (take (56 * i) before) (bytes ++ rest) (56 * i) long, take-at bytes rest 56 (length-row row))
 
   -- the bytes of any other record are kept
   elsewhere : (p : ℕ) → (56 * i ≤ p → p < 56 * i + 56 → ⊥) → getD after p 0 ≡ getD before p 0
-  elsewhere p o =
-      ap (λ (bs : List ℕ). getD bs p 0) e
-      ∙ by-end (λ (q : ℕ). (q ≡ p) → getD (overwrite (56 * i) bytes before) q 0 ≡ getD before q 0) (56 * i)
-      (λ q l _. over-before (56 * i) bytes before (omega arith) 0 q l)
-      (λ q l s. over-past (56 * i) bytes before (omega arith) 0 q (by-end (λ (x : ℕ). (x ≡ q) → 56 * i + length bytes ≤ x) (56 * i + 56) (λ x m t. absurd (o (omega arith) (omega arith))) (λ x m t. omega (arith, length-row row)) q refl))
-      p refl
+  elsewhere p apart =
+      rw e (by-end (λ (q : ℕ). q ≡ p → getD (overwrite (56 * i) bytes before) p 0 ≡ getD before p 0) (56 * i)
+      (λ q l s. over-before (56 * i) bytes before (omega arith) 0 p (omega arith))
+      (λ q l s. by-end (λ (x : ℕ). x ≡ p → getD (overwrite (56 * i) bytes before) p 0 ≡ getD before p 0) (56 * i + 56)
+      (λ x m t. absurd (apart (omega arith) (omega arith)))
+      (λ x m t. over-past (56 * i) bytes before (omega arith) 0 p (omega (arith, length-row row)))
+      p refl)
+      p refl)
 
   -- a row that was put at a place
   pub row-put : Each (λ x. x < 2 ^ 64) (numbersOf row) → Rewritten (set (rowsIn before) i row) before after
@@ -169,25 +174,46 @@ module _ (first end : ℕ) (old : List ℕ) where
         }
 
     -- all of them moved
-    pub moving-all : first < end → 56 * end ≤ j → Rewritten (movedUp first end (rowsIn old)) old now
-    unfolding recordsIn
-    moving-all some h =
-        let rows = rowsIn old in
-        let many = length-rows old in
-        let fits : end ≤ length rows = omega (arith, many) in
-        let row : (k n : ℕ) → k < recordsIn old → n < recordsIn old → ((i : ℕ) → i < 56 → getD now (56 * k + i) 0 ≡ getD old (56 * n + i) 0) → rowAt now k ≡ getD rows n noRow =
-        λ k n p q e. row-same old now (m .long) k n p q e ∙ sym (row-of old n q) in
-        rewritten old now (m .long) (movedUp first end rows) (length-moved first end rows one some fits noRow ∙ many)
-        (λ k l. by-end (λ (n : ℕ). n ≡ k + 1 → rowAt now k ≡ getD (movedUp first end rows) k noRow) first
-        (λ n a e. row k k l l (λ i b. m .behind (56 * k + i) (omega arith)) ∙ sym (moved-before first end rows one some fits noRow k (omega arith)))
-        (λ n a e. by-end (λ (x : ℕ). x ≡ k + 1 → rowAt now k ≡ getD (movedUp first end rows) k noRow) end
-        (λ x b f.
-        let far : (i : ℕ) → 56 * k + i + 56 ≡ 56 * (k + 1) + i = λ i. omega arith in
-        row k (k + 1) l (omega (arith, many)) (λ i c. m .moved (56 * k + i) (omega arith) (omega arith) ∙ ap (λ (y : ℕ). getD old y 0) (far i)) ∙ sym (moved-in first end rows one some fits noRow k (omega arith) (omega arith)))
-        (λ x b f. row k k l l (λ i c. m .ahead (56 * k + i) (omega (arith, m .until))) ∙ sym (moved-past first end rows one some fits noRow k (omega arith)))
-        (k + 1) refl)
-        (k + 1) refl)
-        (λ p l. m .ahead p (omega (arith, m .until, many)))
+    module _ (some : first < end) (done : 56 * end ≤ j) where
+      abbrev rows : List Row
+      rows = rowsIn old
+
+      few : end ≤ length rows
+      unfolding recordsIn
+      few = omega (arith, length-rows old)
+
+      -- record k then has the bytes that record n had
+      row-from : (k n : ℕ) → k < recordsIn old → n < recordsIn old → ((i : ℕ) → i < 56 → getD now (56 * k + i) 0 ≡ getD old (56 * n + i) 0)
+          → rowAt now k ≡ getD rows n noRow
+      row-from k n p q e = row-same old now (m .long) k n p q e ∙ sym (row-of old n q)
+
+      abbrev Wanted : ℕ → Type 0
+      Wanted k = rowAt now k ≡ getD (movedUp first end rows) k noRow
+
+      before-first : (k : ℕ) → k < recordsIn old → k + 1 < first → Wanted k
+      before-first k l a = row-from k k l l (λ i b. m .behind (56 * k + i) (omega arith)) ∙ sym (moved-before first end rows one some few noRow k a)
+
+      up : (k : ℕ) → k < recordsIn old → first ≤ k + 1 → k + 1 < end → Wanted k
+      up k l a b =
+          let far : (i : ℕ) → 56 * k + i + 56 ≡ 56 * (k + 1) + i = λ i. omega arith in
+          row-from k (k + 1) l (omega (arith, few, length-rows old)) (λ i c. m .moved (56 * k + i) (omega arith) (omega arith) ∙ ap (λ (y : ℕ). getD old y 0) (far i))
+          ∙ sym (moved-in first end rows one some few noRow k a b)
+
+      past-end : (k : ℕ) → k < recordsIn old → end ≤ k + 1 → Wanted k
+      past-end k l a = row-from k k l l (λ i b. m .ahead (56 * k + i) (omega (arith, m .until))) ∙ sym (moved-past first end rows one some few noRow k a)
+
+      each : (k : ℕ) → k < recordsIn old → Wanted k
+      each k l =
+          by-end (λ (n : ℕ). n ≡ k + 1 → Wanted k) first
+          (λ n a e. before-first k l (omega arith))
+          (λ n a e. by-end (λ (x : ℕ). x ≡ k + 1 → Wanted k) end (λ x b f. up k l (omega arith) (omega arith)) (λ x b f. past-end k l (omega arith)) (k + 1) refl)
+          (k + 1) refl
+
+      pub moving-all : Rewritten (movedUp first end rows) old now
+      unfolding recordsIn
+      moving-all =
+          rewritten old now (m .long) (movedUp first end rows) (length-moved first end rows one some few noRow ∙ length-rows old) each
+          (λ p l. m .ahead p (omega (arith, m .until, few, length-rows old)))
 
 -- a list that was written is written again: a row at a place, or none at one that it has not
 module _ {xs : List Row} {before now : List ℕ} (w : Rewritten xs before now) where

@@ -1,19 +1,17 @@
 -- The rows of a list of records: each by its own bytes, and all of them as bytes again. Assumes nothing.
 use mathlib.Core.Path.{_≡_, refl, sym, ap, _∙_}
 use mathlib.Core.List.{List, [], _∷_, _++_, append-assoc, append-nil}
-use Prim.Native.Nat.{ℕ, zero, suc, _+_, _*_, _/_, _≤_, _<_, _^_}
+use Prim.Native.Nat.{ℕ, zero, suc, _+_, _*_, _/_, _≤_, _<_}
 use native.Mathlib.Omega.{arith}
 use lib.ListN.{length, getD, take, drop, length-append, take-append-drop}
-use lib.Seq.{take-add, take-at, drop-at, ext-getD, getD-take, getD-drop, length-take-le}
-use Rattle.lists.specs.Tables.{Each, listTo, front}
+use lib.Seq.{take-add, drop-at, length-take-le}
+use Rattle.lists.specs.Tables.{listTo, front}
 use Rattle.lists.proofs.Tables.{length-to, getD-to}
-use Rattle.holding.specs.Holding.{numbersOf, rowBy}
+use Rattle.holding.specs.Holding.{numbersOf}
 use Rattle.holding.specs.declared.Row.{Row}
-use Rattle.holding.proofs.Rows.{row-back, numbers-back}
-use Rattle.proposal.specs.Submission.{noRow}
+use Rattle.holding.proofs.Rows.{numbers-back}
 use Rattle.words.specs.Words.{wordAt, entries, decode, encode}
 use Rattle.words.proofs.Encoded.{length-encode}
-use Rattle.words.proofs.ReadBack.{decode-encode}
 use Rattle.records.specs.Records.{recordsIn, recordAt, rowAt, rowsIn, encodeRows}
 use Rattle.records.proofs.Bytes.{Bytes, bytes-take, bytes-drop, length-part, part-part, encode-decode}
 
@@ -39,8 +37,9 @@ module _ (bytes : List ℕ) (i w : ℕ) (h : 56 * i + 56 ≤ length bytes) (s : 
   word-read : {v n : ℕ} (j : ℕ) → j < 7 → v ≡ wordAt bytes n → n ≡ w + j → v ≡ getD (decode (recordAt bytes i)) j 0
   word-read j l p q = p ∙ ap (wordAt bytes) (q ∙ ap (_+ j) s) ∙ number-at bytes i j h l
 
-  pub row-read : {a b c d e f g : ℕ} → a ≡ wordAt bytes w → b ≡ wordAt bytes (w + 1) → c ≡ wordAt bytes (w + 2) → d ≡ wordAt bytes (w + 3) → e ≡ wordAt bytes (w + 4)
-      → f ≡ wordAt bytes (w + 5) → g ≡ wordAt bytes (w + 6) → record { side = a; kind = b; issuer = c; maturity = d; value = e; currency = f; rating = g } ≡ rowAt bytes i
+  pub row-read : {a b c d e f g : ℕ} → a ≡ wordAt bytes w → b ≡ wordAt bytes (w + 1) → c ≡ wordAt bytes (w + 2) → d ≡ wordAt bytes (w + 3)
+      → e ≡ wordAt bytes (w + 4) → f ≡ wordAt bytes (w + 5) → g ≡ wordAt bytes (w + 6)
+      → record { side = a; kind = b; issuer = c; maturity = d; value = e; currency = f; rating = g } ≡ rowAt bytes i
   unfolding rowAt
   row-read a b c d e f g =
       let first = word-read 0 (omega arith) a (omega arith) in
@@ -109,7 +108,7 @@ module _ (bytes : List ℕ) (b : Bytes bytes) where
       let first = encodeRows (take n rows) in
       let later = encodeRows (drop n rows) in
       let long : length first ≡ 56 * n = length-encode-rows (take n rows) ∙ ap (56 *_) (length-take-le n rows (omega (arith, length-rows bytes))) in
-      let parts : first ++ (later ++ tail) ≡ bytes =
-      sym (append-assoc first later tail) ∙ ap (_++ tail) (sym (encode-rows-append (take n rows) (drop n rows)) ∙ ap encodeRows (take-append-drop n rows)) ∙ rows-back in
+      let both : first ++ later ≡ encodeRows rows = sym (encode-rows-append (take n rows) (drop n rows)) ∙ ap encodeRows (take-append-drop n rows) in
+      let parts : first ++ (later ++ tail) ≡ bytes = sym (append-assoc first later tail) ∙ ap (_++ tail) both ∙ rows-back in
       let past : drop (56 * n) bytes ≡ later ++ tail = ap (drop (56 * n)) (sym parts) ∙ drop-at first (later ++ tail) (56 * n) long in
       rw (encode-rows-append hs (drop n rows), append-assoc (encodeRows hs), length-encode-rows hs, past)

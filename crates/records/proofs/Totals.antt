@@ -1,7 +1,7 @@
 -- The five totals of a list of bytes: read, and read back when they were written; and a finding with them. Assumes nothing.
 use mathlib.Core.Path.{_≡_, refl, sym, subst, _∙_}
 use mathlib.Core.List.{List, [], _∷_}
-use Prim.Native.Nat.{ℕ, _*_, _/_, _≤_, _<_, _^_}
+use Prim.Native.Nat.{ℕ, _/_, _≤_, _<_, _^_}
 use native.Mathlib.Omega.{arith}
 use lib.ListN.{length, getD, take}
 use lib.Seq.{take-all}
@@ -24,7 +24,8 @@ unfolding totalsIn decode entries
 totals-are bytes h = take-to (length bytes / 8) 5 (wordAt bytes) (omega arith)
 
 -- five numbers that were read
-pub five-read : (bytes : List ℕ) {a b c d e : ℕ} → 40 ≤ length bytes → a ≡ wordAt bytes 0 → b ≡ wordAt bytes 1 → c ≡ wordAt bytes 2 → d ≡ wordAt bytes 3 → e ≡ wordAt bytes 4
+pub five-read : (bytes : List ℕ) {a b c d e : ℕ} → 40 ≤ length bytes
+    → a ≡ wordAt bytes 0 → b ≡ wordAt bytes 1 → c ≡ wordAt bytes 2 → d ≡ wordAt bytes 3 → e ≡ wordAt bytes 4
     → a ∷ b ∷ c ∷ d ∷ e ∷ [] ≡ totalsIn bytes
 unfolding listTo
 five-read bytes h a b c d e = (λ t. a t ∷ b t ∷ c t ∷ d t ∷ e t ∷ []) ∙ sym (totals-are bytes h)
@@ -53,12 +54,14 @@ pub answer-is : (f : Finding) → makeAnswer (answerOf f .number) (answerOf f .f
 answer-is (Done count) = refl
 answer-is (Refused number place) = refl
 
-module _ (f : Finding) (five old new slice slice′ : List ℕ) (n v r : ℕ) (number : n ≡ answerOf f .number) (value : v ≡ answerOf f .first) (g : Answers (makeAnswer n v 0) slice slice′ r) where
+module _ (f : Finding) (five old new slice slice′ : List ℕ) (n v r : ℕ) (number : n ≡ answerOf f .number) (value : v ≡ answerOf f .first)
+    (g : Answers (makeAnswer n v 0) slice slice′ r) where
   returned : Answers (answerOf f) slice slice′ r
   returned = subst (λ (a : Answer). Answers a slice slice′ r) ((λ t. makeAnswer (number t) (value t) 0) ∙ answer-is f) g
 
   -- accepted: the totals are written
-  pub replied-accepted : n ≡ 0 → 40 ≤ length old → length five ≡ 5 → Each (λ x. x < 2 ^ 64) five → new ≡ front (encode (take 5 five)) old → Replied f five old new slice slice′ r
+  pub replied-accepted : n ≡ 0 → 40 ≤ length old → length five ≡ 5 → Each (λ x. x < 2 ^ 64) five → new ≡ front (encode (take 5 five)) old
+      → Replied f five old new slice slice′ r
   replied-accepted z room long fit e =
       let wrote : new ≡ front (encode five) old = e ∙ rw (take-all 5 five (omega arith)) in
       record { returned = returned; written = rw (sym number ∙ z) wrote; back = λ _. rw wrote (five-back five old long fit room) }

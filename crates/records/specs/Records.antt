@@ -1,4 +1,5 @@
--- THE PAGE OF THE EXPORTED BOOKINGS. Document 02 f), "The book is the caller's list of holding records, changed in place": a record is 56 bytes, seven numbers. Assumes nothing.
+-- THE PAGE OF THE EXPORTED BOOKINGS. Document 02 f), "The book is the caller's list of holding records, changed in place": a record is 56 bytes, the seven numbers
+-- of a holding in the order of the columns. Assumes nothing.
 use mathlib.Core.{Path._≡_, Bool.Bool, Bool.cond, Bool._||_, List.List, List.[], List._∷_, List._++_}
 use Prim.Native.Nat.{ℕ, _*_, _/_}
 use lib.{Dec.ltb, ListN.length, ListN.take, ListN.drop}
@@ -16,7 +17,7 @@ use Rattle.daybook.specs.declared.Order.{Order}
 unfoldable pub recordsIn : List ℕ → ℕ
 recordsIn bytes = length bytes / 56
 
--- the bytes of record k, and the row whose numbers they are, in the order of the columns
+-- the bytes of record k, and the row whose numbers they are
 unfoldable pub recordAt : List ℕ → ℕ → List ℕ
 recordAt bytes k = take 56 (drop (56 * k) bytes)
 
@@ -65,20 +66,20 @@ headAfter o h = record { date = dateAfter o (h .date); letter = h .letter }
 
 -- what an exported booking promises of an order to what is lent, before and after, and of the number that it returns
 module _ (o : Order) (count : ℕ) (h : Head) (before after : Slices) (r : ℕ) where
-  abbrev book : Book
-  book = lentBook count h before
+  abbrev lent : Book
+  lent = lentBook count h before
 
   abbrev accepts : Bool
-  accepts = accepted (shortIn before) book o
+  accepts = accepted (shortIn before) lent o
 
   pub record Books : Type 0 where
     -- the refusal number, 0 for accepted, is returned; the new count and 0, or the place and 0, stand in the answer slice
-    pub returned : Answers (outcome (shortIn before) book o) (before .answer) (after .answer) r
+    pub returned : Answers (outcome (shortIn before) lent o) (before .answer) (after .answer) r
     -- the records after an accepted order stand first in the list; bytes past them keep what they held
-    pub list : after .list ≡ cond accepts (front (encodeRows (holdingsAfter o (holdingsIn book))) (before .list)) (before .list)
+    pub list : after .list ≡ cond accepts (front (encodeRows (holdingsAfter o (holdingsIn lent))) (before .list)) (before .list)
     -- the totals after it stand first in theirs
-    pub totals : after .totals ≡ cond accepts (front (encode (dayAfter (book .day) (holdingsIn book) o .totals)) (before .totals)) (before .totals)
+    pub totals : after .totals ≡ cond accepts (front (encode (dayAfter (lent .day) (holdingsIn lent) o .totals)) (before .totals)) (before .totals)
     -- the book that is then lent, with the count that was answered, is the one that the order leaves
-    pub next : r ≡ 0 → lentBook (wordAt (after .answer) 0) (headAfter o h) after ≡ booked (shortIn before) book o
+    pub next : r ≡ 0 → lentBook (wordAt (after .answer) 0) (headAfter o h) after ≡ booked (shortIn before) lent o
     -- a refusal writes to neither
     pub untouched : (r ≡ 0 → ⊥) → (after .list ≡ before .list) × (after .totals ≡ before .totals)

@@ -25,7 +25,8 @@ module _ (c : tie.Else1) where
   abbrev start : tie.Start
   start = c .before .before
 
-  none : _≡_ {A = ℕ} (firstOf (addingFaults (start .args .scan .held) (start .args .t .value) (eqb (start .args .scan .at) (start .args .day .count)) (start .args .day .count) (start .args .room)) 0) 0
+  none : _≡_ {A = ℕ} (firstOf (addingFaults (start .args .scan .held) (start .args .t .value)
+      (eqb (start .args .scan .at) (start .args .day .count)) (start .args .day .count) (start .args .room)) 0) 0
   none = sym (c .before .adding-fault .ensures) ∙ c .if1 .left
 
   sum : start .args .scan .held + start .args .t .value ≤ 100000000000

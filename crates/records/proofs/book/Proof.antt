@@ -25,9 +25,12 @@ module _ (c : tie.After-judge) where
   abbrev lent : Slices
   lent = makeSlices (start .args .list .now) (start .args .totals .now) (start .args .answer .now)
 
-  concluded : Concluded (shortIn lent) (makeBook (day-read .day-of .result) (rowsIn (lent .list))) (start .args .order) (c .judge .result)
+  abbrev Concludes : Bool → Type 0
+  Concludes short = Concluded short (makeBook (day-read .day-of .result) (rowsIn (lent .list))) (start .args .order) (c .judge .result)
+
+  concluded : Concludes (shortIn lent)
   unfolding shortIn
-  concluded = subst (λ (s : Bool). Concluded s (makeBook (day-read .day-of .result) (rowsIn (lent .list))) (start .args .order) (c .judge .result)) (day-read .before .before .too-short .ensures) (c .judge .ensures .1)
+  concluded = subst Concludes (day-read .before .before .too-short .ensures) (c .judge .ensures .1)
 
 put-reply-requires : tie.Need-put-reply-requires
 put-reply-requires c κs =

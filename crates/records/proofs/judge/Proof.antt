@@ -16,7 +16,8 @@ unfolding recordsIn
 returns c =
     let again = c .before .before in
     let seen = again .before in
-    judged _ _ (seen .before .before .«open» .ensures) (seen .before .trade-of .ensures) (seen .see-rows .ensures) (again .again .ensures) (c .before .see-rows2 .ensures) (c .conclude .ensures)
+    judged _ _ (seen .before .before .«open» .ensures) (seen .before .trade-of .ensures) (seen .see-rows .ensures)
+    (again .again .ensures) (c .before .see-rows2 .ensures) (c .conclude .ensures)
 
 pub judge-spec : {M : Type 1} → statement M
 judge-spec =

@@ -1,8 +1,7 @@
 -- `move_to` judges a move, which changes no record, and puts the reply. Assumes nothing.
 use mathlib.Core.Path.{refl, subst}
 use mathlib.Core.Bool.{Bool}
-use mathlib.Core.List.{List}
-use Prim.Native.Nat.{ℕ, _<_}
+use Prim.Native.Nat.{_<_}
 use borrow.Author.Needs.{needs}
 use Rattle.lists.proofs.Entries.{at-each}
 use Rattle.daybook.specs.Book.{makeBook}
@@ -28,9 +27,12 @@ module _ (c : tie.After-judge) where
   abbrev lent : Slices
   lent = makeSlices (start .args .list .now) (start .args .totals .now) (start .args .answer .now)
 
-  concluded : Concluded (shortIn lent) (makeBook (day-read .day-of .result) (rowsIn (lent .list))) (MoveTo (start .args .to)) (c .judge .result)
+  abbrev Concludes : Bool → Type 0
+  Concludes short = Concluded short (makeBook (day-read .day-of .result) (rowsIn (lent .list))) (MoveTo (start .args .to)) (c .judge .result)
+
+  concluded : Concludes (shortIn lent)
   unfolding shortIn
-  concluded = subst (λ (s : Bool). Concluded s (makeBook (day-read .day-of .result) (rowsIn (lent .list))) (MoveTo (start .args .to)) (c .judge .result)) (day-read .before .before .too-short .ensures) (c .judge .ensures .1)
+  concluded = subst Concludes (day-read .before .before .too-short .ensures) (c .judge .ensures .1)
 
   own : Bytes (lent .list)
   own = at-each (λ x. x < 256) 0 (lent .list) (λ i _. entered .shared-slice-known .given i .fits)

@@ -30,7 +30,9 @@ returns-2 c =
     let no = wrote .before .before in
     let at = no .before in
     replied-accepted _ _ _ _ _ _ _ _ _ (at .before .number-of .ensures) (at .value-of .ensures) (put .put-answer2 .ensures) (no .if1 .left)
-    (room no .1) (room no .0) (at-each (λ x. x < 2 ^ 64) 0 (start no .args .five .now) (λ i _. at .before .before .before .before .shared-slice-known .given i .fits)) (wrote .write-words .ensures)
+    (room no .1) (room no .0)
+    (at-each (λ x. x < 2 ^ 64) 0 (start no .args .five .now) (λ i _. at .before .before .before .before .shared-slice-known .given i .fits))
+    (wrote .write-words .ensures)
 
 pub put-finding-spec : {M : Type 1} → statement M
 put-finding-spec =

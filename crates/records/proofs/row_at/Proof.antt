@@ -13,7 +13,8 @@ returns c =
     let c3 = c4 .before in
     let c2 = c3 .before in
     let c1 = c2 .before in
-    row-read _ _ _ (c1 .before .before .pre) refl (c1 .word .ensures) (c2 .word2 .ensures) (c3 .word3 .ensures) (c4 .word4 .ensures) (c5 .word5 .ensures) (c6 .word6 .ensures) (c .word7 .ensures)
+    row-read _ _ _ (c1 .before .before .pre) refl (c1 .word .ensures) (c2 .word2 .ensures) (c3 .word3 .ensures)
+    (c4 .word4 .ensures) (c5 .word5 .ensures) (c6 .word6 .ensures) (c .word7 .ensures)
 
 pub row-at-spec : {M : Type 1} → statement M
 row-at-spec =

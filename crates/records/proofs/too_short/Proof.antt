@@ -1,5 +1,7 @@
 -- `too_short` tests both lengths. Assumes nothing.
+use native.Mathlib.Omega.{arith}
 use borrow.Author.Needs.{needs}
+use borrow.Author.Tests.{lt-ltb}
 use Rattle.lists.proofs.Tests.{tests}
 use Rattle.records.specs.Records.{tooShort}
 use Rattle.records.proofs.too_short.Statement.{statement}
@@ -7,7 +9,7 @@ use Rattle.records.proofs.too_short.Tie as tie
 
 returns : tie.Need-returns
 unfolding tooShort
-returns c = search (needs, tests)
+returns c = rw (lt-ltb (c .before .args .totals) 40 (omega arith))
 
 returns-2 : tie.Need-returns-2
 unfolding tooShort

@@ -1,5 +1,4 @@
 -- `write` moves records up, and then puts a row where the list has its place. Assumes nothing.
-use native.Mathlib.Omega.{arith}
 use borrow.Author.Needs.{needs}
 use Rattle.booking.specs.Seeing.{changed}
 use Rattle.daybook.specs.Book.{valued}
