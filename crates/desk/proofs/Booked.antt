@@ -33,7 +33,7 @@ use Rattle.booking.specs.declared.{Change.Change, Outcome.Outcome as Core}
 use Rattle.booking.proofs.Changed.{unchanged}
 use Rattle.desk.specs.declared.Order.{Order, the-variants.Add, the-variants.Take, the-variants.MoveTo}
 use Rattle.desk.specs.declared.Outcome.{Outcome}
-use Rattle.desk.specs.Desk.{orderOf, Books, worth, blank, putOf, changeOf, Examines}
+use Rattle.desk.specs.Desk.{orderOf, Books, worth, blank, tradedBy, putOf, changeOf, Examines}
 use Rattle.desk.proofs.Mapped.{map-take, map-front, map-changed}
 use Rattle.desk.proofs.Apart.{apartOf, backOf, backs-apart, back-row, backs-rows, side-low}
 
@@ -47,7 +47,7 @@ kept h known = rw (side-back (h .side), kind-back (h .kind), issuer-back (h .iss
 
 -- the row of what is put is the trade's with its value
 put-row : (o : Order) (v : ℕ) → rowOf (putOf o v) ≡ valued (tradeOf (orderOf o)) v
-unfolding rowOf putOf worth blank valued tradeOf orderOf
+unfolding rowOf putOf tradedBy worth blank valued tradeOf orderOf
 put-row (Add h) v = refl
 put-row (Take h) v = refl
 put-row (MoveTo to) v = refl
@@ -86,7 +86,7 @@ described-by b answer t first zero = described-or-not (bookAccount b) t (λ d. d
 
 -- of an accepted order what is put is the record of its row
 put-kept : (b : Book) (o : Order) → InOrder false b → outcome false b (orderOf o) .number ≡ 0 → (v : ℕ) → holdingOf (rowOf (putOf o v)) ≡ putOf o v
-unfolding rowOf orderOf putOf worth blank
+unfolding rowOf orderOf putOf tradedBy worth blank
 put-kept b (Add h) i zero v =
     let d = described-by b _ (rowOf h) (bookings .outcomes false b (daybook.the-variants.Add (rowOf h)) .next i .0) zero in
     kept (worth h v) (d .identity .issuer)

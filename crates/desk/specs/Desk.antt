@@ -54,11 +54,14 @@ worth h v = record {
 unfoldable pub blank : Holding
 blank = record { side = Long; kind = Bond; issuer = Canada; maturity = 0; value = 0; currency = Cad; rating = SingleA }
 
--- the order's holding with a value; a move has the blank one
+-- the holding of an order, a move has the blank one; and with a value
+unfoldable pub tradedBy : Order → Holding
+tradedBy (Add h) = h
+tradedBy (Take h) = h
+tradedBy (MoveTo to) = blank
+
 unfoldable pub putOf : Order → ℕ → Holding
-putOf (Add h) v = worth h v
-putOf (Take h) v = worth h v
-putOf (MoveTo to) v = worth blank v
+putOf o v = worth (tradedBy o) v
 
 -- the change of an accepted order; a refused one has none
 unfoldable pub changeOf : ℕ → booking.Outcome → Change

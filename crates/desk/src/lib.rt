@@ -15,7 +15,7 @@ use holding::Side;
 ghost use mathlib.Core.Path.{_≡_};
 ghost use lib.ListN.{length};
 ghost use Rattle.booking.specs.Seeing.{Countable, Fits, changed};
-ghost use Rattle.desk.specs.Desk.{orderOf, putOf, changeOf, Views, ViewsAgain, Lies, Sees, Scans, Judgeable, Judges, Examines, Books};
+ghost use Rattle.desk.specs.Desk.{orderOf, tradedBy, putOf, changeOf, Views, ViewsAgain, Lies, Sees, Scans, Judgeable, Judges, Examines, Books};
 
 // An order to a book of records: a holding is added or taken, or the book moves to a later date.
 pub enum Order {
@@ -52,33 +52,34 @@ fn order_of(order: Order) -> daybook::Order
     }
 }
 
-// The order's holding with a value; for a move the blank one.
-fn put_of(order: Order, value: u64) -> Holding
-    ensures { λ r. ⌜ r ≡ putOf order value ⌝ }
+// The holding of an order; a move has the blank one.
+fn traded(order: Order) -> Holding
+    ensures { λ r. ⌜ r ≡ tradedBy order ⌝ }
 {
     match order {
-        Order::Add(h) => {
-            let mut g = h;
-            g.value = value;
-            return g;
-        }
-        Order::Take(h) => {
-            let mut g = h;
-            g.value = value;
-            return g;
-        }
+        Order::Add(h) => return h,
+        Order::Take(h) => return h,
         Order::MoveTo(_) => {
             return Holding {
                 side: Side::Long,
                 kind: Kind::Bond,
                 issuer: Issuer::Canada,
                 maturity: 0,
-                value,
+                value: 0,
                 currency: Currency::Cad,
                 rating: Rating::SingleA,
             };
         }
     }
+}
+
+// The same with a value.
+fn put_of(order: Order, value: u64) -> Holding
+    ensures { λ r. ⌜ r ≡ putOf order value ⌝ }
+{
+    let mut h = traded(order);
+    h.value = value;
+    h
 }
 
 // The change of an accepted order; a refused one has none.
