@@ -113,7 +113,8 @@ front-taken n xs =
 
 -- an order to what is lent, which the core judged with what was read as stored
 module _ (before : Slices) {s : Bool} {o : Order} {count : ℕ} {h : Head} {d : Day} {out : Outcome}
-    (is : s ≡ tooShort (length (before .totals)) (length (before .answer))) (st : Stored count (before .totals) h d) (judged : Concluded s (makeBook d (rowsIn (before .list))) o out) where
+    (is : s ≡ tooShort (length (before .totals)) (length (before .answer)))
+    (st : Stored count (before .totals) h d) (judged : Concluded s (makeBook d (rowsIn (before .list))) o out) where
   abbrev short : Bool
   short = shortIn before
 
@@ -249,5 +250,6 @@ module _ (before : Slices) {s : Bool} {o : Order} {count : ℕ} {h : Head} {d : 
   books-written own its e w p = books own its (as-booked e w) p
 
   pub books-moved : {totals answer : List ℕ} {r : ℕ} (to : ℕ) → o ≡ MoveTo to → Bytes (before .list)
-      → Replied (out .reply .finding) (out .reply .day .totals) (before .totals) totals (before .answer) answer r → Books o count h before (makeSlices (before .list) totals answer) r
+      → Replied (out .reply .finding) (out .reply .day .totals) (before .totals) totals (before .answer) answer r
+      → Books o count h before (makeSlices (before .list) totals answer) r
   books-moved to e own p = books own own (as-moved to e) p
