@@ -30,7 +30,7 @@ use Rattle.daybook.proofs.Described.{description-listed}
 use Rattle.booking.specs.Seeing.{tradeOf, changed, Concluded}
 use Rattle.booking.specs.declared.Outcome.{Outcome}
 use Rattle.booking.proofs.Seen.{rows-numbered}
-use Rattle.records.specs.Records.{recordsIn, rowsIn, encodeRows, totalsIn, tooShort, Slices, shortIn, dayIn, lentBook, headAfter, Books}
+use Rattle.records.specs.Records.{recordsIn, rowsIn, encodeRows, totalsIn, tooShort, Slices, makeSlices, shortIn, dayIn, lentBook, headAfter, Books}
 use Rattle.records.specs.Writing.{Rewritten, Stored, Writable, Replied}
 use Rattle.records.proofs.Lent.{lent-numbers}
 use Rattle.records.proofs.Bytes.{Bytes}
@@ -113,8 +113,9 @@ front-taken n xs =
     drop-past ys = rw (drop-length ys) (append-nil ys)
 
 -- an order to what is lent, which the core judged with what was read as stored
-module _ (before : Slices) {o : Order} {count : ℕ} {h : Head} {d : Day} {out : Outcome} (st : Stored count (before .totals) h d)
-    (con : Concluded (shortIn before) (makeBook d (rowsIn (before .list))) o out) where
+module _ (before : Slices) {s : Bool} {o : Order} {count : ℕ} {h : Head} {d : Day} {out : Outcome}
+    (is : s ≡ tooShort (length (before .totals)) (length (before .answer)))
+    (st : Stored count (before .totals) h d) (judged : Concluded s (makeBook d (rowsIn (before .list))) o out) where
   abbrev short : Bool
   short = shortIn before
 
@@ -123,6 +124,10 @@ module _ (before : Slices) {o : Order} {count : ℕ} {h : Head} {d : Day} {out :
 
   abbrev read : Book
   read = makeBook d (rowsIn (before .list))
+
+  con : Concluded short read o out
+  unfolding shortIn
+  con = subst (λ (x : Bool). Concluded x read o out) is judged
 
   -- where nothing else is too short, that is the book
   long-totals : short ≡ false → 40 ≤ length (before .totals)
@@ -160,11 +165,11 @@ module _ (before : Slices) {o : Order} {count : ℕ} {h : Head} {d : Day} {out :
   abbrev change-by : Row → List Row
   change-by t = changed (out .change) (valued t (out .change .value)) (rowsIn (before .list))
 
-  pub as-booked : {t : Row} {after : List ℕ} → t ≡ tradeOf o → Rewritten (change-by t) (before .list) after → Rewritten (booked short read o .list) (before .list) after
-  as-booked {after = after} is w =
-      subst (λ (xs : List Row). Rewritten xs (before .list) after) (ap change-by is ∙ con .list) w
+  as-booked : {t : Row} {after : List ℕ} → t ≡ tradeOf o → Rewritten (change-by t) (before .list) after → Rewritten (booked short read o .list) (before .list) after
+  as-booked {after = after} e w =
+      subst (λ (xs : List Row). Rewritten xs (before .list) after) (ap change-by e ∙ con .list) w
 
-  pub as-moved : (to : ℕ) → o ≡ MoveTo to → Rewritten (booked short read o .list) (before .list) (before .list)
+  as-moved : (to : ℕ) → o ≡ MoveTo to → Rewritten (booked short read o .list) (before .list) (before .list)
   unfolding booked bookAfter holdingsAfter holdingsIn
   as-moved to e =
       let rows = rowsIn (before .list) in
@@ -229,7 +234,7 @@ module _ (before : Slices) {o : Order} {count : ℕ} {h : Head} {d : Day} {out :
         λ i. makeBook (record { date = dateAfter o (h .date); letter = h .letter; count = new i; totals = totals i }) (rows i) in
         next ∙ rw zero
 
-    pub books : Books o count h before after r
+    books : Books o count h before after r
     books = record {
       numbers = lent-numbers count h before;
       returned = answered;
@@ -240,3 +245,13 @@ module _ (before : Slices) {o : Order} {count : ℕ} {h : Head} {d : Day} {out :
           let n : accepted short lent o ≡ false = unfold accepted in ne-eqb (outcome short lent o .number) 0 (λ z. other (answered .number ∙ z)) in
           (list-kept n, totals-kept n);
     }
+
+  -- a change that was written, and a move, which writes none
+  pub books-written : {after : Slices} {r : ℕ} {t : Row} → Bytes (before .list) → Bytes (after .list) → t ≡ tradeOf o → Rewritten (change-by t) (before .list) (after .list)
+      → Replied (out .reply .finding) (out .reply .day .totals) (before .totals) (after .totals) (before .answer) (after .answer) r → Books o count h before after r
+  books-written own its e w p = books own its (as-booked e w) p
+
+  pub books-moved : {totals answer : List ℕ} {r : ℕ} (to : ℕ) → o ≡ MoveTo to → Bytes (before .list)
+      → Replied (out .reply .finding) (out .reply .day .totals) (before .totals) totals (before .answer) answer r
+      → Books o count h before (makeSlices (before .list) totals answer) r
+  books-moved to e own p = books own own (as-moved to e) p
