@@ -1,5 +1,5 @@
 -- What an order that is accepted was not refused for. Assumes nothing.
-use mathlib.Core.Path.{_≡_}
+use mathlib.Core.Path.{_≡_, sym, ap, _∙_}
 use mathlib.Core.Bool.{Bool, true, false, not, _&&_}
 use mathlib.Core.List.{List, _++_}
 use Prim.Native.Nat.{ℕ, _+_, _≤_}
@@ -9,24 +9,16 @@ use lib.ListN.{length}
 use borrow.Author.Tests.{eqb-true, ltb-false, not-false}
 use Rattle.lists.specs.Choice.{within}
 use Rattle.lists.proofs.Tests.{neither, within-true}
-use Rattle.lists.proofs.Firsts.{None, Numbered, Listed, append-none, none-first, numbered-append, numbered-in-turn}
-use Rattle.holding.specs.Holding.{valueLimit, identityFaults, termFaults, moneyFaults}
-use Rattle.holding.specs.declared.{Account.Account, Row.Row}
-use Rattle.holding.proofs.{Heads.head-listed, Ranges.identity-listed, Ranges.term-listed, Ranges.row-listed}
+use Rattle.lists.proofs.Firsts.{None, Numbered, append-none, none-first, numbered-append, numbered-in-turn}
+use Rattle.holding.specs.Holding.{valueLimit}
+use Rattle.holding.specs.declared.Row.{Row}
 use Rattle.proposal.specs.{Outcome.atPlace}
 use Rattle.proposal.proofs.{Places.at-none, Places.listed-at, Clear.number}
-use Rattle.daybook.specs.Book.{heldIn, headOf, accountAt, Book, holdingsIn}
-use Rattle.daybook.specs.Orders.{lentFaults, atRow, rowsFaults, totalsFaults, descriptionFaults, sumFaults, joins, joinFaults, takingFaults, dateFaults, atMatured}
-use Rattle.daybook.specs.Orders.{maturedFaults, orderFaults, fromTotals, fromRows, faults, outcome, accepted}
+use Rattle.daybook.specs.Book.{heldIn, accountAt, Book, holdingsIn}
+use Rattle.daybook.specs.Orders.{descriptionFaults, sumFaults, joins, joinFaults, takingFaults, dateFaults, atMatured, maturedFaults, orderFaults, outcome, accepted}
 use Rattle.daybook.specs.declared.Day.{Day}
 use Rattle.daybook.specs.declared.Order.{Order, the-variants.Add, the-variants.Take, the-variants.MoveTo}
-
-description-listed : (a : Account) (t : Row) → Listed (descriptionFaults a t)
-unfolding descriptionFaults moneyFaults
-description-listed a t =
-    numbered-append _ (identityFaults t ++ termFaults a t) (moneyFaults t)
-    (numbered-append _ (identityFaults t) (termFaults a t) (identity-listed t) (term-listed a t))
-    (omega arith, (omega arith, tt))
+use Rattle.daybook.proofs.{Described.description-listed, Checked.from-order, Checked.accepted-in-order}
 
 -- every refusal has a number, from 1
 order-numbered : (room : ℕ) (d : Day) (rows : List Row) (o : Order) → Numbered number (orderFaults room d rows o)
@@ -48,17 +40,6 @@ module _ (short : Bool) (b : Book) (o : Order) where
   abbrev room : ℕ
   room = length (b .list)
 
-  pub faults-numbered : Numbered number (faults short b o)
-  unfolding faults lentFaults rowsFaults atRow totalsFaults
-  faults-numbered =
-      let rows = holdingsIn b in
-      numbered-append number (atPlace 0 (lentFaults short room (b .day))) (fromRows room (b .day) rows o)
-      (listed-at 0 (lentFaults short room (b .day)) (omega arith, (omega arith, head-listed (headOf (b .day)))))
-      (numbered-append number (rowsFaults (accountAt (b .day)) rows) (fromTotals room (b .day) rows o)
-      (numbered-in-turn number (atRow (accountAt (b .day)) rows) (λ k. listed-at k _ (row-listed _ _)) _)
-      (numbered-append number (atPlace 0 (totalsFaults (b .day) rows)) (orderFaults room (b .day) rows o) (listed-at 0 (totalsFaults (b .day) rows) (omega arith, tt))
-      (order-numbered room (b .day) rows o)))
-
   -- the book has no more holdings than 256 and than its list has entries, and nothing refuses the order
   pub record Passes : Type 0 where
     pub few : b .day .count ≤ 256
@@ -66,19 +47,15 @@ module _ (short : Bool) (b : Book) (o : Order) where
     pub order : None (orderFaults room (b .day) (holdingsIn b) o)
 
   pub accepted-passes : accepted short b o ≡ true → Passes
-  unfolding accepted outcome faults lentFaults
+  unfolding accepted
   accepted-passes e =
-      let rows = holdingsIn b in
-      let lent = lentFaults short room (b .day) in
-      let (none, _) = none-first number (faults short b o) _ faults-numbered (eqb-true (outcome short b o .number) 0 e) in
-      let (at-lent, rest) = append-none (atPlace 0 lent) (fromRows room (b .day) rows o) none in
-      let (at-rows, rest₁) = append-none (rowsFaults (accountAt (b .day)) rows) (fromTotals room (b .day) rows o) rest in
-      let (at-totals, last) = append-none (atPlace 0 (totalsFaults (b .day) rows)) (orderFaults room (b .day) rows o) rest₁ in
-      let first = at-none 0 lent at-lent in
+      let found = eqb-true (outcome short b o .number) 0 e in
+      let i = accepted-in-order short b o found in
+      let refusals = orderFaults room (b .day) (holdingsIn b) o in
       record {
-        few = ltb-false 256 (b .day .count) (first .0);
-        fits = ltb-false room (b .day .count) (neither (ltb room (b .day .count)) short (first .1 .0) .0);
-        order = last;
+        few = i .head .sizes .holdings;
+        fits = i .head .sizes .entries;
+        order = none-first number refusals _ (order-numbered room (b .day) (holdingsIn b) o) (sym (ap number (from-order short b o i)) ∙ found) .0;
       }
 
 module _ (room : ℕ) (d : Day) (rows : List Row) (t : Row) where
