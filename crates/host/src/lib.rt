@@ -1,15 +1,11 @@
-// The reader, the check and the bookings for the desk's Rust host: columns and lent lists as byte slices.
-use daybook::Order;
+// The reader and the check for the desk's Rust host: columns and lent lists as byte slices.
 use holding::Head;
-use holding::Row;
 ghost use mathlib.Core.List.{[], _∷_};
-ghost use Rattle.holding.specs.Holding.{headBy, rowBy};
+ghost use Rattle.holding.specs.Holding.{headBy};
 ghost use Rattle.columns.specs.Columns.{makeColumns};
 ghost use Rattle.lent.specs.Boundary.{makeLent, Checks};
 ghost use Rattle.received.specs.Reading.{Reads};
 ghost use Rattle.received.specs.Naming.{Names};
-ghost use Rattle.daybook.specs.declared.Order.{the-variants.Add, the-variants.Take, the-variants.MoveTo};
-ghost use Rattle.records.specs.Records.{makeSlices, Books};
 
 // The check of a proposal, for the host: returns the refusal number, 0 for accepted. Scratch has 4 entries for a book of up to 4 holdings,
 // 16 for one of up to 16, and 256 for any other. Nothing is presumed of the bytes or the lengths; that a pointer leads to its bytes, and that no other
@@ -225,93 +221,4 @@ pub extern "C" fn margin_leis(text: &[u8], leis: &mut [u8], answer: &mut [u8]) -
         leis,
         answer,
     )
-}
-
-// Adds a trade to a book, for the host: `list` has 56 bytes for each record and `count` says how many of them are the book's; `totals` has its five
-// totals. All of it is changed in place, and on a refusal none of it. Returns the refusal number, 0 for accepted; the new count stands in the answer slice.
-// Nothing is presumed of the bytes, the numbers or the lengths.
-#[no_mangle]
-pub extern "C" fn margin_add(
-    list: &mut [u8],
-    count: u64,
-    totals: &mut [u8],
-    date: u64,
-    letter: u64,
-    side: u64,
-    kind: u64,
-    issuer: u64,
-    maturity: u64,
-    currency: u64,
-    rating: u64,
-    value: u64,
-    answer: &mut [u8],
-) -> u64
-    ensures { λ r. ⌜ Books (Add (rowBy (side ∷ kind ∷ issuer ∷ maturity ∷ value ∷ currency ∷ rating ∷ []))) count (headBy (date ∷ letter ∷ []))
-        (makeSlices (now (list .entry)) (now (totals .entry)) (now (answer .entry)))
-        (makeSlices (now (list .exit)) (now (totals .exit)) (now (answer .exit))) r ⌝ }
-{
-    let head = Head { date, letter };
-    let trade = Row {
-        side,
-        kind,
-        issuer,
-        maturity,
-        value,
-        currency,
-        rating,
-    };
-    records::book(list, count, totals, head, Order::Add(trade), answer)
-}
-
-// Takes a trade from a book, in the same way.
-#[no_mangle]
-pub extern "C" fn margin_take(
-    list: &mut [u8],
-    count: u64,
-    totals: &mut [u8],
-    date: u64,
-    letter: u64,
-    side: u64,
-    kind: u64,
-    issuer: u64,
-    maturity: u64,
-    currency: u64,
-    rating: u64,
-    value: u64,
-    answer: &mut [u8],
-) -> u64
-    ensures { λ r. ⌜ Books (Take (rowBy (side ∷ kind ∷ issuer ∷ maturity ∷ value ∷ currency ∷ rating ∷ []))) count (headBy (date ∷ letter ∷ []))
-        (makeSlices (now (list .entry)) (now (totals .entry)) (now (answer .entry)))
-        (makeSlices (now (list .exit)) (now (totals .exit)) (now (answer .exit))) r ⌝ }
-{
-    let head = Head { date, letter };
-    let trade = Row {
-        side,
-        kind,
-        issuer,
-        maturity,
-        value,
-        currency,
-        rating,
-    };
-    records::book(list, count, totals, head, Order::Take(trade), answer)
-}
-
-// Moves a book to a later date, in the same way: no record changes.
-#[no_mangle]
-pub extern "C" fn margin_move(
-    list: &[u8],
-    count: u64,
-    totals: &mut [u8],
-    date: u64,
-    letter: u64,
-    to: u64,
-    answer: &mut [u8],
-) -> u64
-    ensures { λ r. ⌜ Books (MoveTo to) count (headBy (date ∷ letter ∷ []))
-        (makeSlices (now (list .entry)) (now (totals .entry)) (now (answer .entry)))
-        (makeSlices (now (list .entry)) (now (totals .exit)) (now (answer .exit))) r ⌝ }
-{
-    let head = Head { date, letter };
-    records::move_to(list, count, totals, head, to, answer)
 }
