@@ -124,19 +124,19 @@ module _ (ys : List Holding) (d : Day) (o : Order) (core : Core)
     abbrev rows : List Row
     rows = take n (map rowOf ys)
 
-    told : List Row
-    told = rows ++ map apartOf (drop n ys)
+    distinct : List Row
+    distinct = rows ++ map apartOf (drop n ys)
 
     rows-long : length rows ≡ n
     rows-long = length-take-le n (map rowOf ys) (omega (arith, length-map ys rowOf, within))
 
-    told-rows : take n told ≡ rows
-    unfolding told
-    told-rows = take-at rows (map apartOf (drop n ys)) n rows-long
+    distinct-rows : take n distinct ≡ rows
+    unfolding distinct
+    distinct-rows = take-at rows (map apartOf (drop n ys)) n rows-long
 
-    told-long : length told ≡ length ys
-    unfolding told
-    told-long = length-append rows (map apartOf (drop n ys)) ∙ omega (arith, rows-long, length-map (drop n ys) apartOf, length-drop n ys, within)
+    distinct-long : length distinct ≡ length ys
+    unfolding distinct
+    distinct-long = length-append rows (map apartOf (drop n ys)) ∙ omega (arith, rows-long, length-map (drop n ys) apartOf, length-drop n ys, within)
 
     issuers : Each (λ h. Issued (rowOf h)) (take n ys)
     issuers =
@@ -146,24 +146,24 @@ module _ (ys : List Holding) (d : Day) (o : Order) (core : Core)
         let below : k < n = omega (arith, rows-long) in
         rw (getD-take n (map rowOf ys) k noRow below) (in-order .each-holding k below .identity .issuer))))
 
-    told-back : map backOf told ≡ ys
-    unfolding told
-    told-back =
+    distinct-back : map backOf distinct ≡ ys
+    unfolding distinct
+    distinct-back =
         rw (map-append backOf rows (map apartOf (drop n ys)), backs-apart (drop n ys), ← map-take rowOf n ys, backs-kept (take n ys) issuers)
         (take-append-drop n ys)
 
-    there : Concluded false (makeBook d told) (orderOf o) core
-    there = concluded told told-long told-rows
+    there : Concluded false (makeBook d distinct) (orderOf o) core
+    there = concluded distinct distinct-long distinct-rows
 
     abbrev after : List Row
     after = holdingsAfter (orderOf o) (holdingsIn b)
 
     -- the core's list of it
-    told-after : changed (core .change) (valued (tradeOf (orderOf o)) (core .change .value)) told ≡ front after told
+    distinct-after : changed (core .change) (valued (tradeOf (orderOf o)) (core .change .value)) distinct ≡ front after distinct
     unfolding booked accepted bookAfter holdingsIn
-    told-after =
-        let number′ : outcome false (makeBook d told) (orderOf o) .number ≡ 0 = ap number (sym (there .answer) ∙ here .answer) ∙ zero in
-        there .list ∙ rw (eq-eqb _ 0 number′, told-rows)
+    distinct-after =
+        let number′ : outcome false (makeBook d distinct) (orderOf o) .number ≡ 0 = ap number (sym (there .answer) ∙ here .answer) ∙ zero in
+        there .list ∙ rw (eq-eqb _ 0 number′, distinct-rows)
 
     lows : Each Low after
     unfolding holdingsIn
@@ -179,11 +179,11 @@ module _ (ys : List Holding) (d : Day) (o : Order) (core : Core)
         let x = valued (tradeOf (orderOf o)) v in
         let put : backOf x ≡ putOf o v = ap backOf (sym (put-row o v)) ∙ back-row (rowOf (putOf o v)) (side-low (putOf o v)) ∙ put-kept b o in-order zero v in
         ap (λ (h : Holding). changed (core .change) h ys) (sym put)
-        ∙ ap (changed (core .change) (backOf x)) (sym told-back)
-        ∙ sym (map-changed backOf (core .change) x told)
-        ∙ ap (map backOf) told-after
-        ∙ map-front backOf after told
-        ∙ rw (backs-rows after lows, told-back)
+        ∙ ap (changed (core .change) (backOf x)) (sym distinct-back)
+        ∙ sym (map-changed backOf (core .change) x distinct)
+        ∙ ap (map backOf) distinct-after
+        ∙ map-front backOf after distinct
+        ∙ rw (backs-rows after lows, distinct-back)
 
   pub rows-after : map rowOf (changed (core .change) (putOf o (core .change .value)) ys) ≡ booked false b (orderOf o) .list
   rows-after = map-changed rowOf (core .change) (putOf o (core .change .value)) ys ∙ rw (put-row o (core .change .value)) (here .list)

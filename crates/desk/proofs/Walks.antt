@@ -42,10 +42,10 @@ module _ {M : Type 1} {𝓤 : URA M} {H : Heap 𝓤} {A : Atoms 𝓤} {K : Type 
 
 -- a call has returned: its result, what the contract says of it, and that its machine value is one of its type
 module _ {M : Type 1} {𝓤 : URA M} {H : Heap 𝓤} {A : Atoms 𝓤} {K : Type 0} {W : Given 𝓤 H A} {Γ : List (Item 𝓤)} {G : Goal 𝓤 H} where
-  pub told : K → Soaks G → (R : RattleType) (P : R .Denot → Type 0) (token : Item 𝓤) (Q : R .Denot → SProp 𝓤) → ((r : R .Denot) → ent 𝓤 (Q r) (fact 𝓤 (P r)))
+  pub returned : K → Soaks G → (R : RattleType) (P : R .Denot → Type 0) (token : Item 𝓤) (Q : R .Denot → SProp 𝓤) → ((r : R .Denot) → ent 𝓤 (Q r) (fact 𝓤 (P r)))
       → (v : Val) {had : SProp 𝓤} → ent 𝓤 had (mean 𝓤 H A (later (some (λ (r : R .Denot). (token ⊛ ‵ (R .own r (v ∷ []))) ⊛ raw (Q r)))))
       → ((r : R .Denot) → P r → Is R r (v ∷ []) → Seq K W (token ∷ Γ) G) → Seq K W (raw had ∷ Γ) G
-  told t z R P token Q says v same k =
+  returned t z R P token Q says v same k =
       use1 W (later (some (λ (r : R .Denot). (token ⊛ ‵ (R .own r (v ∷ []))) ⊛ raw (Q r)))) same $ await t z $ pick t (λ r.
       split t $ move t (1 ∷ []) $ use1 W (raw (fact 𝓤 (P r))) (says r) $ heard t (P r) (λ e.
       split t $ move t (1 ∷ []) $ peeks t R (Is R) (shows 𝓤 H A R) r (v ∷ []) (λ is. drop t $ k r e is)))

@@ -63,7 +63,7 @@ use Rattle.desk.proofs.Outcome.Laws as K′
 use Rattle.desk.proofs.Booked.{books}
 use Rattle.desk.proofs.Rows as R
 use Rattle.desk.proofs.Values.{change-vals, day-val, day-vals, order-vals}
-use Rattle.desk.proofs.Walks.{held, here, full, told, upward}
+use Rattle.desk.proofs.Walks.{held, here, full, returned, upward}
 use Rattle.desk.proofs.Shared.{LentShared, lends-shared, shared-back}
 use Rattle.desk.proofs.examine as examine′
 use Rattle.desk.proofs.examine.Symbol as examine-def
@@ -172,7 +172,7 @@ module _ {M : Type 1} (𝓤 : URA M) (H : Heap 𝓤) (A : Atoms 𝓤) (W : Given
         -- [what `examine` asks; what is kept; true; the locals from 3, the last first]
         calls-at ! fm (Examine 𝓤 H A mem run) known-examine (to-examine ν δ)
         (and-then ! (held ! 9 refl) (and-then ! (held ! 21 refl) (and-then ! (held ! 19 refl) (no-more !)))) (λ u.
-        told ! tt K.the-row (Examines ys d w) (‵ (flft (ν ∷ []) fullShare) ⊛ ‵ ftrue)
+        returned ! tt K.the-row (Examines ys d w) (‵ (flft (ν ∷ []) fullShare) ⊛ ‵ ftrue)
         (ensured 𝓤 H A examine′.ended (examine′.clauses 𝓤 H A mem run) (ν ∷ [], tt) (list δ, (d, (w, tt))) tt)
         (examine-of 𝓤 H A mem run (ν ∷ []) (list δ) d w) u (id⊢ 𝓤 _) (λ r examines r-is.
         let fields = LL.owed K.the-type K′.the-laws r _ r-is in

@@ -59,7 +59,7 @@ use Rattle.desk.proofs.Outcome.Laws as K′
 use Rattle.desk.proofs.Judging.{lies-first, lies-again, judgeable, examined}
 use Rattle.desk.proofs.Rows.{slice}
 use Rattle.desk.proofs.Values.{scan-vals, view-vals, day-val, day-vals, order-vals, outcome-val, outcome-vals}
-use Rattle.desk.proofs.Walks.{held, here, full, told, upward}
+use Rattle.desk.proofs.Walks.{held, here, full, returned, upward}
 use Rattle.desk.proofs.open as open′
 use Rattle.desk.proofs.open.Symbol as open-def
 use Rattle.desk.proofs.open.Symbol.{name as #desk·open}
@@ -205,7 +205,7 @@ module _ {M : Type 1} (𝓤 : URA M) (H : Heap 𝓤) (A : Atoms 𝓤) (W : Given
         use1 W (raw (Open 𝓤 H A mem run .pre to-open)) goes-open $
         calls-at ! fm (Open 𝓤 H A mem run) known-open to-open
         (and-then ! (held ! 15 refl) (and-then ! (held ! 11 refl) (and-then ! (held ! 13 refl) (no-more !)))) (λ u₁.
-        told ! tt Vi.the-row (Views d n w) (‵ ftrue) (ensured 𝓤 H A open′.ended (open′.clauses 𝓤 H A mem run) tt (d, (n, (w, tt))) tt)
+        returned ! tt Vi.the-row (Views d n w) (‵ ftrue) (ensured 𝓤 H A open′.ended (open′.clauses 𝓤 H A mem run) tt (d, (n, (w, tt))) tt)
         (open-of 𝓤 H A mem run d n w) u₁ (id⊢ 𝓤 _) (λ v views v-is.
         let v-as = subst (Is Vi.the-row v) (LL.tells Vi.the-type Vi′.the-laws v (u₁ ∷ []) v-is) v-is in
         let lies = lies-first d n w v views in
@@ -216,7 +216,7 @@ module _ {M : Type 1} (𝓤 : URA M) (H : Heap 𝓤) (A : Atoms 𝓤) (W : Given
         (shr-slice-copy 𝓤 H A W (named 0) κ T.the-row .twice list (at .0)) $ split ! $
         move ! (3 ∷ 0 ∷ []) $ use2 W (raw (See 𝓤 H A mem run .pre (to-scan v))) (goes-scan v v-as lies) $
         calls-at ! fm (See 𝓤 H A mem run) known-scan (to-scan v) (and-then ! (held ! 17 refl) (and-then ! (held ! 9 refl) (no-more !))) (λ u₂.
-        told ! tt S.the-row (Scans ys v) (‵ (flft κ q) ⊛ ‵ ftrue) (ensured 𝓤 H A scan′.ended (scan′.clauses 𝓤 H A mem run) (κ, tt) (list, (v, tt)) tt)
+        returned ! tt S.the-row (Scans ys v) (‵ (flft κ q) ⊛ ‵ ftrue) (ensured 𝓤 H A scan′.ended (scan′.clauses 𝓤 H A mem run) (κ, tt) (list, (v, tt)) tt)
         (scan-of 𝓤 H A mem run κ list v) u₂ (id⊢ 𝓤 _) (λ s scans s-is.
         let s-as = subst (Is S.the-row s) (LL.tells S.the-type S′.the-laws s (u₂ ∷ []) s-is) s-is in
         split ! $ move ! (1 ∷ []) $ drop ! $ move ! (2 ∷ 0 ∷ 1 ∷ []) $
@@ -224,7 +224,7 @@ module _ {M : Type 1} (𝓤 : URA M) (H : Heap 𝓤) (A : Atoms 𝓤) (W : Given
         rewrite ! 7 (λ (z : Val). ‵ (fat fullShare S′.mir l₆ 0 z)) (ap only (LL.tells S.the-type S′.the-laws s (u₂ ∷ []) s-is)) refl $
         use1 W (raw (Again 𝓤 H A mem run .pre (to-again v))) (goes-again v v-as) $
         calls-at ! fm (Again 𝓤 H A mem run) known-again (to-again v) (and-then ! (held ! 9 refl) (no-more !)) (λ u₃.
-        told ! tt Vi.the-row (ViewsAgain v) (‵ ftrue) (ensured 𝓤 H A again′.ended (again′.clauses 𝓤 H A mem run) tt (v, tt) tt)
+        returned ! tt Vi.the-row (ViewsAgain v) (‵ ftrue) (ensured 𝓤 H A again′.ended (again′.clauses 𝓤 H A mem run) tt (v, tt) tt)
         (again-of 𝓤 H A mem run v) u₃ (id⊢ 𝓤 _) (λ v′ later v′-is.
         let v′-as = subst (Is Vi.the-row v′) (LL.tells Vi.the-type Vi′.the-laws v′ (u₃ ∷ []) v′-is) v′-is in
         land ! (here !) (init ! 5 refl (LL.lawful Vi.the-type Vi′.the-laws 𝓤 H A W .typed v′ _ v′-is .0)) $
@@ -234,7 +234,7 @@ module _ {M : Type 1} (𝓤 : URA M) (H : Heap 𝓤) (A : Atoms 𝓤) (W : Given
         (shr-slice-copy 𝓤 H A W (named 0) κ T.the-row .twice list (at .0)) $ split ! $
         move ! (3 ∷ 0 ∷ []) $ use2 W (raw (See 𝓤 H A mem run .pre (to-scan v′))) (goes-scan v′ v′-as (lies-again n v v′ lies later)) $
         calls-at ! fm (See 𝓤 H A mem run) known-scan (to-scan v′) (and-then ! (held ! 17 refl) (and-then ! (held ! 5 refl) (no-more !))) (λ u₄.
-        told ! tt S.the-row (Scans ys v′) (‵ (flft κ q) ⊛ ‵ ftrue)
+        returned ! tt S.the-row (Scans ys v′) (‵ (flft κ q) ⊛ ‵ ftrue)
         (ensured 𝓤 H A scan′.ended (scan′.clauses 𝓤 H A mem run) (κ, tt) (list, (v′, tt)) tt) (scan-of 𝓤 H A mem run κ list v′) u₄ (id⊢ 𝓤 _)
         (λ m moved m-is.
         let m-as = subst (Is S.the-row m) (LL.tells S.the-type S′.the-laws m (u₄ ∷ []) m-is) m-is in
@@ -244,7 +244,7 @@ module _ {M : Type 1} (𝓤 : URA M) (H : Heap 𝓤) (A : Atoms 𝓤) (W : Given
         use1 W (raw (Conclude 𝓤 H A mem run .pre (to-conclude v s m))) (goes-conclude v s m v-as s-as m-as (judgeable ys d w v views s scans)) $
         calls-at ! fm (Conclude 𝓤 H A mem run) known-conclude (to-conclude v s m)
         (and-then ! (held ! 9 refl) (and-then ! (held ! 7 refl) (and-then ! (held ! 3 refl) (no-more !)))) (λ u₅.
-        told ! tt K.the-row (Judges v s m) (‵ ftrue) (ensured 𝓤 H A conclude′.ended (conclude′.clauses 𝓤 H A mem run) tt (v, (s, (m, tt))) tt)
+        returned ! tt K.the-row (Judges v s m) (‵ ftrue) (ensured 𝓤 H A conclude′.ended (conclude′.clauses 𝓤 H A mem run) tt (v, (s, (m, tt))) tt)
         (conclude-of 𝓤 H A mem run v s m) u₅ (id⊢ 𝓤 _) (λ r judges r-is.
         land ! (here !) (init ! 19 refl (LL.lawful K.the-type K′.the-laws 𝓤 H A W .typed r _ r-is .0)) $
         rewrite ! 19 (λ (z : Val). ‵ (fat fullShare K′.mir l₀ 0 z)) (ap only (LL.tells K.the-type K′.the-laws r (u₅ ∷ []) r-is)) refl $

@@ -69,7 +69,7 @@ use Rattle.desk.proofs.Seen.{countable, seen-more}
 use Rattle.desk.proofs.Rows as R
 use Rattle.desk.proofs.Rows.{word, slice}
 use Rattle.desk.proofs.Values.{scan-val, scan-vals, view-val, view-vals}
-use Rattle.desk.proofs.Walks.{held, here, holds, free, full, told, upward}
+use Rattle.desk.proofs.Walks.{held, here, holds, free, full, returned, upward}
 use Rattle.booking.proofs.unseen as unseen
 use Rattle.booking.proofs.unseen.Symbol as unseen-def
 use Rattle.booking.proofs.unseen.Symbol.{name as #booking·unseen}
@@ -232,7 +232,7 @@ module _ {M : Type 1} (𝓤 : URA M) (H : Heap 𝓤) (A : Atoms 𝓤) (W : Given
         use1 W (raw (Goes 𝓤 H A mem run .pre (to-see (t .s) i h))) (goes-see t h g lt) $
         calls-at ! (fmOf 𝓤 H (W .laws) 𝓣) (Goes 𝓤 H A mem run) known (to-see (t .s) i h)
         (and-then ! (held ! 14 refl) (and-then ! (held ! 12 refl) (and-then ! (held ! 18 refl) (and-then ! (held ! 4 refl) (no-more !))))) (λ u.
-        told ! tt S.the-row (Sees v (t .s) i h) (‵ ftrue) (ensured 𝓤 H A see.ended (see.clauses 𝓤 H A mem run) tt (t .s, (i, (v, (h, tt)))) tt)
+        returned ! tt S.the-row (Sees v (t .s) i h) (‵ ftrue) (ensured 𝓤 H A see.ended (see.clauses 𝓤 H A mem run) tt (t .s, (i, (v, (h, tt)))) tt)
         (see-of 𝓤 H A mem run (t .s) i v h) u (id⊢ 𝓤 _) (λ r got is.
         let r-is = subst (Is S.the-row r) (LL.tells S.the-type S′.the-laws r (u ∷ []) is) is in
         land ! (here !) (store ! 14 refl (LL.lawful S.the-type S′.the-laws 𝓤 H A W .typed r _ is .0)) $ drop ! $
@@ -268,7 +268,7 @@ module _ {M : Type 1} (𝓤 : URA M) (H : Heap 𝓤) (A : Atoms 𝓤) (W : Given
       (init ! 12 refl (tt, record { fits = n-fits })) $ nothing ! $
       use1 W (raw (Begins 𝓤 H A mem run .pre to-unseen)) goes-unseen $
       calls-at ! (fmOf 𝓤 H (W .laws) 𝓣) (Begins 𝓤 H A mem run) known-unseen to-unseen (no-more !) (λ u.
-      told ! tt S.the-row Unseen (‵ ftrue) (ensured 𝓤 H A unseen.ended (unseen.clauses 𝓤 H A mem run) tt tt tt) (unseen-of 𝓤 H A mem run) u (id⊢ 𝓤 _)
+      returned ! tt S.the-row Unseen (‵ ftrue) (ensured 𝓤 H A unseen.ended (unseen.clauses 𝓤 H A mem run) tt tt tt) (unseen-of 𝓤 H A mem run) u (id⊢ 𝓤 _)
       (λ s got is.
       land ! (here !) (init ! 11 refl (LL.lawful S.the-type S′.the-laws 𝓤 H A W .typed s _ is .0)) $ drop ! $
       rewrite ! 10 (λ (w : Val). ‵ (fat fullShare S′.mir l₄ 0 w)) (ap only (LL.tells S.the-type S′.the-laws s (u ∷ []) is)) refl $
