@@ -1,4 +1,4 @@
--- THE PAGE OF HOLDINGS, RATES AND PAIRS: what document 01 and document 02 a), b), d) and e) say of them, in their own words; proofs/Article.antt proves it. What a date, an
+-- THE PAGE OF HOLDINGS, RATES AND PAIRS: what document 01 and document 02 a), b), d), e) and g) say of them, in their own words; proofs/Article.antt proves it. What a date, an
 -- anniversary and the days between are, is on the page Dates. Assumes nothing.
 use mathlib.Core.{Path._≡_, Bool.true, Bool.false, Logic._↔_, Logic._⊎_}
 use Prim.Native.Nat.{ℕ, _*_, _≤_, _+_, min, max}
@@ -27,12 +27,14 @@ pub data TwoClasses : Issuer → Issuer → Type 0 where
   canada-long : (p : ℕ) → TwoClasses Canada (Province p)
   canada-short : (p : ℕ) → TwoClasses (Province p) Canada
 
--- paragraph 2: CAD on both legs, Canada or a province on both, and they are not both bonds
+-- paragraph 2: CAD on both legs, Canada or a province on both, and they are not both bonds; a provincial bond pairs with a provincial strip only if the province is the
+-- same, and strips among themselves pair across provinces
 pub record Paragraph2 (l s : Holding) : Type 0 where
   pub first-cad : l .currency ≡ Cad
   pub second-cad : s .currency ≡ Cad
   pub classes : OneClass (l .issuer) (s .issuer) ⊎ TwoClasses (l .issuer) (s .issuer)
   pub not-bonds : l .kind ≡ Bond → s .kind ≡ Bond → ⊥
+  pub one-province : (p q : ℕ) → l .issuer ≡ Province p → s .issuer ≡ Province q → (l .kind ≡ Bond) ⊎ (s .kind ≡ Bond) → p ≡ q
 
 -- in the same foreign currency
 pub data SameForeign : Currency → Currency → Type 0 where

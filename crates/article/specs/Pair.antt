@@ -1,5 +1,6 @@
--- Document 01, "A pair", from the article's Group XI(2), document 02 a), from Group XI(4), d), from Group XI(3), and e), who may have them. Assumes nothing.
-use mathlib.Core.{Bool.Bool, Bool.true, Bool.false, Bool.cond, Bool._&&_, Bool._||_, Path._≡_, List.[], List._∷_, Logic._⊎_}
+-- Document 01, "A pair", from the article's Group XI(2), with document 02 g), which provinces, a), from Group XI(4), d), from Group XI(3), and e), who may have them.
+-- Assumes nothing.
+use mathlib.Core.{Bool.Bool, Bool.true, Bool.false, Bool.cond, Bool.not, Bool._&&_, Bool._||_, Path._≡_, List.[], List._∷_, Logic._⊎_}
 use Prim.Native.Nat.{ℕ, _+_, _-_, _*_, _/_, _≤_, _<_, min, max}
 use lib.Dec.{eqb}
 use Rattle.lists.specs.Choice.{firstOf, within}
@@ -76,9 +77,13 @@ sameClass l s = (isCanada l && isCanada s) || (isProvince l && isProvince s)
 unfoldable pub mixedClass : Leg → Leg → Bool
 mixedClass l s = (isCanada l && isProvince s) || (isProvince l && isCanada s)
 
+-- within a class: a provincial bond pairs with a provincial strip only if the province is the same, and of strips among themselves nothing is asked; Canada is one issuer
+unfoldable pub provincesPair : Leg → Leg → Bool
+provincesPair l s = not (isBond l || isBond s) || eqb (l .issuer) (s .issuer)
+
 -- both Canada or both provincial: the difference; one Canada, one provincial: half the sum
 unfoldable pub classRule : Leg → Leg → Rule
-classRule l s = firstOf ((sameClass l s, Difference) ∷ (mixedClass l s, HalfSum) ∷ []) NotAllowed
+classRule l s = firstOf ((sameClass l s && provincesPair l s, Difference) ∷ (mixedClass l s, HalfSum) ∷ []) NotAllowed
 
 -- paragraph 2, of two legs in CAD: which rule applies to their issuers and kinds
 unfoldable pub domesticRule : Leg → Leg → Rule

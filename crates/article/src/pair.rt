@@ -2,8 +2,9 @@
 use holding::Account;
 use holding::Holding;
 ghost use mathlib.Core.Path.{_≡_};
+ghost use mathlib.Core.Bool.{cond};
 ghost use Prim.Native.Nat.{_+_, _≤_, max};
-ghost use Rattle.article.specs.Pair.{legOf, kindsPair, classRule, domesticRule, isCorporate, bondRating, corporateRule};
+ghost use Rattle.article.specs.Pair.{legOf, kindsPair, provincesPair, classRule, domesticRule, isCorporate, bondRating, corporateRule};
 ghost use Rattle.article.specs.Pair.{areParticipants, oneBond, OneIssuer, foreignRule, Outside, ruleOf, permits, ruleRate, rateLimit, RateInRange, Pairs};
 ghost use Rattle.holding.specs.Holding.{InRange};
 
@@ -52,6 +53,19 @@ pub fn leg_of(account: Account, h: Holding) -> Leg
     }
 }
 
+// The rule of two provinces: two strips of any, a bond and a strip only of the same.
+fn province_rule(long: Leg, short: Leg) -> Rule
+    ensures { λ r. ⌜ r ≡ cond (provincesPair long short) Rule.Difference Rule.NotAllowed ⌝ }
+{
+    if long.kind != 0 && short.kind != 0 {
+        return Rule::Difference;
+    }
+    if long.issuer == short.issuer {
+        return Rule::Difference;
+    }
+    Rule::NotAllowed
+}
+
 // The rule by the numbers of the two issuers.
 fn class_rule(long: Leg, short: Leg) -> Rule
     ensures { λ r. ⌜ r ≡ classRule long short ⌝ }
@@ -66,7 +80,7 @@ fn class_rule(long: Leg, short: Leg) -> Rule
         },
         1..=10 => match second {
             0 => Rule::HalfSum,
-            1..=10 => Rule::Difference,
+            1..=10 => province_rule(long, short),
             _ => Rule::NotAllowed,
         },
         _ => Rule::NotAllowed,

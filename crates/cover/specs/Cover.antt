@@ -6,7 +6,7 @@ use Rattle.words.specs.Words.{wordAt, entries}
 use Rattle.article.specs.declared.pair.Leg.{Leg}
 use Rattle.savings.specs.Savings.{savingOf}
 use Rattle.marks.specs.Marks.{soughtMark, scanRate, scanLimit, Seeks, Marked}
-use Rattle.article.specs.Pair.{RateInRange}
+use Rattle.article.specs.Pair.{isBond, RateInRange}
 use Rattle.packed.specs.Packed.{legAt, AtMost, entry, Legs, LegsOf, Same}
 use Rattle.holding.specs.Holding.{valueLimit}
 use Rattle.pairing.specs.Pairing.{pricedTotal}
@@ -15,7 +15,7 @@ use Rattle.proposal.specs.declared.Fault.{Fault}
 
 -- a long with this mark, scanned by this rate, at this price is covered with each of the shorts that stand from one place to another
 pub record Covered (mark rate price : ℕ) (marks rates prices : List ℕ) (from to : ℕ) : Type 0 where
-  pub covered : (k : ℕ) → from ≤ k → k < to → (l s : Leg) → Seeks l mark rate → Marked s (getD marks k 0) (getD rates k 0) → savingOf l s ≤ price + getD prices k 0
+  pub covered : (k : ℕ) → from ≤ k → k < to → (l s : Leg) → Seeks l mark rate → Marked (isBond l) s (getD marks k 0) (getD rates k 0) → savingOf l s ≤ price + getD prices k 0
 
 -- a long at this price is covered with each of those shorts: a bond by the column of the strips, any other long by that of all shorts
 pub record RowCovered (l : Leg) (price : ℕ) (marks strips rates prices : List ℕ) (from to : ℕ) : Type 0 where

@@ -75,7 +75,7 @@ fn shorts_of(
         let leg = packed::leg_in(legs[j]);
         if leg.side == 1 {
             let mark = marks::mark_of(leg.kind == 0, leg);
-            marks[m] = mark;
+            marks[m] = marks::across_mark(leg.kind, mark);
             strips[m] = marks::strip_mark(leg.kind, mark);
             rates[m] = marks::scan_rate(leg);
             prices[m] = words::word(price, j) as u16;
@@ -247,7 +247,7 @@ fn shorts_by_part(
             let m = counts[part];
             let k = 256 * part + m;
             let mark = marks::mark_of(leg.kind == 0, leg);
-            marks[k] = mark;
+            marks[k] = marks::across_mark(leg.kind, mark);
             strips[k] = marks::strip_mark(leg.kind, mark);
             rates[k] = marks::scan_rate(leg);
             prices[k] = words::word(price, j) as u16;

@@ -22,18 +22,26 @@ isGovernment l = isCanada l || isUs l || isGb l
 unfoldable pub hasPartner : Leg → Bool
 hasPartner l = isParticipant l && cond (inCad l) (isOffered l) (isGovernment l)
 
--- what the two legs of a pair have in common, as one number: the period; of a leg that is not domestic the currency and the issuer too
+-- the period, the issuer and the currency of a leg, as one number
 unfoldable pub keyOf : Leg → ℕ
-keyOf l = l .period % 8 + 8 * cond (isDomestic l) 0 (l .currency % 4 + 4 * (l .issuer % 512))
+keyOf l = 4 * (l .period % 8) + 64 * (l .issuer % 512) + 1024 * (l .currency % 4)
 
 -- what a pair asks of a leg beside its side and rate, as one number: its key with, of a domestic leg, its class, 0 for Canada and 1 for a province, and of any
--- other, whether it is a bond; of one that no paragraph can have, its side
+-- other, 2 or 34, whether it is a bond; of one that no paragraph can have, its side
 unfoldable pub markOf : Bool → Leg → ℕ
-markOf bond l = 4 * keyOf l + cond (isDomestic l) (cond (isCanada l) 0 1) (cond (cond (hasPartner l) bond (isLong l)) 0 2)
+markOf bond l = keyOf l + cond (isDomestic l) (cond (isCanada l) 0 1) (cond (cond (hasPartner l) bond (isLong l)) 2 34)
 
--- the mark that a short has, and the one that a long seeks: outside paragraph 2 just one of the two is a bond
-unfoldable pub shortMark : Leg → ℕ
-shortMark s = markOf (isBond s) s
+-- the mark of any issuer: the period and the class alone
+abbrev pub openMark : ℕ → ℕ
+openMark mark = mark % 32
+
+-- the mark of a short for a long strip, by its kind: a provincial strip's is that of any province
+unfoldable pub acrossMark : ℕ → ℕ → ℕ
+acrossMark kind mark = cond (not (eqb kind 0) && eqb (mark % 4) 1) (openMark mark) mark
+
+-- the mark that a short has for a long that is a bond, or is none, and the one that a long seeks: outside paragraph 2 just one of the two is a bond
+unfoldable pub shortMark : Bool → Leg → ℕ
+shortMark bond s = cond bond (markOf (isBond s) s) (acrossMark (s .kind) (markOf (isBond s) s))
 
 unfoldable pub soughtMark : Leg → ℕ
 soughtMark l = markOf (not (isBond l)) l
@@ -46,22 +54,22 @@ scanRate l = cond (isBond l) (l .rate) (cond (isCorporate l) (l .rate / 3) (l .r
 abbrev pub scanLimit : ℕ
 scanLimit = 21900
 
--- two marks of one key and two classes
+-- a mark, and that of any issuer of its period and the other class
 pub record OtherClass (mark other : ℕ) : Type 0 where
-  pub key : other / 2 ≡ mark / 2
+  pub period : other / 2 ≡ openMark mark / 2
   pub class : other % 2 + mark % 2 ≡ 1
 
--- a long that seeks this mark, a short that has it, scanned by this rate
+-- a long that seeks this mark, a short that has it for a long that is a bond, or is none, scanned by this rate
 pub record Seeks (l : Leg) (mark rate : ℕ) : Type 0 where
   pub marked : mark ≡ soughtMark l
   pub rated : rate ≡ scanRate l
   pub in-range : RateInRange l
 
-pub record Marked (s : Leg) (mark rate : ℕ) : Type 0 where
-  pub marked : mark ≡ shortMark s
+pub record Marked (bond : Bool) (s : Leg) (mark rate : ℕ) : Type 0 where
+  pub marked : mark ≡ shortMark bond s
   pub rated : rate ≡ scanRate s
   pub in-range : RateInRange s
 
 -- at least what any long and short with these marks and rates save
 pub record Asks (long a short b asked : ℕ) : Type 0 where
-  pub enough : (l s : Leg) → Seeks l long a → Marked s short b → savingOf l s ≤ asked
+  pub enough : (l s : Leg) → Seeks l long a → Marked (isBond l) s short b → savingOf l s ≤ asked

@@ -4,7 +4,7 @@ use article::pair::Leg;
 ghost use mathlib.Core.Path.{_≡_};
 ghost use Prim.Native.Nat.{_-_, _*_, _≤_, _<_, min};
 ghost use Rattle.article.specs.Pair.{RateInRange};
-ghost use Rattle.marks.specs.Marks.{isDomestic, isOffered, isGovernment, hasPartner, markOf, scanRate, scanLimit, OtherClass, Asks};
+ghost use Rattle.marks.specs.Marks.{isDomestic, isOffered, isGovernment, hasPartner, markOf, acrossMark, scanRate, scanLimit, OtherClass, Asks};
 
 // Whether a leg is in CAD and of Canada or a province.
 fn is_domestic(leg: Leg) -> bool
@@ -55,42 +55,56 @@ fn has_partner(leg: Leg) -> bool
     is_government(leg)
 }
 
-// What a pair asks of a leg beside its side and rate, as one small number: the period, and of a domestic leg the class, 0 for Canada and 1 for a province;
-// of any other the currency, the issuer and whether it is to be a bond, or where it has no pair, its side.
+// What a pair asks of a leg beside its side and rate, as one small number: the period, the issuer and the currency, and of a domestic leg the class, 0 for
+// Canada and 1 for a province; of any other 2 or 34, whether it is to be a bond, or where it has no pair, its side.
 pub fn mark_of(bond: bool, leg: Leg) -> u16
     ensures { λ r. ⌜ r ≡ markOf bond leg ⌝ }
 {
-    let period = leg.period % 8;
+    let key = 4 * (leg.period % 8) + 64 * (leg.issuer % 512) + 1024 * (leg.currency % 4);
     if is_domestic(leg) {
         if leg.issuer == 0 {
-            return (4 * period) as u16;
+            return key as u16;
         }
-        return (4 * period + 1) as u16;
+        return (key + 1) as u16;
     }
     let first = if has_partner(leg) {
         bond
     } else {
         leg.side == 0
     };
-    let key = period + 8 * (leg.currency % 4 + 4 * (leg.issuer % 512));
     if first {
-        return (4 * key) as u16;
+        return (key + 2) as u16;
     }
-    (4 * key + 2) as u16
+    (key + 34) as u16
 }
 
-// The mark of a short in the column of the strips, where a bond has 0.
+// The mark of a short in the column of all shorts, for the long strips: a provincial strip's is that of any province.
+pub fn across_mark(kind: u64, mark: u16) -> u16
+    ensures { λ r. ⌜ r ≡ acrossMark kind mark ⌝ }
+{
+    if kind != 0 && mark % 4 == 1 {
+        mark % 32
+    } else {
+        mark
+    }
+}
+
+// The mark of a short in the column of the strips, for the long bonds, where a bond has 0.
 pub fn strip_mark(kind: u64, mark: u16) -> u16
     ensures { λ r. ⌜ ((kind ≡ 0 → ⊥) → r ≡ mark) ⌝ }
 {
     if kind == 0 { 0 } else { mark }
 }
 
-// The mark of the same key and the other class; no leg that is not domestic has it.
+// The mark of any issuer of the same period and the other class; no leg that is not domestic has it.
 fn other_class(mark: u16) -> u16
     ensures { λ r. ⌜ OtherClass mark r ⌝ }
 {
-    if mark % 2 == 0 { mark + 1 } else { mark - 1 }
+    if mark % 2 == 0 {
+        mark % 32 + 1
+    } else {
+        mark % 32 - 1
+    }
 }
 
 fn twice_lesser(a: u16, b: u16) -> u16
@@ -120,10 +134,10 @@ pub fn asked(long: u16, a: u16, short: u16, b: u16) -> u16
     ensures { λ r. ⌜ Asks long a short b r ⌝ }
 {
     let cross = other_class(long);
-    if short == cross {
+    if short % 32 == cross {
         return (a + b + 1) / 2;
     }
-    if short == long {
+    if short == long || short == long % 32 {
         return twice_lesser(a, b);
     }
     0

@@ -79,7 +79,8 @@ const fn markets() -> [[Market; 13]; 3] {
     table
 }
 
-/// The article's group of the issuer. Any two provinces count as one class.
+/// The article's group of the issuer. Any two provinces count as one class, but not every bond and strip of
+/// theirs may be paired.
 #[derive(Clone, Copy, Debug, PartialEq, Eq)]
 pub enum Class {
     /// Group I: Canada, the United States or the United Kingdom.
@@ -190,6 +191,8 @@ pub struct Position {
     pub rate: u64,
     /// The period, 0 to 4.
     pub period: u8,
+    /// The number of the issuer.
+    pub issuer: u16,
     /// The class of the issuer.
     pub class: Class,
     /// Whether it is a bond or debenture, not a strip.
@@ -229,6 +232,7 @@ impl Position {
                 units
             },
             period: period as u8,
+            issuer: holding.issuer as u16,
             class,
             bond,
             market: Market::of(account, holding),
@@ -239,11 +243,18 @@ impl Position {
 /// Whether a long and a short may be paired.
 pub(crate) fn may_pair(one: &Position, other: &Position) -> bool {
     let kinds = match one.market {
-        Market::Domestic => !(one.bond && other.bond),
+        Market::Domestic => !(one.bond && other.bond) && provinces_pair(one, other),
         Market::Foreign(_) | Market::Corporate(_) => one.bond != other.bond,
         Market::Unpaired => false,
     };
     kinds && one.market == other.market && one.period == other.period
+}
+
+/// A bond and a strip of provinces are paired only if the province is the same; two strips of any provinces are.
+fn provinces_pair(one: &Position, other: &Position) -> bool {
+    let provincial = [one, other].map(|position| position.class == Class::Province);
+    let bond_and_strip = one.bond != other.bond;
+    provincial != [true; 2] || !bond_and_strip || one.issuer == other.issuer
 }
 
 /// The rate of a pair that is allowed, in units per cent; nothing where it is not.

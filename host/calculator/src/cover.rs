@@ -13,6 +13,7 @@ struct Short {
     rate: u64,
     price: u64,
     number: u16,
+    issuer: u16,
     class: Class,
     bond: bool,
 }
@@ -22,6 +23,7 @@ const NOBODY: Short = Short {
     rate: 0,
     price: 0,
     number: 0,
+    issuer: 0,
     class: Class::National,
     bond: false,
 };
@@ -32,6 +34,7 @@ impl Short {
             rate: position.rate,
             price,
             number: number as u16,
+            issuer: position.issuer,
             class: position.class,
             bond: position.bond,
         }
@@ -74,17 +77,20 @@ pub(super) fn cover(entries: &[Entry]) -> Result<(), Refusal> {
     Ok(())
 }
 
-/// What the two prices must add up to: the saving rate, or nothing for two bonds. Classes and kinds come
-/// in no order, so the cases are chosen without a jump.
+/// What the two prices must add up to: the saving rate, or nothing for two bonds and for a bond and a strip of
+/// two provinces. Classes, issuers and kinds come in no order, so the cases are chosen without a jump.
 #[inline]
 fn needed(long: &Position, short: &Short) -> u64 {
     let sum = long.rate + short.rate;
     if long.class == Class::Corporation {
         return sum - corporate_pair_rate(long.rate, short.rate);
     }
+    let one_class = long.class == short.class;
+    let two_provinces = one_class & (long.issuer != short.issuer);
     let difference = long.rate.abs_diff(short.rate);
-    let pair = select_unpredictable(long.class == short.class, difference, sum / 2);
-    select_unpredictable(long.bond & short.bond, 0, sum - pair)
+    let pair = select_unpredictable(one_class, difference, sum / 2);
+    let apart = (long.bond & short.bond) | (two_provinces & (long.bond | short.bond));
+    select_unpredictable(apart, 0, sum - pair)
 }
 
 /// The shorts by group and in order within each, and where each group starts and ends, up to the last in use.
@@ -115,7 +121,7 @@ impl Shorts {
     }
 
     /// The shorts that a long may be paired with, and in Canadian dollars other bonds beside a government's
-    /// bond.
+    /// bond, and what other provinces have beside a province's.
     fn partners(&self, long: &Position) -> &[Short] {
         let bounds = group(long, !long.bond).and_then(|group| self.bounds.get(group));
         let (start, end) = bounds.copied().unwrap_or_default();

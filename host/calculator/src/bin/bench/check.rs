@@ -20,6 +20,12 @@ const FIRST_PERIOD: Shape = Shape {
     ..DOMESTIC
 };
 
+/// Holdings of the ten provinces in CAD.
+const PROVINCES: Shape = Shape {
+    issuers: &[1, 2, 3, 4, 5, 6, 7, 8, 9, 10],
+    ..DOMESTIC
+};
+
 /// The lists that a call writes.
 #[derive(Clone, PartialEq, Eq)]
 struct Lists {
@@ -59,6 +65,9 @@ pub fn run() {
             print_line("both paragraphs", &sheet_of(&both_paragraphs(size)), 0);
             print_line("all paragraphs", &sheet_of(&all_paragraphs(size)), 0);
         }
+        if size > 1 {
+            print_line("provinces", &sheet_of(&provinces(size)), 0);
+        }
         if size > 16 {
             print_line("few corporations", &sheet_of(&book_of(size, &CORPORATE)), 0);
             print_line("many corporations", &sheet_of(&many_corporations(size)), 0);
@@ -97,6 +106,16 @@ fn sheet_under(head: Head, book: &[Row]) -> Sheet {
 /// Longs and shorts in CAD in all periods.
 pub fn mixed_periods(size: usize) -> Vec<Row> {
     book_of(size, &DOMESTIC)
+}
+
+/// Longs and shorts of the provinces in CAD, of any kinds, in all periods.
+fn provinces(size: usize) -> Vec<Row> {
+    let mut random = Random::new(SEED ^ 1);
+    let mut book = book_of(size, &PROVINCES);
+    for row in &mut book {
+        row.kind = random.pick(DOMESTIC.kinds);
+    }
+    book
 }
 
 /// In turn a long and a short in CAD, and a long and a short of one government in one foreign currency, of
