@@ -1,12 +1,12 @@
 -- What an allowed pair of legs means, and why its rule permits it. Assumes nothing.
 use mathlib.Core.Path.{_≡_, refl}
 use mathlib.Core.Logic.{_⊎_, inl, inr}
-use mathlib.Core.Bool.{true, false, not, _&&_, _||_, and-eq-true-iff, and-false, or-true, false≢true}
+use mathlib.Core.Bool.{true, false, _&&_, and-eq-true-iff, and-false, or-true, false≢true}
 use Prim.Native.Nat.{_≤_}
 use lib.Dec.{eqb}
-use borrow.Author.Tests.{eq-eqb, ne-eqb, eqb-true}
+use borrow.Author.Tests.{eq-eqb, eqb-true}
 use Rattle.lists.specs.Choice.{firstOf}
-use Rattle.lists.proofs.Tests.{zero-out, by-test}
+use Rattle.lists.proofs.Tests.{zero-out, arms, by-test}
 use Rattle.article.proofs.PairRates.{permitted-high}
 use Rattle.article.specs.Pair.{isLong, isShort, isBond, isStrip, kindsPair, sameClass, mixedClass, provincesPair}
 use Rattle.article.specs.Pair.{classRule, domesticRule, isCorporate, bondRating, sameCorporation, corporateRule, cadRule, areParticipants, oneBond, sameGovernment, foreignRule}
@@ -59,16 +59,16 @@ module _ (l s : Leg) where
 module _ (l s : Leg) where
   pub two-strips : (l .kind ≡ 0 → ⊥) → (s .kind ≡ 0 → ⊥) → provincesPair l s ≡ true
   unfolding provincesPair isBond
-  two-strips a b = rw (ne-eqb _ _ a, ne-eqb _ _ b)
+  two-strips a b = search arms
 
   pub one-issuer : l .issuer ≡ s .issuer → provincesPair l s ≡ true
   unfolding provincesPair
-  one-issuer e = rw (eq-eqb _ _ e) (or-true (not (isBond l || isBond s)))
+  one-issuer e = search (arms, or-true)
 
   pub with-bond : (l .kind ≡ 0) ⊎ (s .kind ≡ 0) → provincesPair l s ≡ eqb (l .issuer) (s .issuer)
   unfolding provincesPair isBond
-  with-bond (inl a) = rw (eq-eqb _ _ a)
-  with-bond (inr b) = rw (eq-eqb _ _ b, or-true (eqb (l .kind) 0))
+  with-bond (inl a) = search arms
+  with-bond (inr b) = search (arms, or-true)
 
 -- why a rule permits a pair: paragraph 2 for legs of one class or of two, or a participant's paragraph 3 or 4
 pub data Permitted (l s : Leg) : Rule → Type 0 where
