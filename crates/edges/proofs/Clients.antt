@@ -105,7 +105,7 @@ bondAndStrip issuer currency rating =
     (C ∷ R ∷ [])
 
 -- a long and a short of two issuers in CAD, of each two kinds
-abbrev domestic : ℕ → ℕ → List (ℕ × ℕ) → List (Row × Row)
+abbrev pub domestic : ℕ → ℕ → List (ℕ × ℕ) → List (Row × Row)
 domestic issuer other kinds = map (λ (k : ℕ × ℕ). (long (k .0) issuer CAD none, short (k .1) other CAD none)) kinds
 
 -- a holding has the same rate in both accounts
@@ -167,11 +167,11 @@ corporations =
     ∷ no-pairs-by client "a client's, with a strip from 20 years" ((rated Y (row L B K1 20380910 100), rated N (row S C K1 20461127 100)) ∷ [])
     ∷ []
 
--- paragraph 2 is a participant's and a client's, at one rate: a bond with a strip of one class, a strip with a strip, and Canada with a province
+-- paragraph 2 is a participant's and a client's, at one rate: a bond with a strip of one issuer, a strip with a strip, and Canada with a province
 abbrev bondWithStrip : Head → List Case
 bondWithStrip h =
     pairs-by h "bond with strip of Canada" (domestic CA CA ((B, C) ∷ (C, B) ∷ (B, R) ∷ (R, B) ∷ [])) 1460 5840
-    ∷ pairs-by h "bond with strip of provinces" (domestic ON QC ((B, C) ∷ (C, B) ∷ (B, R) ∷ (R, B) ∷ []) ++ domestic ON ON ((B, C) ∷ (R, B) ∷ [])) 2920 11680
+    ∷ pairs-by h "bond with strip of a province" (domestic ON ON ((B, C) ∷ (C, B) ∷ (B, R) ∷ (R, B) ∷ []) ++ domestic QC QC ((B, C) ∷ (R, B) ∷ [])) 2920 11680
     ∷ []
 
 abbrev stripWithStrip : Head → List Case

@@ -16,7 +16,8 @@ use Rattle.holding.specs.Holding as row
 use Rattle.holding.specs.Holding.{headNumbers, headFaults, headFault, letterOf, accountOf, outOfTerm, identityFaults, termFaults, worthFaults, moneyFaults, rowFaults, faultOf, holdingOf}
 use Rattle.holding.specs.Holding.{isCorporation, isIssuer, isRated, sideOf, kindOf, issuerOf, currencyOf, ratingOf, rowOf}
 use Rattle.rates.specs.Rate.{longerThan, atLeast, periodOf, percents, flatRate, bondRate, stripRate, kindRate, rateAt, rateOf}
-use Rattle.article.specs.Pair.{legOf, isLong, isShort, isBond, isStrip, isCanada, isProvince, isUs, isGb, inCad, inUsd, inGbp, kindsPair, sameClass, mixedClass, classRule}
+use Rattle.article.specs.Pair.{legOf, isLong, isShort, isBond, isStrip, isCanada, isProvince, isUs, isGb, inCad, inUsd, inGbp, kindsPair, sameClass, mixedClass}
+use Rattle.article.specs.Pair.{provincesPair, classRule}
 use Rattle.article.specs.Pair.{isParticipant, areParticipants, isCorporate, bondRating, sameCorporation, corporateRule, cadRule}
 use Rattle.article.specs.Pair.{domesticRule, oneBond, sameGovernment, foreignRule, bothCad, sameForeign, ruleOf, ruleRate, allowed, pairRateOf, savingRateOf, pairOf}
 use Rattle.pairing.specs.Pairing as theory
@@ -63,13 +64,20 @@ use Rattle.edges.proofs.Clients.{gbInGbp, corporations, participantBond
 use Rattle.edges.proofs.Clients.{clientPeriods, participantDenied, clientDenied, otherDenied, booksInUsd, booksOfCompany, exportedBooks, booksInCad}
 use Rattle.edges.proofs.Clients.{clientLeast, clientNotLeast, dearerPrices, participantLeast, atClientPrices, lowestUncovered, accountTexts, accountRecord}
 use Rattle.edges.proofs.Clients.{accountOrder, headTwo, headTwoKept, clientWorked, clientFile, clientLine, participantFile, clientHedge, clientCorporation}
+use Rattle.edges.proofs.Provinces.{ontario, withinProvince, twoProvinces, nextProvince, acrossProvinces, canadaAndProvince, clientProvinces, provincesApart}
+use Rattle.edges.proofs.Provinces.{leastWithin, leastAcross, provinceFiles, apartFile}
 
--- the table: document 01's cases, the starred first, then those of document 02 a), of b), of d) and of e). Most groups are as small as the prover computes
+-- the table: document 01's cases, the starred first, then those of document 02 a), of b), of d), of e) and of g). Most groups are as small as the prover computes
 -- when it names a case that fails; of the others it names the group
+abbrev pub provinces : List (List Case)
+provinces =
+    ontario ∷ withinProvince ∷ twoProvinces ∷ nextProvince ∷ acrossProvinces ∷ canadaAndProvince ∷ clientProvinces ∷ provincesApart ∷ leastWithin ∷ leastAcross
+    ∷ provinceFiles ∷ apartFile ∷ []
+
 abbrev pub clientTexts : List (List Case)
 clientTexts =
     accountTexts ∷ accountRecord ∷ accountOrder ∷ headTwo ∷ headTwoKept ∷ clientWorked ∷ clientFile ∷ clientLine ∷ participantFile ∷ clientHedge
-    ∷ clientCorporation ∷ []
+    ∷ clientCorporation ∷ provinces
 
 abbrev pub clientBooks : List (List Case)
 clientBooks =
@@ -153,9 +161,12 @@ unfolding
     accountLetters beforeHoldings beforeLines afterSizes clientRates usInUsd usInGbp canadaInUsd canadaInGbp gbInUsd gbInGbp corporations participantBonds
     clientBonds participantStrips clientStrips participantMixed clientMixed clientPeriods participantDenied clientDenied otherDenied booksInUsd booksOfCompany
     exportedBooks booksInCad clientLeast clientNotLeast dearerPrices participantLeast atClientPrices lowestUncovered accountTexts accountRecord accountOrder
-    headTwo headTwoKept clientWorked clientFile clientLine participantFile clientHedge clientCorporation
+    headTwo headTwoKept clientWorked clientFile clientLine participantFile clientHedge clientCorporation provincesPair
+    ontario withinProvince twoProvinces nextProvince acrossProvinces canadaAndProvince clientProvinces provincesApart leastWithin leastAcross provinceFiles
+    apartFile
 none-fails =
-    let i : NoneFails clientTexts = (refl, (refl, (refl, (refl, (refl, (refl, (refl, (refl, (refl, (refl, (refl, tt))))))))))) in
+    let j : NoneFails provinces = (refl, (refl, (refl, (refl, (refl, (refl, (refl, (refl, (refl, (refl, (refl, (refl, tt)))))))))))) in
+    let i : NoneFails clientTexts = (refl, (refl, (refl, (refl, (refl, (refl, (refl, (refl, (refl, (refl, (refl, j))))))))))) in
     let h : NoneFails clientBooks = (refl, (refl, (refl, (refl, (refl, (refl, (refl, (refl, (refl, (refl, i)))))))))) in
     let g₂ : NoneFails paragraph2Pairs = (refl, (refl, (refl, (refl, (refl, (refl, (refl, (refl, (refl, (refl, h)))))))))) in
     let g : NoneFails accounts = (refl, (refl, (refl, (refl, (refl, (refl, (refl, (refl, (refl, (refl, (refl, (refl, g₂)))))))))))) in

@@ -5,4 +5,5 @@ pub mod Foreign
 pub mod Dated
 pub mod Corporate
 pub mod Clients
+pub mod Provinces
 pub mod Edges
