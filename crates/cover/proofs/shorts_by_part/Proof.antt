@@ -6,7 +6,6 @@ use Prim.Native.Nat.{_-_}
 use native.Mathlib.Omega.{arith}
 use borrow.Author.Needs.{needs}
 use Rattle.article.specs.Pair.{isBond}
-use Rattle.marks.specs.Marks.{shortMark}
 use Rattle.cover.specs.Cover.{partOf}
 use Rattle.cover.proofs.Written.{rate-low}
 use Rattle.cover.proofs.Parts.{Parting, place-low, parting-none, parting-other, parting-more, parting-all}
@@ -49,6 +48,9 @@ add-k c =
 
 mark-of-requires : tie.Need-mark-of-requires Inv-loop μ-loop
 mark-of-requires _ _ = tt
+
+across-mark-requires : tie.Need-across-mark-requires Inv-loop μ-loop
+across-mark-requires _ _ = tt
 
 mul-marks : tie.Need-mul-marks Inv-loop μ-loop
 mul-marks c =
@@ -124,7 +126,7 @@ loop-less : tie.Need-loop-less Inv-loop μ-loop
 loop-less c = search needs
 
 loop-again : tie.Need-loop-again Inv-loop μ-loop
-unfolding shortMark partOf isBond
+unfolding partOf isBond
 loop-again c =
     let turn = c .before .before .before .before in
     let filling = turn .before .loop .inv in
@@ -168,6 +170,7 @@ shorts-by-part-spec =
     mul-k
     add-k
     mark-of-requires
+    across-mark-requires
     mul-marks
     slice-write-marks
     strip-mark-requires

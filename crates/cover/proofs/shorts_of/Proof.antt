@@ -5,7 +5,6 @@ use Prim.Native.Nat.{_-_}
 use native.Mathlib.Omega.{arith}
 use borrow.Author.Needs.{needs}
 use Rattle.article.specs.Pair.{isBond}
-use Rattle.marks.specs.Marks.{shortMark}
 use Rattle.cover.proofs.Written.{rate-low}
 use Rattle.cover.proofs.Filled.{Filling, filling-none, filling-other, filling-more, filling-all}
 use Rattle.cover.proofs.shorts_of.Statement.{statement}
@@ -31,6 +30,9 @@ leg-in-requires _ _ = tt
 
 mark-of-requires : tie.Need-mark-of-requires Inv-loop μ-loop
 mark-of-requires _ _ = tt
+
+across-mark-requires : tie.Need-across-mark-requires Inv-loop μ-loop
+across-mark-requires _ _ = tt
 
 mul-marks : tie.Need-mul-marks Inv-loop μ-loop
 mul-marks c = search needs
@@ -84,7 +86,7 @@ loop-less : tie.Need-loop-less Inv-loop μ-loop
 loop-less c = search needs
 
 loop-again : tie.Need-loop-again Inv-loop μ-loop
-unfolding shortMark isBond
+unfolding isBond
 loop-again c =
     let turn = c .before .before .before .before in
     let filling = turn .before .loop .inv in
@@ -109,6 +111,7 @@ shorts-of-spec =
     shared-slice-read-leg-in
     leg-in-requires
     mark-of-requires
+    across-mark-requires
     mul-marks
     element-write-marks
     strip-mark-requires

@@ -1,5 +1,5 @@
 -- `asked` asks enough, return by return: one law of the estimate for each. Assumes nothing.
-use Rattle.marks.proofs.Estimate.{neither-mark, equal-marks, other-mark}
+use Rattle.marks.proofs.Estimate.{none-found, one-found, other-found}
 use borrow.Author.Needs.{needs}
 use Rattle.marks.proofs.asked.Statement.{statement}
 use Rattle.marks.proofs.asked.Tie as tie
