@@ -180,14 +180,14 @@ module _ (l : Leg) (e : l .issuer ≡ noIssuer) (s : Leg) where
   not-long : {r : Rule} → Permitted l s r → ⊥
   unfolding sameClass mixedClass sameGovernment isCanada isProvince isUs isGb isCorporate isCorporation within
   not-long (one-corporation _ _ _ n _) = false≢true (rw e at (corporate-legs l s n .0))
-  not-long (one-class _ _ f) = false≢true (rw e at f)
+  not-long (one-class _ _ f _) = false≢true (rw e at f)
   not-long (two-classes _ _ f) = false≢true (rw e at f)
   not-long (one-government _ _ _ f) = false≢true (rw e at f)
 
   not-short : {r : Rule} → Permitted s l r → ⊥
   unfolding sameClass mixedClass sameGovernment isCanada isProvince isUs isGb isCorporate isCorporation within
   not-short (one-corporation _ _ _ n _) = false≢true (rw e at (corporate-legs s l n .1 .0))
-  not-short (one-class _ _ f) = false≢true (rw (e, and-false (isCanada s), and-false (isProvince s)) at f)
+  not-short (one-class _ _ f _) = false≢true (rw (e, and-false (isCanada s), and-false (isProvince s)) at f)
   not-short (two-classes _ _ f) = false≢true (rw (e, and-false (isCanada s), and-false (isProvince s)) at f)
   not-short (one-government _ _ _ f) = false≢true (rw (e, and-false (isCanada s), and-false (isUs s), and-false (isGb s)) at f)
 

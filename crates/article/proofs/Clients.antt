@@ -5,7 +5,7 @@ use native.Mathlib.Omega.{arith}
 use Rattle.rates.specs.Rate.{longerThan, atLeast, periodOf, classOf, bondRate, stripRate, kindRate, rateAt, rateOf}
 use Rattle.article.proofs.Paragraphs.{in-cad}
 use Rattle.article.specs.Article.{Paragraph2, ByParagraph, by-2, by-3, by-4, MayPair, ClientPairs}
-use Rattle.article.specs.Pair.{legOf, isBond, isStrip, isCanada, isProvince, kindsPair, sameClass, mixedClass, classRule, domesticRule, ruleOf, ruleRate, pairRateOf}
+use Rattle.article.specs.Pair.{legOf, isBond, isStrip, isCanada, isProvince, kindsPair, sameClass, mixedClass, provincesPair, classRule, domesticRule, ruleOf, ruleRate, pairRateOf}
 use Rattle.holding.specs.Holding.{letterNumber}
 use Rattle.holding.specs.declared.Account.{Account}
 use Rattle.holding.specs.declared.AccountKind.the-variants.{Participant, Client}
@@ -50,7 +50,7 @@ module _ (date : ℕ) where
 
     -- whose rule asks for no letter
     same-rule : Paragraph2 l s → ruleOf (legOf (clientOn date) l) (legOf (clientOn date) s) ≡ ruleOf (legOf (participantOn date) l) (legOf (participantOn date) s)
-    unfolding domesticRule kindsPair classRule sameClass mixedClass isBond isStrip isCanada isProvince legOf
+    unfolding domesticRule kindsPair classRule sameClass mixedClass provincesPair isBond isStrip isCanada isProvince legOf
     same-rule p = in-cad (clientOn date) l s p ∙ sym (in-cad (participantOn date) l s p)
 
     same-rate : Paragraph2 l s → pairRateOf (legOf (clientOn date) l) (legOf (clientOn date) s) ≡ pairRateOf (legOf (participantOn date) l) (legOf (participantOn date) s)

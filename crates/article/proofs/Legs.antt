@@ -1,13 +1,14 @@
 -- What an allowed pair of legs means, and why its rule permits it. Assumes nothing.
 use mathlib.Core.Path.{_≡_, refl}
-use mathlib.Core.Bool.{true, false, _&&_, and-eq-true-iff, and-false, false≢true}
+use mathlib.Core.Logic.{_⊎_, inl, inr}
+use mathlib.Core.Bool.{true, false, not, _&&_, _||_, and-eq-true-iff, and-false, or-true, false≢true}
 use Prim.Native.Nat.{_≤_}
 use lib.Dec.{eqb}
-use borrow.Author.Tests.{eq-eqb, eqb-true}
+use borrow.Author.Tests.{eq-eqb, ne-eqb, eqb-true}
 use Rattle.lists.specs.Choice.{firstOf}
 use Rattle.lists.proofs.Tests.{zero-out, by-test}
 use Rattle.article.proofs.PairRates.{permitted-high}
-use Rattle.article.specs.Pair.{isLong, isShort, isBond, isStrip, kindsPair, sameClass, mixedClass}
+use Rattle.article.specs.Pair.{isLong, isShort, isBond, isStrip, kindsPair, sameClass, mixedClass, provincesPair}
 use Rattle.article.specs.Pair.{classRule, domesticRule, isCorporate, bondRating, sameCorporation, corporateRule, cadRule, areParticipants, oneBond, sameGovernment, foreignRule}
 use Rattle.article.specs.Pair.{bothCad, sameForeign, ruleOf, permits, allowed, pairRateOf, rateLimit, RateInRange}
 use Rattle.article.specs.declared.pair.Rule.{Rule}
@@ -54,9 +55,24 @@ module _ (l s : Leg) where
   unfolding allowed
   no-rule e = rw e (and-false (isLong l && isShort s && eqb (l .period) (s .period)))
 
+-- of which provinces two legs pair: strips of any, a bond with the same issuer's alone
+module _ (l s : Leg) where
+  pub two-strips : (l .kind ≡ 0 → ⊥) → (s .kind ≡ 0 → ⊥) → provincesPair l s ≡ true
+  unfolding provincesPair isBond
+  two-strips a b = rw (ne-eqb _ _ a, ne-eqb _ _ b)
+
+  pub one-issuer : l .issuer ≡ s .issuer → provincesPair l s ≡ true
+  unfolding provincesPair
+  one-issuer e = rw (eq-eqb _ _ e) (or-true (not (isBond l || isBond s)))
+
+  pub with-bond : (l .kind ≡ 0) ⊎ (s .kind ≡ 0) → provincesPair l s ≡ eqb (l .issuer) (s .issuer)
+  unfolding provincesPair isBond
+  with-bond (inl a) = rw (eq-eqb _ _ a)
+  with-bond (inr b) = rw (eq-eqb _ _ b, or-true (eqb (l .kind) 0))
+
 -- why a rule permits a pair: paragraph 2 for legs of one class or of two, or a participant's paragraph 3 or 4
 pub data Permitted (l s : Leg) : Rule → Type 0 where
-  one-class : bothCad l s ≡ true → kindsPair l s ≡ true → sameClass l s ≡ true → Permitted l s Difference
+  one-class : bothCad l s ≡ true → kindsPair l s ≡ true → sameClass l s ≡ true → provincesPair l s ≡ true → Permitted l s Difference
   two-classes : bothCad l s ≡ true → kindsPair l s ≡ true → mixedClass l s ≡ true → Permitted l s HalfSum
   one-corporation : bothCad l s ≡ true → areParticipants l s ≡ true → oneBond l s ≡ true → sameCorporation l s ≡ true → eqb (bondRating l s) 0 ≡ true → Permitted l s Capped
   one-government : sameForeign l s ≡ true → areParticipants l s ≡ true → oneBond l s ≡ true → sameGovernment l s ≡ true → Permitted l s Difference
@@ -77,7 +93,9 @@ module _ (l s : Leg) where
       one-corporation c p k n rated)
       (λ _. none))
       (λ _. by-test Why (kindsPair l s)
-      (λ k. by-test Why (sameClass l s) (λ e _. one-class c k e) (λ _. by-test Why (mixedClass l s) (λ e _. two-classes c k e) (λ _. none)))
+      (λ k. by-test Why (sameClass l s && provincesPair l s)
+      (λ e _. let (same, provinces) = and-eq-true-iff _ _ .0 e in one-class c k same provinces)
+      (λ _. by-test Why (mixedClass l s) (λ e _. two-classes c k e) (λ _. none)))
       (λ _. none)))
       (λ _. by-test Why (sameForeign l s)
       (λ c. by-test Why (areParticipants l s && oneBond l s && sameGovernment l s)

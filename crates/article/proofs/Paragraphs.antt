@@ -2,7 +2,7 @@
 use mathlib.Core.Path.{_≡_, refl, sym, ap, _∙_}
 use mathlib.Core.Logic.{_⊎_, inl, inr, ⊎-elim}
 use mathlib.Core.Bool.{Bool, true, false, _&&_, and-eq-true-iff, false≢true}
-use Prim.Native.Nat.{ℕ, _≤_}
+use Prim.Native.Nat.{ℕ, suc, _≤_}
 use native.Mathlib.Omega.{arith}
 use lib.Dec.{eqb}
 use borrow.Author.Tests.{eq-eqb, ne-eqb, eqb-true}
@@ -14,10 +14,10 @@ use Rattle.holding.proofs.Issuers.{above-range, no-corporation, corporation-is}
 use Rattle.holding.specs.Holding.{Government, Corporate, isCorporation, noIssuer, letterNumber, kindNumber, issuerNumber, currencyNumber, ratingNumber}
 use Rattle.holding.specs.Holding.{letterOf, issuerOf, currencyOf, ratingOf, rowOf, InRange}
 use Rattle.article.proofs.ByKind.{bond-of, strip-of}
-use Rattle.article.proofs.Legs.{Permitted, one-class, two-classes, one-corporation, one-government}
+use Rattle.article.proofs.Legs.{two-strips, one-issuer, with-bond, Permitted, one-class, two-classes, one-corporation, one-government}
 use Rattle.article.specs.Article.{OneClass, both-canada, both-provincial, TwoClasses, canada-long, canada-short, SameForeign, both-usd, both-gbp}
 use Rattle.article.specs.Article.{SameGovernment, of-canada, of-us, of-gb, OneBond, SameCorporation, of-corporation, Paragraph2, Paragraph3, Paragraph4, ByParagraph, by-2, by-3, by-4}
-use Rattle.article.specs.Pair.{legOf, isBond, isStrip, isCanada, isProvince, isUs, isGb, inCad, inUsd, inGbp, kindsPair, sameClass, mixedClass, classRule, domesticRule}
+use Rattle.article.specs.Pair.{legOf, isBond, isStrip, isCanada, isProvince, isUs, isGb, inCad, inUsd, inGbp, kindsPair, sameClass, mixedClass, provincesPair, classRule, domesticRule}
 use Rattle.article.specs.Pair.{isParticipant, areParticipants, isCorporate, bondRating, sameCorporation, corporateRule, cadRule}
 use Rattle.article.specs.Pair.{oneBond, sameGovernment, foreignRule, bothCad, sameForeign, ruleOf}
 use Rattle.holding.specs.declared.AccountKind.the-variants.{Participant}
@@ -68,6 +68,20 @@ province-of i e =
       no-corporation (issuerNumber i) (omega arith),
     )
 
+-- the number of a record's province
+abbrev provinceIn : Issuer → ℕ
+provinceIn Canada = 0
+provinceIn (Province p) = suc p
+provinceIn UnitedStates = 0
+provinceIn UnitedKingdom = 0
+provinceIn (Corporation c) = 0
+
+province-number : {i : Issuer} {p : ℕ} → i ≡ Province p → within 1 10 (issuerNumber i) ≡ true → p ≡ issuerNumber i
+province-number {i} e w = let same = ap provinceIn (sym e ∙ province-of i w) in omega (arith, same)
+
+no-canada : {i : Issuer} {p : ℕ} → i ≡ Province p → eqb (issuerNumber i) 0 ≡ true → ⊥
+no-canada {i} e c = let never = ap provinceIn (sym e ∙ canada-of i c) in omega (arith, never)
+
 corporation-of : (i : Issuer) → isCorporation (issuerNumber i) ≡ true → i ≡ Corporation (issuerNumber i)
 unfolding issuerOf firstOf
 corporation-of i e =
@@ -110,6 +124,23 @@ module _ (a : Account) (l s : Holding) where
       (both _ _ (λ x y. rw (canada-of (l .issuer) x, canada-of (s .issuer) y) both-canada))
       (both _ _ (λ x y. rw (province-of (l .issuer) x, province-of (s .issuer) y) (both-provincial _ _)))
       (one-of _ _ e)
+
+  -- a bond and a strip of provinces are of one
+  one-province : sameClass (legOf a l) (legOf a s) ≡ true → provincesPair (legOf a l) (legOf a s) ≡ true
+      → (p q : ℕ) → l .issuer ≡ Province p → s .issuer ≡ Province q → (l .kind ≡ Bond) ⊎ (s .kind ≡ Bond) → p ≡ q
+  unfolding sameClass isCanada isProvince legOf rowOf
+  one-province e f p q first second bond =
+      let kinds : (kindNumber (l .kind) ≡ 0) ⊎ (kindNumber (s .kind) ≡ 0) = ⊎-elim (λ k. inl (ap kindNumber k)) (λ k. inr (ap kindNumber k)) bond in
+      let issuers = eqb-true (issuerNumber (l .issuer)) (issuerNumber (s .issuer)) (sym (with-bond (legOf a l) (legOf a s) kinds) ∙ f) in
+      ⊎-elim
+      (both _ _ (λ x _. absurd (no-canada first x)))
+      (both _ _ (λ x y. province-number first x ∙ issuers ∙ sym (province-number second y)))
+      (one-of _ _ e)
+
+  -- Canada with a province is not of two provinces
+  two-provinces : mixedClass (legOf a l) (legOf a s) ≡ true → (p q : ℕ) → l .issuer ≡ Province p → s .issuer ≡ Province q → ⊥
+  unfolding mixedClass isCanada isProvince legOf rowOf
+  two-provinces e p q first second = ⊎-elim (both _ _ (λ x _. no-canada first x)) (both (isProvince (legOf a l)) _ (λ _ y. no-canada second y)) (one-of _ _ e)
 
   mixed-class : mixedClass (legOf a l) (legOf a s) ≡ true → TwoClasses (l .issuer) (s .issuer)
   unfolding mixedClass isCanada isProvince legOf rowOf
@@ -172,8 +203,20 @@ module _ (a : Account) (l s : Holding) where
         long-rated = long-rated rated;
         short-rated = λ n. short-rated rated (λ m. bond .not-both m n);
       })
-  by-paragraph (one-class c k e) = by-2 (record { first-cad = both-cad c .0; second-cad = both-cad c .1; classes = inl (same-class e); not-bonds = not-bonds k })
-  by-paragraph (two-classes c k e) = by-2 (record { first-cad = both-cad c .0; second-cad = both-cad c .1; classes = inr (mixed-class e); not-bonds = not-bonds k })
+  by-paragraph (one-class c k e f) = by-2 (record {
+    first-cad = both-cad c .0;
+    second-cad = both-cad c .1;
+    classes = inl (same-class e);
+    not-bonds = not-bonds k;
+    one-province = one-province e f;
+  })
+  by-paragraph (two-classes c k e) = by-2 (record {
+    first-cad = both-cad c .0;
+    second-cad = both-cad c .1;
+    classes = inr (mixed-class e);
+    not-bonds = not-bonds k;
+    one-province = λ p q first second _. absurd (two-provinces e p q first second);
+  })
   by-paragraph (one-government c p k e) = by-4 (participant p) (record { currency = same-foreign c; government = same-government e; one-bond = one-bond k })
 
 -- and what two records say of the tests
@@ -230,11 +273,11 @@ of-classes (inr (canada-long p)) = no-corporation 0 (omega arith)
 of-classes (inr (canada-short p)) = of-province p
 
 -- both Canada or both provincial: the difference; one Canada, one provincial: half the sum
-one-class-rule : (l s : Leg) {i j : Issuer} → OneClass i j → l .issuer ≡ issuerNumber i → s .issuer ≡ issuerNumber j
+one-class-rule : (l s : Leg) {i j : Issuer} → OneClass i j → provincesPair l s ≡ true → l .issuer ≡ issuerNumber i → s .issuer ≡ issuerNumber j
     → Government (issuerNumber i) ⊎ Corporate (issuerNumber i) → Government (issuerNumber j) ⊎ Corporate (issuerNumber j) → classRule l s ≡ Difference
 unfolding classRule sameClass firstOf
-one-class-rule l s both-canada a b f g = rw (canada-leg l a .0, canada-leg s b .0)
-one-class-rule l s (both-provincial p q) a b f g = let (c, n) = province-leg l p a f in rw (c, n, province-leg s q b g .1)
+one-class-rule l s both-canada pair a b f g = rw (canada-leg l a .0, canada-leg s b .0, pair)
+one-class-rule l s (both-provincial p q) pair a b f g = let (c, n) = province-leg l p a f in rw (c, n, province-leg s q b g .1, pair)
 
 two-class-rule : (l s : Leg) {i j : Issuer} → TwoClasses i j → l .issuer ≡ issuerNumber i → s .issuer ≡ issuerNumber j
     → Government (issuerNumber i) ⊎ Corporate (issuerNumber i) → Government (issuerNumber j) ⊎ Corporate (issuerNumber j) → classRule l s ≡ HalfSum
@@ -287,6 +330,21 @@ module _ (a : Account) (l s : Holding) where
   unfolding domesticRule
   by-classes p e = in-cad p ∙ rw (pairs (p .not-bonds) .0) e
 
+  -- of one class a bond and a strip are of one issuer
+  provinces : Paragraph2 l s → OneClass (l .issuer) (s .issuer) → provincesPair (legOf a l) (legOf a s) ≡ true
+  unfolding legOf rowOf
+  provinces p e =
+      let same : (l .kind ≡ Bond) ⊎ (s .kind ≡ Bond) → provincesPair (legOf a l) (legOf a s) ≡ true = λ k. one-issuer (legOf a l) (legOf a s) (issuers e (p .one-province) k) in
+      either-way (eqb (kindNumber (l .kind)) 0)
+      (λ x. same (inl (bond-of (l .kind) x)))
+      (λ x. either-way (eqb (kindNumber (s .kind)) 0)
+      (λ y. same (inr (bond-of (s .kind) y)))
+      (λ y. two-strips (legOf a l) (legOf a s) (λ k. false≢true (sym x ∙ eq-eqb _ _ k)) (λ k. false≢true (sym y ∙ eq-eqb _ _ k))))
+    where
+      issuers : {i j : Issuer} {B : Type 0} → OneClass i j → ((p q : ℕ) → i ≡ Province p → j ≡ Province q → B → p ≡ q) → B → issuerNumber i ≡ issuerNumber j
+      issuers both-canada f b = refl
+      issuers (both-provincial p q) f b = ap (λ (n : ℕ). issuerNumber (Province n)) (f p q refl refl b)
+
   pub abroad : a .letter ≡ Participant → Paragraph4 l s → ruleOf (legOf a l) (legOf a s) ≡ Difference
   unfolding ruleOf foreignRule legOf rowOf
   abroad e p =
@@ -296,7 +354,7 @@ module _ (a : Account) (l s : Holding) where
   module _ (f : InRange a l) (g : InRange a s) where
     pub class-one : Paragraph2 l s → OneClass (l .issuer) (s .issuer) → ruleOf (legOf a l) (legOf a s) ≡ Difference
     unfolding legOf rowOf
-    class-one p e = by-classes p (one-class-rule (legOf a l) (legOf a s) e refl refl (f .ranges .identity .issuer) (g .ranges .identity .issuer))
+    class-one p e = by-classes p (one-class-rule (legOf a l) (legOf a s) e (provinces p e) refl refl (f .ranges .identity .issuer) (g .ranges .identity .issuer))
 
     pub class-two : Paragraph2 l s → TwoClasses (l .issuer) (s .issuer) → ruleOf (legOf a l) (legOf a s) ≡ HalfSum
     unfolding legOf rowOf

@@ -81,7 +81,7 @@ module _ (l s : Leg) (f : RateInRange l) (g : RateInRange s) where
 
   saved : {r : Rule} → Permitted l s r → l .rate + s .rate - ruleRate r (l .rate) (s .rate) ≤ savingLimit
   unfolding ruleRate
-  saved (one-class c k e) = let (x, y) = of-one-class l s e in omega (arith, f .government x, g .government y)
+  saved (one-class c k e _) = let (x, y) = of-one-class l s e in omega (arith, f .government x, g .government y)
   saved (two-classes c k e) = let (x, y) = of-two-classes l s e in omega (arith, f .government x, g .government y)
   saved (one-government c p k e) = let (x, y) = of-one-government l s e in omega (arith, f .government x, g .government y)
   saved (one-corporation c p k n rated) =
