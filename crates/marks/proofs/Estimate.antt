@@ -43,13 +43,17 @@ one-pair : {P : Type 0} (a b c d : Bool) → ((a && b) || (c && d)) ≡ true →
 one-pair a b c d e p q =
     ⊎-elim (λ f. let (t, u) = and-eq-true-iff a b .0 f in p t u) (λ f. let (t, u) = and-eq-true-iff c d .0 f in q t u) (one-of (a && b) (c && d) e)
 
+-- a leg's mark by its class, where it is domestic
+abbrev Domestic : Leg → ℕ → ℕ → Type 0
+Domestic l class mark = mark ≡ 4 * (l .period % 8) + 64 * (l .issuer % 512) + class
+
 -- the mark of a leg in CAD, of Canada or of a province, whichever kind is asked
 module _ (bond : Bool) (l : Leg) (cad : inCad l ≡ true) where
-  canada-mark : isCanada l ≡ true → markOf bond l ≡ 4 * (l .period % 8) + 64 * (l .issuer % 512) + 0
+  canada-mark : isCanada l ≡ true → Domestic l 0 (markOf bond l)
   unfolding markOf keyOf isDomestic inCad
   canada-mark e = rw (cad, e) (omega (arith, eqb-true (l .currency) 0 cad))
 
-  province-mark : isProvince l ≡ true → markOf bond l ≡ 4 * (l .period % 8) + 64 * (l .issuer % 512) + 1
+  province-mark : isProvince l ≡ true → Domestic l 1 (markOf bond l)
   unfolding markOf keyOf isDomestic inCad isCanada isProvince
   province-mark e = rw (cad, e, positive 10 (l .issuer) e) (omega (arith, eqb-true (l .currency) 0 cad))
 
@@ -66,7 +70,7 @@ own-or-open : (bond : Bool) (s : Leg) → (shortMark bond s ≡ ownMark s) ⊎ (
 unfolding shortMark acrossMark
 own-or-open bond s =
     let Is : ℕ → Type 0 = λ x. (x ≡ ownMark s) ⊎ (x ≡ openMark (ownMark s)) in
-    by-test Is bond (λ _. inl refl) (λ _. by-test Is _ (λ _. inr refl) (λ _. inl refl))
+    by-test Is bond (λ _. inl refl) (λ _. by-test Is (not (eqb (s .kind) 0) && eqb (ownMark s % 4) 1) (λ _. inr refl) (λ _. inl refl))
 
 -- a short that a long finds: its mark is the one that the long seeks, or that of any issuer
 abbrev pub Found : ℕ → ℕ → Type 0
@@ -132,6 +136,14 @@ capped-saving {b} {s} period e (inr (five, f)) =
     let flat : b ≡ 14600 = e ∙ ap (flatRate 2) five ∙ (unfold flatRate percents in refl) in
     (omega (arith, flat, f), omega (arith, flat, f))
 
+-- a domestic leg's mark for any issuer
+domestic-open : (l : Leg) (class : ℕ) {mark : ℕ} → class ≤ 1 → Domestic l class mark → openMark mark ≡ 4 * (l .period % 8) + class
+domestic-open l class h e = omega (arith, e)
+
+-- the two classes of a period
+classes : (a c d : ℕ) {x other : ℕ} → c + d ≡ 1 → openMark x ≡ 4 * a + c → other ≡ 4 * a + d → OtherClass x other
+classes a c d h e f = record { period = rw (e, f) (omega arith); class = rw f (omega (arith, e)) }
+
 -- the marks of two legs of one period
 module _ (l s : Leg) (p : l .period ≡ s .period) where
   -- a short whose own mark is sought is found
@@ -139,21 +151,20 @@ module _ (l s : Leg) (p : l .period ≡ s .period) where
   found e = ⊎-elim (λ f. inl (f ∙ e)) (λ f. inr (f ∙ ap openMark e)) (own-or-open (isBond l) s)
 
   -- marks of one class and one issuer, and of two classes
-  alike : {x y : ℕ} (c : ℕ) → x ≡ 4 * (l .period % 8) + 64 * (l .issuer % 512) + c → y ≡ 4 * (s .period % 8) + 64 * (s .issuer % 512) + c → l .issuer ≡ s .issuer → y ≡ x
+  alike : {x y : ℕ} (c : ℕ) → Domestic l c x → Domestic s c y → l .issuer ≡ s .issuer → y ≡ x
   alike c e f i = f ∙ rw (← p, ← i) (sym e)
 
-  crossed : {x y : ℕ} (c d : ℕ) → x ≡ 4 * (l .period % 8) + 64 * (l .issuer % 512) + c → y ≡ 4 * (s .period % 8) + 64 * (s .issuer % 512) + d → c + d ≡ 1
-      → OtherClass x (openMark y)
-  crossed c d e f h = record { period = omega (arith, p, e, f, h); class = omega (arith, e, f, h) }
+  crossed : {x y : ℕ} (c d : ℕ) → Domestic l c x → Domestic s d y → c + d ≡ 1 → OtherClass x (openMark y)
+  crossed c d e f h = classes (s .period % 8) c d h (rw (← p) (domestic-open l c (omega (arith, h)) e)) (domestic-open s d (omega (arith, h)) f)
 
   -- strips of two provinces: the short's mark is that of any
   strips-mark : inCad l ≡ true → inCad s ≡ true → isProvince l ≡ true → isProvince s ≡ true → isBond l ≡ false → isBond s ≡ false
       → shortMark (isBond l) s ≡ openMark (soughtMark l)
   unfolding shortMark acrossMark soughtMark isBond
   strips-mark c d a b k n =
-      let sought = province-mark (not (isBond l)) l c a in
-      let own = province-mark (isBond s) s d b in
-      rw (k, n, eq-eqb (ownMark s % 4) 1 (omega (arith, own))) (omega (arith, p, own, sought))
+      let own = province-mark false s d b in
+      rw (k, n, eq-eqb (markOf false s % 4) 1 (omega (arith, own)))
+      (domestic-open s 1 (omega arith) own ∙ rw (← p) (sym (domestic-open l 1 (omega arith) (province-mark true l c a))))
 
   -- in CAD, of one class
   one-mark : bothCad l s ≡ true → sameClass l s ≡ true → provincesPair l s ≡ true → Found (soughtMark l) (shortMark (isBond l) s)
