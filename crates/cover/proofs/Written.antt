@@ -52,14 +52,14 @@ module _ (k : ℕ) (rates prices : List ℕ) (r z : ℕ) where
     row-kept h others = record { bond = λ b. column-kept strips y (c .bond b) h others; other = λ b. column-kept marks x (c .other b) h others }
 
     -- a bond saves nothing with a bond, and the strips hold any other short
-    pub row-added : RateInRange l → from ≤ k → k < more → k < length marks → k < length strips → k < length rates → k < length prices → (s : Leg) → RateInRange s
-        → r ≡ scanRate s → {own : ℕ} → own ≡ markOf (isBond s) s → x ≡ acrossMark (s .kind) own → ((s .kind ≡ 0 → ⊥) → y ≡ own) → savingOf l s ≤ p + z
+    pub row-added : {own : ℕ} → RateInRange l → from ≤ k → k < more → k < length marks → k < length strips → k < length rates → k < length prices → (s : Leg) → RateInRange s
+        → r ≡ scanRate s → own ≡ markOf (isBond s) s → x ≡ acrossMark (s .kind) own → ((s .kind ≡ 0 → ⊥) → y ≡ own) → savingOf l s ≤ p + z
     unfolding shortMark isBond
     row-added fair f g a a′ b d s low rated own mark strip =
         let seeks : Seeks l (soughtMark l) (scanRate l) = record { marked = refl; rated = refl; in-range = fair } in
-        let marked : {w : ℕ} → w ≡ shortMark (isBond l) s → Marked (isBond l) s w r = λ e. record { marked = e; rated = rated; in-range = low } in
+        let marked : (w : ℕ) → w ≡ shortMark (isBond l) s → Marked (isBond l) s w r = λ w e. record { marked = e; rated = rated; in-range = low } in
         same-or-not (l .kind) 0
         (λ e. same-or-not (s .kind) 0
         (λ t. rw (two-bonds l s e t) (omega arith))
-        (λ t. column-added strips y (c .bond e) f g a′ b d seeks (marked (rw (eq-eqb _ _ e) (strip t ∙ own)))))
-        (λ e. column-added marks x (c .other e) f g a b d seeks (marked (rw (ne-eqb _ _ e, ← own) mark)))
+        (λ t. column-added strips y (c .bond e) f g a′ b d seeks (marked y (rw (eq-eqb _ _ e) (strip t ∙ own)))))
+        (λ e. column-added marks x (c .other e) f g a b d seeks (marked x (rw (ne-eqb _ _ e, ← own) mark)))

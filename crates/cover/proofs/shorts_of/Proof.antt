@@ -51,9 +51,9 @@ element-write-strips c = element-write-marks (c .before)
 
 scan-rate-requires : tie.Need-scan-rate-requires Inv-loop μ-loop
 scan-rate-requires c κs =
-    let turn = c .before .before .before .before .before .before .before in
+    let turn = c .before .before .before .before .before .before .before .before in
     let start = turn .before .before .before .before in
-    rate-low _ (start .pre .0) (turn .loop-test .taken) (c .before .before .before .before .before .leg-in .ensures)
+    rate-low _ (start .pre .0) (turn .loop-test .taken) (c .before .before .before .before .before .before .leg-in .ensures)
 
 mul-rates : tie.Need-mul-rates Inv-loop μ-loop
 mul-rates c = mul-marks (c .before .before)
@@ -66,7 +66,7 @@ word-requires c κs = search needs
 
 cast-prices : tie.Need-cast-prices Inv-loop μ-loop
 cast-prices c =
-    let turn = c .before .before .before .before .before .before .before .before .before in
+    let turn = c .before .before .before .before .before .before .before .before .before .before in
     let start = turn .before .before .before .before in
     omega (arith, c .word .ensures, start .pre .0 .high _ (turn .loop-test .taken))
 
@@ -93,7 +93,8 @@ loop-again c =
     let leg = c .before .before .leg-in .ensures in
     let priced = turn .before .before .before .before .pre .0 in
     elim (c .if1 .came) [
-      | inl w ↦ rw (w .6, w .7, w .8, w .9, w .10) (filling-more filling leg (turn .loop-test .taken) priced (w .2 .ensures) (w .3 .ensures) (w .4 .ensures) (w .5 .ensures))
+      | inl w ↦ rw (w .7, w .8, w .9, w .10, w .11)
+          (filling-more filling leg (turn .loop-test .taken) priced (w .2 .ensures) (w .3 .ensures) (w .4 .ensures) (w .5 .ensures) (w .6 .ensures))
       | inr w ↦ rw (w .1, w .2, w .3, w .4, w .5) (filling-other filling leg (turn .loop-test .taken) (w .0 .left))
     ]
 
