@@ -7,11 +7,11 @@ use lib.ListN.{getD, set, length-set}
 use lib.Seq.{getD-set-same, getD-set-other}
 use borrow.Author.Count.{below-more}
 use Rattle.words.specs.Words.{wordAt}
-use Rattle.article.specs.Pair.{RateInRange}
+use Rattle.article.specs.Pair.{isBond, RateInRange}
 use Rattle.article.specs.declared.pair.Leg.{Leg}
 use Rattle.packed.specs.Packed.{legAt}
 use Rattle.savings.specs.Savings.{savingOf}
-use Rattle.marks.specs.Marks.{soughtMark, shortMark, scanRate, scanLimit}
+use Rattle.marks.specs.Marks.{markOf, acrossMark, soughtMark, scanRate, scanLimit}
 use Rattle.cover.specs.Cover.{PairCovered, Priced, Covered, RowCovered, Places, Shorts}
 use Rattle.cover.proofs.Written.{unmet, row-kept, row-added, rate-low}
 
@@ -49,8 +49,8 @@ module _ {n : ℕ} {legs price marks strips rates prices : List ℕ} where
       }
 
       -- one more short
-      module _ (priced : Priced n legs price) {x y r z : ℕ} (mark : x ≡ shortMark leg) (strip : (leg .kind ≡ 0 → ⊥) → y ≡ x) (rate : (r ≡ scanRate leg) × (r ≤ scanLimit))
-          (e : z ≡ wordAt price j) where
+      module _ (priced : Priced n legs price) {o x y r z : ℕ} (own : o ≡ markOf (isBond leg) leg) (mark : x ≡ acrossMark (leg .kind) o) (strip : (leg .kind ≡ 0 → ⊥) → y ≡ o)
+          (rate : (r ≡ scanRate leg) × (r ≤ scanLimit)) (e : z ≡ wordAt price j) where
         room : m < 256
         room = omega (arith, priced .bounded .few, f .shorts .few)
 
@@ -68,7 +68,7 @@ module _ {n : ℕ} {legs price marks strips rates prices : List ℕ} where
           row-new =
               rw (← found, ← e) (row-added m rates prices r z marks strips x y c fair (omega arith) (omega arith)
               (rw (f .places .marks-held) room) (rw (f .places .strips-held) room) (rw (f .places .rates-held) room) (rw (f .places .prices-held) room)
-              leg (record { marked = mark; rated = rate .0; in-range = rate-low j priced h found }) strip)
+              leg (rate-low j priced h found) (rate .0) own mark strip)
 
         pub filling-more : Filling n legs price (set marks m x) (set strips m y) (set rates m r) (set prices m z) (m + 1) (j + 1)
         filling-more = record {

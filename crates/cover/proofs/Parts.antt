@@ -12,8 +12,8 @@ use Rattle.words.specs.Words.{wordAt}
 use Rattle.article.specs.declared.pair.Leg.{Leg}
 use Rattle.packed.specs.Packed.{legAt}
 use Rattle.savings.specs.Savings.{savingOf}
-use Rattle.marks.specs.Marks.{shortMark, scanRate, scanLimit}
-use Rattle.article.specs.Pair.{RateInRange}
+use Rattle.marks.specs.Marks.{markOf, acrossMark, scanRate, scanLimit}
+use Rattle.article.specs.Pair.{isBond, RateInRange}
 use Rattle.cover.specs.Cover.{Priced, RowCovered, partOf, Parts, Free, ShortsByPart}
 use Rattle.cover.proofs.Written.{unmet, row-kept, row-added, rate-low}
 
@@ -71,21 +71,21 @@ module _ {n : ℕ} {legs price counts marks strips rates prices : List ℕ} wher
       place-low = omega (arith, part-room (leg .period % 8) (omega arith))
 
       -- one more short, at place k, after the m in the part b of its period
-      module _ {b m k x y r z : ℕ} (own : b ≡ partOf leg) (count : m ≡ getD counts b 0) (at : k ≡ 256 * b + m)
-          (mark : x ≡ shortMark leg) (strip : (leg .kind ≡ 0 → ⊥) → y ≡ x) (rate : (r ≡ scanRate leg) × (r ≤ scanLimit)) (e : z ≡ wordAt price j) where
+      module _ {b m k o x y r z : ℕ} (part : b ≡ partOf leg) (count : m ≡ getD counts b 0) (at : k ≡ 256 * b + m)
+          (own : o ≡ markOf (isBond leg) leg) (mark : x ≡ acrossMark (leg .kind) o) (strip : (leg .kind ≡ 0 → ⊥) → y ≡ o) (rate : (r ≡ scanRate leg) × (r ≤ scanLimit)) (e : z ≡ wordAt price j) where
         -- the place is in each column, and no short before stands there
         place : k < 2048
         unfolding partOf
-        place = rw (at, count, own) place-low
+        place = rw (at, count, part) place-low
 
         untaken : (q : ℕ) → q < 8 → (i : ℕ) → 256 * q ≤ i → i < 256 * q + getD counts q 0 → i ≢ k
         untaken q l i g t u =
-            let same : q ≡ b = omega (arith, u, at, count, part-room b (rw own (part-low leg)), part-room q l) in
+            let same : q ≡ b = omega (arith, u, at, count, part-room b (rw part (part-low leg)), part-room q l) in
             omega (arith, u, at, count, same, ap (λ (v : ℕ). getD counts v 0) same)
 
         -- the count of its part grows by one, and no other does
         own-count : getD (set counts b (m + 1)) b 0 ≡ m + 1
-        own-count = getD-set-same counts b (m + 1) 0 (rw (f .parts .counts-held, own) (part-low leg))
+        own-count = getD-set-same counts b (m + 1) 0 (rw (f .parts .counts-held, part) (part-low leg))
 
         counts-up : (q : ℕ) → (getD counts q 0 ≤ getD (set counts b (m + 1)) q 0) × (getD (set counts b (m + 1)) q 0 ≤ getD counts q 0 + 1)
         counts-up q =
@@ -98,8 +98,8 @@ module _ {n : ℕ} {legs price counts marks strips rates prices : List ℕ} wher
             same-or-not (partOf l) b
             (λ t. rw (← found, ← e) (row-added k rates prices r z marks strips x y (rw (t, own-count) at c) fair (omega (arith, at)) (omega (arith, at))
             (rw (f .parts .marks-held) place) (rw (f .parts .strips-held) place) (rw (f .parts .rates-held) place) (rw (f .parts .prices-held) place)
-            leg (record { marked = mark; rated = rate .0; in-range = rate-low j (f .priced) h found }) strip))
-            (λ t. rw (apart l (legAt legs j) (λ u. t (u ∙ sym (own ∙ ap partOf found)))) (omega arith))
+            leg (rate-low j (f .priced) h found) (rate .0) own mark strip))
+            (λ t. rw (apart l (legAt legs j) (λ u. t (u ∙ sym (part ∙ ap partOf found)))) (omega arith))
 
         pub parting-more : Parting n legs price (set counts b (m + 1)) (set marks k x) (set strips k y) (set rates k r) (set prices k z) (j + 1)
         parting-more = record {

@@ -10,7 +10,7 @@ use lib.ListN.{getD, replicate, length-replicate, getD-replicate}
 use borrow.Author.Count.{below-more}
 use borrow.Author.Tests.{ltb-false}
 use Rattle.words.specs.Words.{wordAt}
-use Rattle.article.specs.Pair.{RateInRange}
+use Rattle.article.specs.Pair.{isBond, RateInRange}
 use Rattle.article.specs.declared.pair.Leg.{Leg}
 use Rattle.packed.specs.Packed.{legAt}
 use Rattle.savings.specs.Savings.{savingOf}
@@ -20,7 +20,7 @@ use Rattle.cover.proofs.Filled.{scan-closed}
 
 -- of each short from one place to another at most so much is missing
 pub record Missing (mark rate price : ℕ) (marks rates prices : List ℕ) (from worst to : ℕ) : Type 0 where
-  pub most : (k : ℕ) → k < to → from ≤ k → (l s : Leg) → Seeks l mark rate → Marked s (getD marks k 0) (getD rates k 0)
+  pub most : (k : ℕ) → k < to → from ≤ k → (l s : Leg) → Seeks l mark rate → Marked (isBond l) s (getD marks k 0) (getD rates k 0)
       → savingOf l s - price - getD prices k 0 ≤ worst
 
 module _ {mark rate price : ℕ} {marks rates prices : List ℕ} {from : ℕ} where

@@ -6,21 +6,22 @@ use Prim.Native.Nat.{ℕ, _+_, _-_, _*_, _/_, _%_, _≤_, min, max}
 use native.Mathlib.Omega.{arith}
 use native.Mathlib.Nat.{le-trans}
 use lib.Dec.{eqb}
-use borrow.Author.Tests.{ne-eqb, eqb-true, eq-eqb}
+use borrow.Author.Tests.{ne-eqb, eqb-true, eq-eqb, not-true}
 use Rattle.lists.specs.Choice.{within}
-use Rattle.lists.proofs.Tests.{within-true, by-test, one-of, either-way}
+use Rattle.lists.proofs.Tests.{within-true, by-test, one-of, neither, either-way}
 use Rattle.holding.proofs.Issuers.{corporation-is, above-range}
 use Rattle.rates.specs.Rate.{flatRate, percents}
 use Rattle.rates.proofs.FlatRates.{flat-high}
 use Rattle.article.proofs.Saved.{of-one-class, of-two-classes, of-one-government, one-bond-of, corporate-legs}
 use Rattle.article.specs.Pair.{isParticipant, areParticipants, isBond, isStrip, isCanada, isProvince, isUs, isGb, inCad, inUsd, inGbp}
-use Rattle.article.specs.Pair.{sameClass, mixedClass, oneBond, sameGovernment, bothCad, sameForeign, isCorporate, bondRating, sameCorporation, RateInRange}
+use Rattle.article.specs.Pair.{sameClass, mixedClass, provincesPair, oneBond, sameGovernment, bothCad, sameForeign, isCorporate, bondRating, sameCorporation, RateInRange}
 use Rattle.article.specs.Pair.{permits, allowed, ruleRate, pairRateOf, savingRateOf}
 use Rattle.article.proofs.Legs.{allowed-meets, bonds-no-rule, no-rule, Permitted, one-class, two-classes, one-corporation, one-government, permitted}
 use Rattle.article.specs.declared.pair.Rule.{Rule}
 use Rattle.article.specs.declared.pair.Leg.{Leg}
 use Rattle.savings.specs.Savings.{savingOf}
-use Rattle.marks.specs.Marks.{isDomestic, isOffered, isGovernment, hasPartner, keyOf, markOf, shortMark, soughtMark, scanRate, scanLimit, OtherClass, Asks}
+use Rattle.marks.specs.Marks.{isDomestic, isOffered, isGovernment, hasPartner, keyOf, markOf, openMark, acrossMark, shortMark, soughtMark}
+use Rattle.marks.specs.Marks.{scanRate, scanLimit, OtherClass, Asks}
 
 -- two bonds save nothing
 pub two-bonds : (l s : Leg) → l .kind ≡ 0 → s .kind ≡ 0 → savingOf l s ≡ 0
@@ -42,21 +43,38 @@ one-pair : {P : Type 0} (a b c d : Bool) → ((a && b) || (c && d)) ≡ true →
 one-pair a b c d e p q =
     ⊎-elim (λ f. let (t, u) = and-eq-true-iff a b .0 f in p t u) (λ f. let (t, u) = and-eq-true-iff c d .0 f in q t u) (one-of (a && b) (c && d) e)
 
+-- a leg's mark by its class, where it is domestic
+abbrev Domestic : Leg → ℕ → ℕ → Type 0
+Domestic l class mark = mark ≡ 4 * (l .period % 8) + 64 * (l .issuer % 512) + class
+
 -- the mark of a leg in CAD, of Canada or of a province, whichever kind is asked
 module _ (bond : Bool) (l : Leg) (cad : inCad l ≡ true) where
-  canada-mark : isCanada l ≡ true → markOf bond l ≡ 4 * (l .period % 8) + 0
-  unfolding markOf keyOf isDomestic
-  canada-mark e = rw (cad, e) (omega arith)
+  canada-mark : isCanada l ≡ true → Domestic l 0 (markOf bond l)
+  unfolding markOf keyOf isDomestic inCad
+  canada-mark e = rw (cad, e) (omega (arith, eqb-true (l .currency) 0 cad))
 
-  province-mark : isProvince l ≡ true → markOf bond l ≡ 4 * (l .period % 8) + 1
-  unfolding markOf keyOf isDomestic isCanada isProvince
-  province-mark e = rw (cad, e, positive 10 (l .issuer) e) (omega arith)
+  province-mark : isProvince l ≡ true → Domestic l 1 (markOf bond l)
+  unfolding markOf keyOf isDomestic inCad isCanada isProvince
+  province-mark e = rw (cad, e, positive 10 (l .issuer) e) (omega (arith, eqb-true (l .currency) 0 cad))
 
 -- the mark of a leg that is not domestic and may have a pair
-outside-mark : (bond : Bool) (l : Leg) → isDomestic l ≡ false → hasPartner l ≡ true
-    → markOf bond l ≡ 4 * (l .period % 8 + 8 * (l .currency % 4 + 4 * (l .issuer % 512))) + cond bond 0 2
-unfolding markOf keyOf
+outside-mark : (bond : Bool) (l : Leg) → isDomestic l ≡ false → hasPartner l ≡ true → markOf bond l ≡ keyOf l + cond bond 2 34
+unfolding markOf
 outside-mark bond l d h = rw (d, h)
+
+-- a short's own mark; the one that it has for a long is this, or that of any issuer
+abbrev ownMark : Leg → ℕ
+ownMark s = markOf (isBond s) s
+
+own-or-open : (bond : Bool) (s : Leg) → (shortMark bond s ≡ ownMark s) ⊎ (shortMark bond s ≡ openMark (ownMark s))
+unfolding shortMark acrossMark
+own-or-open bond s =
+    let Is : ℕ → Type 0 = λ x. (x ≡ ownMark s) ⊎ (x ≡ openMark (ownMark s)) in
+    by-test Is bond (λ _. inl refl) (λ _. by-test Is (not (eqb (s .kind) 0) && eqb (ownMark s % 4) 1) (λ _. inr refl) (λ _. inl refl))
+
+-- a short that a long finds: its mark is the one that the long seeks, or that of any issuer
+abbrev pub Found : ℕ → ℕ → Type 0
+Found long short = (short ≡ long) ⊎ (short ≡ openMark long)
 
 -- a corporation's leg is not domestic; a participant's in CAD may have a pair if paragraph 3 can have it
 no-domestic : (l : Leg) → isCorporate l ≡ true → isDomestic l ≡ false
@@ -118,34 +136,57 @@ capped-saving {b} {s} period e (inr (five, f)) =
     let flat : b ≡ 14600 = e ∙ ap (flatRate 2) five ∙ (unfold flatRate percents in refl) in
     (omega (arith, flat, f), omega (arith, flat, f))
 
+-- a domestic leg's mark for any issuer
+domestic-open : (l : Leg) (class : ℕ) {mark : ℕ} → class ≤ 1 → Domestic l class mark → openMark mark ≡ 4 * (l .period % 8) + class
+domestic-open l class h e = omega (arith, e)
+
+-- the two classes of a period
+classes : (a c d : ℕ) {x other : ℕ} → c + d ≡ 1 → openMark x ≡ 4 * a + c → other ≡ 4 * a + d → OtherClass x other
+classes a c d h e f = record { period = rw (e, f) (omega arith); class = rw f (omega (arith, e)) }
+
 -- the marks of two legs of one period
 module _ (l s : Leg) (p : l .period ≡ s .period) where
-  -- marks of one class, and of two
-  alike : {x y : ℕ} (c : ℕ) → x ≡ 4 * (l .period % 8) + c → y ≡ 4 * (s .period % 8) + c → y ≡ x
-  alike c e f = f ∙ rw (← p) (sym e)
+  -- a short whose own mark is sought is found
+  found : ownMark s ≡ soughtMark l → Found (soughtMark l) (shortMark (isBond l) s)
+  found e = ⊎-elim (λ f. inl (f ∙ e)) (λ f. inr (f ∙ ap openMark e)) (own-or-open (isBond l) s)
 
-  crossed : {x y : ℕ} (c d : ℕ) → x ≡ 4 * (l .period % 8) + c → y ≡ 4 * (s .period % 8) + d → c + d ≡ 1 → OtherClass x y
-  crossed {y = y} c d e f h =
-      let g : y ≡ 4 * (l .period % 8) + d = rw p f in
-      record { key = omega (arith, e, g, h); class = omega (arith, e, g, h) }
+  -- marks of one class and one issuer, and of two classes
+  alike : {x y : ℕ} (c : ℕ) → Domestic l c x → Domestic s c y → l .issuer ≡ s .issuer → y ≡ x
+  alike c e f i = f ∙ rw (← p, ← i) (sym e)
+
+  crossed : {x y : ℕ} (c d : ℕ) → Domestic l c x → Domestic s d y → c + d ≡ 1 → OtherClass x (openMark y)
+  crossed c d e f h = classes (s .period % 8) c d h (rw (← p) (domestic-open l c (omega (arith, h)) e)) (domestic-open s d (omega (arith, h)) f)
+
+  -- strips of two provinces: the short's mark is that of any
+  strips-mark : inCad l ≡ true → inCad s ≡ true → isProvince l ≡ true → isProvince s ≡ true → isBond l ≡ false → isBond s ≡ false
+      → shortMark (isBond l) s ≡ openMark (soughtMark l)
+  unfolding shortMark acrossMark soughtMark isBond
+  strips-mark c d a b k n =
+      let own = province-mark false s d b in
+      rw (k, n, eq-eqb (markOf false s % 4) 1 (omega (arith, own)))
+      (domestic-open s 1 (omega arith) own ∙ rw (← p) (sym (domestic-open l 1 (omega arith) (province-mark true l c a))))
 
   -- in CAD, of one class
-  one-mark : bothCad l s ≡ true → sameClass l s ≡ true → shortMark s ≡ soughtMark l
-  unfolding bothCad sameClass soughtMark shortMark
-  one-mark c e =
+  one-mark : bothCad l s ≡ true → sameClass l s ≡ true → provincesPair l s ≡ true → Found (soughtMark l) (shortMark (isBond l) s)
+  unfolding bothCad sameClass provincesPair soughtMark isCanada
+  one-mark c e o =
       let (f, g) = and-eq-true-iff (inCad l) (inCad s) .0 c in
       one-pair (isCanada l) (isCanada s) (isProvince l) (isProvince s) e
-      (λ a b. alike 0 (canada-mark _ l f a) (canada-mark _ s g b))
-      (λ a b. alike 1 (province-mark _ l f a) (province-mark _ s g b))
+      (λ a b. found (alike 0 (canada-mark _ l f a) (canada-mark _ s g b) (eqb-true (l .issuer) 0 a ∙ sym (eqb-true (s .issuer) 0 b))))
+      (λ a b. ⊎-elim
+      (λ n. let (k, m) = neither _ _ (not-true _ n) in inr (strips-mark f g a b k m))
+      (λ i. found (alike 1 (province-mark _ l f a) (province-mark _ s g b) (eqb-true _ _ i)))
+      (one-of _ _ o))
 
   -- in CAD, of two classes
-  two-marks : bothCad l s ≡ true → mixedClass l s ≡ true → OtherClass (soughtMark l) (shortMark s)
-  unfolding bothCad mixedClass soughtMark shortMark
+  two-marks : bothCad l s ≡ true → mixedClass l s ≡ true → OtherClass (soughtMark l) (openMark (shortMark (isBond l) s))
+  unfolding bothCad mixedClass soughtMark
   two-marks c e =
       let (f, g) = and-eq-true-iff (inCad l) (inCad s) .0 c in
-      one-pair (isCanada l) (isProvince s) (isProvince l) (isCanada s) e
+      let same : openMark (shortMark (isBond l) s) ≡ openMark (ownMark s) = ⊎-elim (λ x. ap openMark x) (λ x. omega (arith, x)) (own-or-open (isBond l) s) in
+      rw same (one-pair (isCanada l) (isProvince s) (isProvince l) (isCanada s) e
       (λ a b. crossed 0 1 (canada-mark _ l f a) (province-mark _ s g b) refl)
-      (λ a b. crossed 1 0 (province-mark _ l f a) (canada-mark _ s g b) refl)
+      (λ a b. crossed 1 0 (province-mark _ l f a) (canada-mark _ s g b) refl))
 
   -- just one is a bond: the short is what the long seeks
   sought : oneBond l s ≡ true → isBond s ≡ not (isBond l)
@@ -167,8 +208,8 @@ module _ (l s : Leg) (p : l .period ≡ s .period) where
       ⊎-elim (λ f. ⊎-elim (both Has _ _ 0 refl) (both Has _ _ 11 refl) (one-of _ _ f)) (both Has _ _ 12 refl) (one-of _ _ e)
 
   -- in the same foreign currency, of one government
-  foreign-mark : sameForeign l s ≡ true → areParticipants l s ≡ true → oneBond l s ≡ true → sameGovernment l s ≡ true → shortMark s ≡ soughtMark l
-  unfolding shortMark soughtMark markOf keyOf isDomestic hasPartner isGovernment inCad isCanada isUs isGb isBond
+  foreign-mark : sameForeign l s ≡ true → areParticipants l s ≡ true → oneBond l s ≡ true → sameGovernment l s ≡ true → ownMark s ≡ soughtMark l
+  unfolding soughtMark markOf keyOf isDomestic hasPartner isGovernment inCad isCanada isUs isGb isBond
   foreign-mark c a k e =
       let (first, second) = participants l s a in
       let (x, foreign) = currency c in
@@ -177,34 +218,35 @@ module _ (l s : Leg) (p : l .period ≡ s .period) where
 
   -- in CAD, of one corporation, the bond rated
   corporate-mark : bothCad l s ≡ true → areParticipants l s ≡ true → oneBond l s ≡ true → isCorporate l ≡ true → isCorporate s ≡ true → l .issuer ≡ s .issuer
-      → eqb (bondRating l s) 0 ≡ true → shortMark s ≡ soughtMark l
-  unfolding shortMark soughtMark bothCad inCad
+      → eqb (bondRating l s) 0 ≡ true → ownMark s ≡ soughtMark l
+  unfolding soughtMark bothCad inCad keyOf
   corporate-mark c a k n m i rated =
       let (x, y) = participants l s a in
       let (f, g) = and-eq-true-iff (inCad l) (inCad s) .0 c in
       let same : l .currency ≡ s .currency = eqb-true (l .currency) 0 f ∙ sym (eqb-true (s .currency) 0 g) in
       let (first, second) = offered l s n m k rated in
       outside-mark (isBond s) s (no-domestic s m) (partner s y g second)
-      ∙ (λ t. 4 * (sym p t % 8 + 8 * (sym same t % 4 + 4 * (sym i t % 512))) + cond (sought k t) 0 2)
+      ∙ (λ t. 4 * (sym p t % 8) + 64 * (sym i t % 512) + 1024 * (sym same t % 4) + cond (sought k t) 2 34)
       ∙ sym (outside-mark (not (isBond l)) l (no-domestic l n) (partner l x f first))
 
   -- what a rule saves of two rates, by the marks and the rates that the legs are scanned by
   module _ (f : RateInRange l) (g : RateInRange s) where
-    by-marks : {x : ℕ} {r : Rule} → (shortMark s ≡ soughtMark l → 2 * min (scanRate l) (scanRate s) ≤ x)
-        → (OtherClass (soughtMark l) (shortMark s) → (scanRate l + scanRate s + 1) / 2 ≤ x) → Permitted l s r → l .rate + s .rate - ruleRate r (l .rate) (s .rate) ≤ x
+    by-marks : {x : ℕ} {r : Rule} → (Found (soughtMark l) (shortMark (isBond l) s) → 2 * min (scanRate l) (scanRate s) ≤ x)
+        → (OtherClass (soughtMark l) (openMark (shortMark (isBond l) s)) → (scanRate l + scanRate s + 1) / 2 ≤ x) → Permitted l s r
+        → l .rate + s .rate - ruleRate r (l .rate) (s .rate) ≤ x
     unfolding ruleRate
-    by-marks d h (one-class c k e) =
+    by-marks d h (one-class c k e o) =
         let (a, b) = of-one-class l s e in
-        omega (arith, d (one-mark c e), own-rate l a, own-rate s b)
+        omega (arith, d (one-mark c e o), own-rate l a, own-rate s b)
     by-marks d h (two-classes c k e) =
         let (a, b) = of-two-classes l s e in
         omega (arith, h (two-marks c e), own-rate l a, own-rate s b)
     by-marks d h (one-government c x k e) =
         let (a, b) = of-one-government l s e in
-        omega (arith, d (foreign-mark c x k e), own-rate l a, own-rate s b)
+        omega (arith, d (found (foreign-mark c x k e)), own-rate l a, own-rate s b)
     by-marks d h (one-corporation c x k e rated) =
         let (n, (m, issuer)) = corporate-legs l s e in
-        let enough = d (corporate-mark c x k n m issuer rated) in
+        let enough = d (found (corporate-mark c x k n m issuer rated)) in
         ⊎-elim
         (λ w.
         le-trans (capped-saving (l .period) (f .bond n (w .0)) (rw (← p) at (g .strip m (w .1))) .0)
@@ -215,8 +257,8 @@ module _ (l s : Leg) (p : l .period ≡ s .period) where
         (one-bond-of l s k)
 
 module _ {long a short b : ℕ} where
-  -- what is asked is enough where it is for equal marks and for marks of two classes
-  asks : {x : ℕ} → (short ≡ long → 2 * min a b ≤ x) → (OtherClass long short → (a + b + 1) / 2 ≤ x) → Asks long a short b x
+  -- what is asked is enough where it is for a short that the long finds, and for one of the other class
+  asks : {x : ℕ} → (Found long short → 2 * min a b ≤ x) → (OtherClass long (openMark short) → (a + b + 1) / 2 ≤ x) → Asks long a short b x
   unfolding savingOf savingRateOf pairRateOf
   asks {x} d h = record {
     enough = λ l s ml ms. by-test (λ (y : ℕ). y ≤ x) (allowed l s)
@@ -226,14 +268,14 @@ module _ {long a short b : ℕ} where
         (λ _. omega arith);
   }
 
-  -- by any other mark nothing is asked
-  pub neither-mark : {cross : ℕ} → OtherClass long cross → (short ≡ cross → ⊥) → (short ≡ long → ⊥) → Asks long a short b 0
-  neither-mark {cross} o f g = asks (λ e. absurd (g e)) (λ q. absurd (f (omega (arith, o .key, o .class, q .key, q .class))))
+  -- of any other nothing is asked
+  pub none-found : {cross : ℕ} → OtherClass long cross → (openMark short ≡ cross → ⊥) → (Found long short → ⊥) → Asks long a short b 0
+  none-found {cross} o f g = asks (λ e. absurd (g e)) (λ q. absurd (f (omega (arith, o .period, o .class, q .period, q .class))))
 
-  -- by the mark that the long seeks, twice the lesser rate
-  pub equal-marks : short ≡ long → Asks long a short b (2 * min a b)
-  equal-marks e = asks (λ _. omega arith) (λ o. absurd (omega (arith, o .class, e)))
+  -- of one that the long finds, twice the lesser rate
+  pub one-found : Found long short → Asks long a short b (2 * min a b)
+  one-found e = asks (λ _. omega arith) (λ o. absurd (⊎-elim (λ f. omega (arith, o .class, f)) (λ f. omega (arith, o .class, f)) e))
 
-  -- by that of the other class, half the sum
-  pub other-mark : OtherClass long short → Asks long a short b ((a + b + 1) / 2)
-  other-mark o = asks (λ e. absurd (omega (arith, o .class, e))) (λ _. omega arith)
+  -- of one of the other class, half the sum
+  pub other-found : OtherClass long (openMark short) → Asks long a short b ((a + b + 1) / 2)
+  other-found o = asks (⊎-elim (λ f. absurd (omega (arith, o .class, f))) (λ f. absurd (omega (arith, o .class, f)))) (λ _. omega arith)

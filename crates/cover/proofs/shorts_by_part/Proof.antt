@@ -6,7 +6,6 @@ use Prim.Native.Nat.{_-_}
 use native.Mathlib.Omega.{arith}
 use borrow.Author.Needs.{needs}
 use Rattle.article.specs.Pair.{isBond}
-use Rattle.marks.specs.Marks.{shortMark}
 use Rattle.cover.specs.Cover.{partOf}
 use Rattle.cover.proofs.Written.{rate-low}
 use Rattle.cover.proofs.Parts.{Parting, place-low, parting-none, parting-other, parting-more, parting-all}
@@ -50,16 +49,19 @@ add-k c =
 mark-of-requires : tie.Need-mark-of-requires Inv-loop μ-loop
 mark-of-requires _ _ = tt
 
+across-mark-requires : tie.Need-across-mark-requires Inv-loop μ-loop
+across-mark-requires _ _ = tt
+
 mul-marks : tie.Need-mul-marks Inv-loop μ-loop
 mul-marks c =
-    let turn = c .before .before .before .before .before .before .before .before in
-    omega (arith, place-low (turn .before .loop .inv) (c .before .before .before .before .before .before .leg-in .ensures) (turn .loop-test .taken))
+    let turn = c .before .before .before .before .before .before .before .before .before in
+    omega (arith, place-low (turn .before .loop .inv) (c .before .before .before .before .before .before .before .leg-in .ensures) (turn .loop-test .taken))
 
 slice-write-marks : tie.Need-slice-write-marks Inv-loop μ-loop
 slice-write-marks c =
-    let turn = c .before .before .before .before .before .before .before .before in
+    let turn = c .before .before .before .before .before .before .before .before .before in
     let filling = turn .before .loop .inv in
-    rw (filling .parts .marks-held) (place-low filling (c .before .before .before .before .before .before .leg-in .ensures) (turn .loop-test .taken))
+    rw (filling .parts .marks-held) (place-low filling (c .before .before .before .before .before .before .before .leg-in .ensures) (turn .loop-test .taken))
 
 strip-mark-requires : tie.Need-strip-mark-requires Inv-loop μ-loop
 strip-mark-requires _ _ = tt
@@ -69,32 +71,32 @@ mul-strips c = mul-marks (c .before)
 
 slice-write-strips : tie.Need-slice-write-strips Inv-loop μ-loop
 slice-write-strips c =
-    let turn = c .before .before .before .before .before .before .before .before .before in
+    let turn = c .before .before .before .before .before .before .before .before .before .before in
     let filling = turn .before .loop .inv in
-    rw (filling .parts .strips-held) (place-low filling (c .before .before .before .before .before .before .before .leg-in .ensures) (turn .loop-test .taken))
+    rw (filling .parts .strips-held) (place-low filling (c .before .before .before .before .before .before .before .before .leg-in .ensures) (turn .loop-test .taken))
 
 scan-rate-requires : tie.Need-scan-rate-requires Inv-loop μ-loop
 scan-rate-requires c κs =
-    let turn = c .before .before .before .before .before .before .before .before .before in
-    rate-low _ (turn .before .loop .inv .priced) (turn .loop-test .taken) (c .before .before .before .before .before .before .before .leg-in .ensures)
+    let turn = c .before .before .before .before .before .before .before .before .before .before in
+    rate-low _ (turn .before .loop .inv .priced) (turn .loop-test .taken) (c .before .before .before .before .before .before .before .before .leg-in .ensures)
 
 mul-rates : tie.Need-mul-rates Inv-loop μ-loop
 mul-rates c = mul-marks (c .before .before)
 
 slice-write-rates : tie.Need-slice-write-rates Inv-loop μ-loop
 slice-write-rates c =
-    let turn = c .before .before .before .before .before .before .before .before .before .before in
+    let turn = c .before .before .before .before .before .before .before .before .before .before .before in
     let filling = turn .before .loop .inv in
-    rw (filling .parts .rates-held) (place-low filling (c .before .before .before .before .before .before .before .before .leg-in .ensures) (turn .loop-test .taken))
+    rw (filling .parts .rates-held) (place-low filling (c .before .before .before .before .before .before .before .before .before .leg-in .ensures) (turn .loop-test .taken))
 
 word-requires : tie.Need-word-requires Inv-loop μ-loop
 word-requires c κs =
-    let turn = c .before .before .before .before .before .before .before .before .before .before in
+    let turn = c .before .before .before .before .before .before .before .before .before .before .before in
     omega (arith, turn .before .loop .inv .priced .held, turn .loop-test .taken)
 
 cast-prices : tie.Need-cast-prices Inv-loop μ-loop
 cast-prices c =
-    let turn = c .before .before .before .before .before .before .before .before .before .before .before in
+    let turn = c .before .before .before .before .before .before .before .before .before .before .before .before in
     omega (arith, c .word .ensures, turn .before .loop .inv .priced .high _ (turn .loop-test .taken))
 
 mul-prices : tie.Need-mul-prices Inv-loop μ-loop
@@ -102,20 +104,20 @@ mul-prices c = mul-marks (c .before .before .before)
 
 slice-write-prices : tie.Need-slice-write-prices Inv-loop μ-loop
 slice-write-prices c =
-    let turn = c .before .before .before .before .before .before .before .before .before .before .before in
+    let turn = c .before .before .before .before .before .before .before .before .before .before .before .before in
     let filling = turn .before .loop .inv in
-    rw (filling .parts .prices-held) (place-low filling (c .before .before .before .before .before .before .before .before .before .leg-in .ensures) (turn .loop-test .taken))
+    rw (filling .parts .prices-held) (place-low filling (c .before .before .before .before .before .before .before .before .before .before .leg-in .ensures) (turn .loop-test .taken))
 
 add-counts : tie.Need-add-counts Inv-loop μ-loop
 add-counts c =
-    let turn = c .before .before .before .before .before .before .before .before .before .before .before in
-    omega (arith, place-low (turn .before .loop .inv) (c .before .before .before .before .before .before .before .before .before .leg-in .ensures) (turn .loop-test .taken))
+    let turn = c .before .before .before .before .before .before .before .before .before .before .before .before in
+    omega (arith, place-low (turn .before .loop .inv) (c .before .before .before .before .before .before .before .before .before .before .leg-in .ensures) (turn .loop-test .taken))
 
 mul-counts : tie.Need-mul-counts Inv-loop μ-loop
 mul-counts c = search needs
 
 slice-write-counts : tie.Need-slice-write-counts Inv-loop μ-loop
-slice-write-counts c = slice-read-m (c .before .before .before .before .before)
+slice-write-counts c = slice-read-m (c .before .before .before .before .before .before)
 
 add-j : tie.Need-add-j Inv-loop μ-loop
 add-j c = search needs
@@ -124,14 +126,14 @@ loop-less : tie.Need-loop-less Inv-loop μ-loop
 loop-less c = search needs
 
 loop-again : tie.Need-loop-again Inv-loop μ-loop
-unfolding shortMark partOf isBond
+unfolding partOf isBond
 loop-again c =
     let turn = c .before .before .before .before in
     let filling = turn .before .loop .inv in
     let leg = c .before .before .leg-in .ensures in
     elim (c .if1 .came) [
-      | inl w ↦ rw (w .8, w .9, w .10, w .11, w .12)
-          (parting-more filling leg (turn .loop-test .taken) refl refl refl (w .4 .ensures) (w .5 .ensures) (w .6 .ensures) (w .7 .ensures))
+      | inl w ↦ rw (w .9, w .10, w .11, w .12, w .13)
+          (parting-more filling leg (turn .loop-test .taken) refl refl refl (w .4 .ensures) (w .5 .ensures) (w .6 .ensures) (w .7 .ensures) (w .8 .ensures))
       | inr w ↦ rw (w .1, w .2, w .3, w .4, w .5) (parting-other filling leg (turn .loop-test .taken) (w .0 .left))
     ]
 
@@ -168,6 +170,7 @@ shorts-by-part-spec =
     mul-k
     add-k
     mark-of-requires
+    across-mark-requires
     mul-marks
     slice-write-marks
     strip-mark-requires

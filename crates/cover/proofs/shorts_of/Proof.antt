@@ -5,7 +5,6 @@ use Prim.Native.Nat.{_-_}
 use native.Mathlib.Omega.{arith}
 use borrow.Author.Needs.{needs}
 use Rattle.article.specs.Pair.{isBond}
-use Rattle.marks.specs.Marks.{shortMark}
 use Rattle.cover.proofs.Written.{rate-low}
 use Rattle.cover.proofs.Filled.{Filling, filling-none, filling-other, filling-more, filling-all}
 use Rattle.cover.proofs.shorts_of.Statement.{statement}
@@ -32,6 +31,9 @@ leg-in-requires _ _ = tt
 mark-of-requires : tie.Need-mark-of-requires Inv-loop μ-loop
 mark-of-requires _ _ = tt
 
+across-mark-requires : tie.Need-across-mark-requires Inv-loop μ-loop
+across-mark-requires _ _ = tt
+
 mul-marks : tie.Need-mul-marks Inv-loop μ-loop
 mul-marks c = search needs
 
@@ -49,9 +51,9 @@ element-write-strips c = element-write-marks (c .before)
 
 scan-rate-requires : tie.Need-scan-rate-requires Inv-loop μ-loop
 scan-rate-requires c κs =
-    let turn = c .before .before .before .before .before .before .before in
+    let turn = c .before .before .before .before .before .before .before .before in
     let start = turn .before .before .before .before in
-    rate-low _ (start .pre .0) (turn .loop-test .taken) (c .before .before .before .before .before .leg-in .ensures)
+    rate-low _ (start .pre .0) (turn .loop-test .taken) (c .before .before .before .before .before .before .leg-in .ensures)
 
 mul-rates : tie.Need-mul-rates Inv-loop μ-loop
 mul-rates c = mul-marks (c .before .before)
@@ -64,7 +66,7 @@ word-requires c κs = search needs
 
 cast-prices : tie.Need-cast-prices Inv-loop μ-loop
 cast-prices c =
-    let turn = c .before .before .before .before .before .before .before .before .before in
+    let turn = c .before .before .before .before .before .before .before .before .before .before in
     let start = turn .before .before .before .before in
     omega (arith, c .word .ensures, start .pre .0 .high _ (turn .loop-test .taken))
 
@@ -84,14 +86,15 @@ loop-less : tie.Need-loop-less Inv-loop μ-loop
 loop-less c = search needs
 
 loop-again : tie.Need-loop-again Inv-loop μ-loop
-unfolding shortMark isBond
+unfolding isBond
 loop-again c =
     let turn = c .before .before .before .before in
     let filling = turn .before .loop .inv in
     let leg = c .before .before .leg-in .ensures in
     let priced = turn .before .before .before .before .pre .0 in
     elim (c .if1 .came) [
-      | inl w ↦ rw (w .6, w .7, w .8, w .9, w .10) (filling-more filling leg (turn .loop-test .taken) priced (w .2 .ensures) (w .3 .ensures) (w .4 .ensures) (w .5 .ensures))
+      | inl w ↦ rw (w .7, w .8, w .9, w .10, w .11)
+          (filling-more filling leg (turn .loop-test .taken) priced (w .2 .ensures) (w .3 .ensures) (w .4 .ensures) (w .5 .ensures) (w .6 .ensures))
       | inr w ↦ rw (w .1, w .2, w .3, w .4, w .5) (filling-other filling leg (turn .loop-test .taken) (w .0 .left))
     ]
 
@@ -109,6 +112,7 @@ shorts-of-spec =
     shared-slice-read-leg-in
     leg-in-requires
     mark-of-requires
+    across-mark-requires
     mul-marks
     element-write-marks
     strip-mark-requires

@@ -23,7 +23,7 @@ returns-2 c =
 
 module _ (c : tie.Joined3) where
   abbrev start : tie.Start
-  start = c .before .before .before .before .before
+  start = c .before .before .before .before .before .before .before
 
   -- which of the two marks: by the kind, or without a pair by the side
   which : c .if3 .first ≡ cond (hasPartner (start .args .leg)) (start .args .bond) (isLong (start .args .leg))
@@ -35,38 +35,34 @@ module _ (c : tie.Joined3) where
 returns-3 : tie.Need-returns-3
 unfolding markOf keyOf
 returns-3 c =
-    let joined = c .before .before .before in
-    let called = joined .before .before in
-    rw (← called .before .is-domestic .ensures, called .if1 .left, ← which joined, c .if4 .taken) (search needs)
+    let called = c .before .before .before in
+    rw (← called .before .is-domestic .ensures, called .if1 .left, ← which (c .before), c .if4 .taken) (search needs)
 
 returns-4 : tie.Need-returns-4
 unfolding markOf keyOf
 returns-4 c =
-    let joined = c .before .before .before in
-    let called = joined .before .before in
-    rw (← called .before .is-domestic .ensures, called .if1 .left, ← which joined, c .if4 .left) (search needs)
+    let called = c .before .before .before in
+    rw (← called .before .is-domestic .ensures, called .if1 .left, ← which (c .before), c .if4 .left) (search needs)
 
 pub mark-of-spec : {M : Type 1} → statement M
 mark-of-spec =
     tie.close
     (tie.spec
+    (λ c. search needs)
+    (λ c. search needs)
+    (λ c. search needs)
+    (λ c. search needs)
+    (λ c. search needs)
     (λ c κs. search needs)
     (λ c. search needs)
-    (λ c. search needs)
     returns
-    (λ c. search needs)
     (λ c. search needs)
     (λ c. search needs)
     returns-2
     (λ c κs. search needs)
     (λ c. search needs)
     (λ c. search needs)
-    (λ c. search needs)
-    (λ c. search needs)
-    (λ c. search needs)
-    (λ c. search needs)
     returns-3
-    (λ c. search needs)
     (λ c. search needs)
     (λ c. search needs)
     returns-4)
