@@ -43,23 +43,20 @@ one-pair : {P : Type 0} (a b c d : Bool) → ((a && b) || (c && d)) ≡ true →
 one-pair a b c d e p q =
     ⊎-elim (λ f. let (t, u) = and-eq-true-iff a b .0 f in p t u) (λ f. let (t, u) = and-eq-true-iff c d .0 f in q t u) (one-of (a && b) (c && d) e)
 
--- the mark of a domestic leg of this class
-abbrev Domestic : Leg → ℕ → ℕ → Type 0
-Domestic l class mark = mark ≡ 4 * (l .period % 8) + 64 * (l .issuer % 512) + class
-
 -- the mark of a leg in CAD, of Canada or of a province, whichever kind is asked
 module _ (bond : Bool) (l : Leg) (cad : inCad l ≡ true) where
-  canada-mark : isCanada l ≡ true → Domestic l 0 (markOf bond l)
-  unfolding markOf keyOf isDomestic inCad
-  canada-mark e = rw (cad, e) (omega (arith, eqb-true (l .currency) 0 cad))
+  canada-mark : isCanada l ≡ true → markOf bond l ≡ keyOf l + 0
+  unfolding markOf isDomestic
+  canada-mark e = rw (cad, e)
 
-  province-mark : isProvince l ≡ true → Domestic l 1 (markOf bond l)
-  unfolding markOf keyOf isDomestic inCad isCanada isProvince
-  province-mark e = rw (cad, e, positive 10 (l .issuer) e) (omega (arith, eqb-true (l .currency) 0 cad))
+  province-mark : isProvince l ≡ true → markOf bond l ≡ keyOf l + 1
+  unfolding markOf isDomestic isCanada isProvince
+  province-mark e = rw (cad, e, positive 10 (l .issuer) e)
 
--- the mark of any issuer of its class
-domestic-open : (l : Leg) (class : ℕ) {mark : ℕ} → class ≤ 1 → Domestic l class mark → openMark mark ≡ 4 * (l .period % 8) + class
-domestic-open l class h e = omega (arith, e)
+-- of any issuer it is the period and the class
+class-open : (l : Leg) (class : ℕ) {mark : ℕ} → class ≤ 1 → mark ≡ keyOf l + class → openMark mark ≡ 4 * (l .period % 8) + class
+unfolding keyOf
+class-open l class h e = omega (arith, e)
 
 -- the marks of the two classes of a period
 classes : (a c d : ℕ) {x other : ℕ} → c + d ≡ 1 → openMark x ≡ 4 * a + c → other ≡ 4 * a + d → OtherClass x other
@@ -154,21 +151,27 @@ module _ (l s : Leg) (p : l .period ≡ s .period) where
   own-suits : ownMark s ≡ soughtMark l → Suits (soughtMark l) (shortMark (isBond l) s)
   own-suits e = ⊎-elim (λ f. inl (f ∙ e)) (λ f. inr (f ∙ ap openMark e)) (own-or-open (isBond l) s)
 
-  -- marks of one class and one issuer, and of two classes
-  alike : {x y : ℕ} (c : ℕ) → Domestic l c x → Domestic s c y → l .issuer ≡ s .issuer → y ≡ x
-  alike c e f i = f ∙ rw (← p, ← i) (sym e)
+  -- legs in CAD of one issuer have one key
+  one-key : bothCad l s ≡ true → l .issuer ≡ s .issuer → keyOf s ≡ keyOf l
+  unfolding bothCad inCad keyOf
+  one-key c i =
+      let (f, g) = and-eq-true-iff (inCad l) (inCad s) .0 c in
+      rw (eqb-true (l .currency) 0 f, eqb-true (s .currency) 0 g, p, i)
 
-  crossed : {x y : ℕ} (c d : ℕ) → Domestic l c x → Domestic s d y → c + d ≡ 1 → OtherClass x (openMark y)
-  crossed c d e f h = classes (s .period % 8) c d h (rw (← p) (domestic-open l c (omega (arith, h)) e)) (domestic-open s d (omega (arith, h)) f)
+  -- marks of one key and class, and of two classes
+  alike : {x y : ℕ} (c : ℕ) → x ≡ keyOf l + c → y ≡ keyOf s + c → keyOf s ≡ keyOf l → y ≡ x
+  alike c e f k = f ∙ rw k (sym e)
+
+  crossed : {x y : ℕ} (c d : ℕ) → x ≡ keyOf l + c → y ≡ keyOf s + d → c + d ≡ 1 → OtherClass x (openMark y)
+  crossed c d e f h = classes (s .period % 8) c d h (rw (← p) (class-open l c (omega (arith, h)) e)) (class-open s d (omega (arith, h)) f)
 
   -- strips of two provinces: the short's mark is that of any
   strips-mark : inCad l ≡ true → inCad s ≡ true → isProvince l ≡ true → isProvince s ≡ true → isBond l ≡ false → isBond s ≡ false
       → shortMark (isBond l) s ≡ openMark (soughtMark l)
   unfolding shortMark acrossMark soughtMark isBond
   strips-mark c d a b k n =
-      let own = province-mark false s d b in
-      rw (k, n, eq-eqb (markOf false s % 4) 1 (omega (arith, own)))
-      (domestic-open s 1 (omega arith) own ∙ rw (← p) (sym (domestic-open l 1 (omega arith) (province-mark true l c a))))
+      let any = class-open s 1 (omega arith) (province-mark false s d b) in
+      rw (k, n, eq-eqb (markOf false s % 4) 1 (omega (arith, any))) (any ∙ rw (← p) (sym (class-open l 1 (omega arith) (province-mark true l c a))))
 
   -- in CAD, of one class
   one-mark : bothCad l s ≡ true → sameClass l s ≡ true → provincesPair l s ≡ true → Suits (soughtMark l) (shortMark (isBond l) s)
@@ -176,10 +179,10 @@ module _ (l s : Leg) (p : l .period ≡ s .period) where
   one-mark c e o =
       let (f, g) = and-eq-true-iff (inCad l) (inCad s) .0 c in
       one-pair (isCanada l) (isCanada s) (isProvince l) (isProvince s) e
-      (λ a b. own-suits (alike 0 (canada-mark _ l f a) (canada-mark _ s g b) (eqb-true (l .issuer) 0 a ∙ sym (eqb-true (s .issuer) 0 b))))
+      (λ a b. own-suits (alike 0 (canada-mark _ l f a) (canada-mark _ s g b) (one-key c (eqb-true (l .issuer) 0 a ∙ sym (eqb-true (s .issuer) 0 b)))))
       (λ a b. ⊎-elim
       (λ n. let (k, m) = neither _ _ (not-true _ n) in inr (strips-mark f g a b k m))
-      (λ i. own-suits (alike 1 (province-mark _ l f a) (province-mark _ s g b) (eqb-true _ _ i)))
+      (λ i. own-suits (alike 1 (province-mark _ l f a) (province-mark _ s g b) (one-key c (eqb-true _ _ i))))
       (one-of _ _ o))
 
   -- in CAD, of two classes
@@ -223,14 +226,13 @@ module _ (l s : Leg) (p : l .period ≡ s .period) where
   -- in CAD, of one corporation, the bond rated
   corporate-mark : bothCad l s ≡ true → areParticipants l s ≡ true → oneBond l s ≡ true → isCorporate l ≡ true → isCorporate s ≡ true → l .issuer ≡ s .issuer
       → eqb (bondRating l s) 0 ≡ true → ownMark s ≡ soughtMark l
-  unfolding soughtMark bothCad inCad keyOf
+  unfolding soughtMark bothCad
   corporate-mark c a k n m i rated =
       let (x, y) = participants l s a in
       let (f, g) = and-eq-true-iff (inCad l) (inCad s) .0 c in
-      let same : l .currency ≡ s .currency = eqb-true (l .currency) 0 f ∙ sym (eqb-true (s .currency) 0 g) in
       let (first, second) = offered l s n m k rated in
       outside-mark (isBond s) s (no-domestic s m) (partner s y g second)
-      ∙ (λ t. 4 * (sym p t % 8) + 64 * (sym i t % 512) + 1024 * (sym same t % 4) + cond (sought k t) 2 34)
+      ∙ (λ t. one-key c i t + cond (sought k t) 2 34)
       ∙ sym (outside-mark (not (isBond l)) l (no-domestic l n) (partner l x f first))
 
   -- what a rule saves of two rates, by the marks and the rates that the legs are scanned by
