@@ -14,7 +14,7 @@ use Rattle.rates.specs.Rate.{flatRate, percents}
 use Rattle.rates.proofs.FlatRates.{flat-high}
 use Rattle.article.proofs.Saved.{of-one-class, of-two-classes, of-one-government, one-bond-of, corporate-legs}
 use Rattle.article.specs.Pair.{isParticipant, areParticipants, isBond, isStrip, isCanada, isProvince, isUs, isGb, inCad, inUsd, inGbp}
-use Rattle.article.specs.Pair.{sameClass, mixedClass, provincesPair, oneBond, sameGovernment, bothCad, sameForeign, isCorporate, bondRating, sameCorporation, RateInRange}
+use Rattle.article.specs.Pair.{sameClass, mixedClass, provincesPair, oneBond, sameGovernment, bothCad, sameForeign, isCorporate, bondRating, RateInRange}
 use Rattle.article.specs.Pair.{permits, allowed, ruleRate, pairRateOf, savingRateOf}
 use Rattle.article.proofs.Legs.{allowed-meets, bonds-no-rule, no-rule, Permitted, one-class, two-classes, one-corporation, one-government, permitted}
 use Rattle.article.specs.declared.pair.Rule.{Rule}
@@ -43,19 +43,24 @@ one-pair : {P : Type 0} (a b c d : Bool) → ((a && b) || (c && d)) ≡ true →
 one-pair a b c d e p q =
     ⊎-elim (λ f. let (t, u) = and-eq-true-iff a b .0 f in p t u) (λ f. let (t, u) = and-eq-true-iff c d .0 f in q t u) (one-of (a && b) (c && d) e)
 
--- a leg's mark by its class, where it is domestic
-abbrev Domestic : Leg → ℕ → ℕ → Type 0
-Domestic l class mark = mark ≡ 4 * (l .period % 8) + 64 * (l .issuer % 512) + class
-
 -- the mark of a leg in CAD, of Canada or of a province, whichever kind is asked
 module _ (bond : Bool) (l : Leg) (cad : inCad l ≡ true) where
-  canada-mark : isCanada l ≡ true → Domestic l 0 (markOf bond l)
-  unfolding markOf keyOf isDomestic inCad
-  canada-mark e = rw (cad, e) (omega (arith, eqb-true (l .currency) 0 cad))
+  canada-mark : isCanada l ≡ true → markOf bond l ≡ keyOf l + 0
+  unfolding markOf isDomestic
+  canada-mark e = rw (cad, e)
 
-  province-mark : isProvince l ≡ true → Domestic l 1 (markOf bond l)
-  unfolding markOf keyOf isDomestic inCad isCanada isProvince
-  province-mark e = rw (cad, e, positive 10 (l .issuer) e) (omega (arith, eqb-true (l .currency) 0 cad))
+  province-mark : isProvince l ≡ true → markOf bond l ≡ keyOf l + 1
+  unfolding markOf isDomestic isCanada isProvince
+  province-mark e = rw (cad, e, positive 10 (l .issuer) e)
+
+-- of any issuer it is the period and the class
+class-open : (l : Leg) (class : ℕ) {mark : ℕ} → class ≤ 1 → mark ≡ keyOf l + class → openMark mark ≡ 4 * (l .period % 8) + class
+unfolding keyOf
+class-open l class h e = omega (arith, e)
+
+-- the marks of the two classes of a period
+classes : (a c d : ℕ) {x other : ℕ} → c + d ≡ 1 → openMark x ≡ 4 * a + c → other ≡ 4 * a + d → OtherClass x other
+classes a c d h e f = record { period = rw (e, f) (omega arith); class = rw f (omega (arith, e)) }
 
 -- the mark of a leg that is not domestic and may have a pair
 outside-mark : (bond : Bool) (l : Leg) → isDomestic l ≡ false → hasPartner l ≡ true → markOf bond l ≡ keyOf l + cond bond 2 34
@@ -72,9 +77,13 @@ own-or-open bond s =
     let Is : ℕ → Type 0 = λ x. (x ≡ ownMark s) ⊎ (x ≡ openMark (ownMark s)) in
     by-test Is bond (λ _. inl refl) (λ _. by-test Is (not (eqb (s .kind) 0) && eqb (ownMark s % 4) 1) (λ _. inr refl) (λ _. inl refl))
 
--- a short that a long finds: its mark is the one that the long seeks, or that of any issuer
-abbrev pub Found : ℕ → ℕ → Type 0
-Found long short = (short ≡ long) ⊎ (short ≡ openMark long)
+-- a short's mark suits a long: it is the one that the long seeks, or that of any issuer
+abbrev Suits : ℕ → ℕ → Type 0
+Suits long short = (short ≡ long) ⊎ (short ≡ openMark long)
+
+-- it is not of the other class
+not-other : {long short : ℕ} → Suits long short → OtherClass long (openMark short) → ⊥
+not-other e o = ⊎-elim (λ f. omega (arith, o .class, f)) (λ f. omega (arith, o .class, f)) e
 
 -- a corporation's leg is not domestic; a participant's in CAD may have a pair if paragraph 3 can have it
 no-domestic : (l : Leg) → isCorporate l ≡ true → isDomestic l ≡ false
@@ -136,46 +145,44 @@ capped-saving {b} {s} period e (inr (five, f)) =
     let flat : b ≡ 14600 = e ∙ ap (flatRate 2) five ∙ (unfold flatRate percents in refl) in
     (omega (arith, flat, f), omega (arith, flat, f))
 
--- a domestic leg's mark for any issuer
-domestic-open : (l : Leg) (class : ℕ) {mark : ℕ} → class ≤ 1 → Domestic l class mark → openMark mark ≡ 4 * (l .period % 8) + class
-domestic-open l class h e = omega (arith, e)
-
--- the two classes of a period
-classes : (a c d : ℕ) {x other : ℕ} → c + d ≡ 1 → openMark x ≡ 4 * a + c → other ≡ 4 * a + d → OtherClass x other
-classes a c d h e f = record { period = rw (e, f) (omega arith); class = rw f (omega (arith, e)) }
-
 -- the marks of two legs of one period
 module _ (l s : Leg) (p : l .period ≡ s .period) where
-  -- a short whose own mark is sought is found
-  found : ownMark s ≡ soughtMark l → Found (soughtMark l) (shortMark (isBond l) s)
-  found e = ⊎-elim (λ f. inl (f ∙ e)) (λ f. inr (f ∙ ap openMark e)) (own-or-open (isBond l) s)
+  -- the mark of a short suits where its own is sought
+  own-suits : ownMark s ≡ soughtMark l → Suits (soughtMark l) (shortMark (isBond l) s)
+  own-suits e = ⊎-elim (λ f. inl (f ∙ e)) (λ f. inr (f ∙ ap openMark e)) (own-or-open (isBond l) s)
 
-  -- marks of one class and one issuer, and of two classes
-  alike : {x y : ℕ} (c : ℕ) → Domestic l c x → Domestic s c y → l .issuer ≡ s .issuer → y ≡ x
-  alike c e f i = f ∙ rw (← p, ← i) (sym e)
+  -- legs in CAD of one issuer have one key
+  one-key : bothCad l s ≡ true → l .issuer ≡ s .issuer → keyOf s ≡ keyOf l
+  unfolding bothCad inCad keyOf
+  one-key c i =
+      let (f, g) = and-eq-true-iff (inCad l) (inCad s) .0 c in
+      rw (eqb-true (l .currency) 0 f, eqb-true (s .currency) 0 g, p, i)
 
-  crossed : {x y : ℕ} (c d : ℕ) → Domestic l c x → Domestic s d y → c + d ≡ 1 → OtherClass x (openMark y)
-  crossed c d e f h = classes (s .period % 8) c d h (rw (← p) (domestic-open l c (omega (arith, h)) e)) (domestic-open s d (omega (arith, h)) f)
+  -- marks of one key and class, and of two classes
+  alike : {x y : ℕ} (c : ℕ) → x ≡ keyOf l + c → y ≡ keyOf s + c → keyOf s ≡ keyOf l → y ≡ x
+  alike c e f k = f ∙ rw k (sym e)
+
+  crossed : {x y : ℕ} (c d : ℕ) → x ≡ keyOf l + c → y ≡ keyOf s + d → c + d ≡ 1 → OtherClass x (openMark y)
+  crossed c d e f h = classes (s .period % 8) c d h (rw (← p) (class-open l c (omega (arith, h)) e)) (class-open s d (omega (arith, h)) f)
 
   -- strips of two provinces: the short's mark is that of any
   strips-mark : inCad l ≡ true → inCad s ≡ true → isProvince l ≡ true → isProvince s ≡ true → isBond l ≡ false → isBond s ≡ false
       → shortMark (isBond l) s ≡ openMark (soughtMark l)
   unfolding shortMark acrossMark soughtMark isBond
   strips-mark c d a b k n =
-      let own = province-mark false s d b in
-      rw (k, n, eq-eqb (markOf false s % 4) 1 (omega (arith, own)))
-      (domestic-open s 1 (omega arith) own ∙ rw (← p) (sym (domestic-open l 1 (omega arith) (province-mark true l c a))))
+      let any = class-open s 1 (omega arith) (province-mark false s d b) in
+      rw (k, n, eq-eqb (markOf false s % 4) 1 (omega (arith, any))) (any ∙ rw (← p) (sym (class-open l 1 (omega arith) (province-mark true l c a))))
 
   -- in CAD, of one class
-  one-mark : bothCad l s ≡ true → sameClass l s ≡ true → provincesPair l s ≡ true → Found (soughtMark l) (shortMark (isBond l) s)
+  one-mark : bothCad l s ≡ true → sameClass l s ≡ true → provincesPair l s ≡ true → Suits (soughtMark l) (shortMark (isBond l) s)
   unfolding bothCad sameClass provincesPair soughtMark isCanada
   one-mark c e o =
       let (f, g) = and-eq-true-iff (inCad l) (inCad s) .0 c in
       one-pair (isCanada l) (isCanada s) (isProvince l) (isProvince s) e
-      (λ a b. found (alike 0 (canada-mark _ l f a) (canada-mark _ s g b) (eqb-true (l .issuer) 0 a ∙ sym (eqb-true (s .issuer) 0 b))))
+      (λ a b. own-suits (alike 0 (canada-mark _ l f a) (canada-mark _ s g b) (one-key c (eqb-true (l .issuer) 0 a ∙ sym (eqb-true (s .issuer) 0 b)))))
       (λ a b. ⊎-elim
       (λ n. let (k, m) = neither _ _ (not-true _ n) in inr (strips-mark f g a b k m))
-      (λ i. found (alike 1 (province-mark _ l f a) (province-mark _ s g b) (eqb-true _ _ i)))
+      (λ i. own-suits (alike 1 (province-mark _ l f a) (province-mark _ s g b) (one-key c (eqb-true _ _ i))))
       (one-of _ _ o))
 
   -- in CAD, of two classes
@@ -219,19 +226,18 @@ module _ (l s : Leg) (p : l .period ≡ s .period) where
   -- in CAD, of one corporation, the bond rated
   corporate-mark : bothCad l s ≡ true → areParticipants l s ≡ true → oneBond l s ≡ true → isCorporate l ≡ true → isCorporate s ≡ true → l .issuer ≡ s .issuer
       → eqb (bondRating l s) 0 ≡ true → ownMark s ≡ soughtMark l
-  unfolding soughtMark bothCad inCad keyOf
+  unfolding soughtMark bothCad
   corporate-mark c a k n m i rated =
       let (x, y) = participants l s a in
       let (f, g) = and-eq-true-iff (inCad l) (inCad s) .0 c in
-      let same : l .currency ≡ s .currency = eqb-true (l .currency) 0 f ∙ sym (eqb-true (s .currency) 0 g) in
       let (first, second) = offered l s n m k rated in
       outside-mark (isBond s) s (no-domestic s m) (partner s y g second)
-      ∙ (λ t. 4 * (sym p t % 8) + 64 * (sym i t % 512) + 1024 * (sym same t % 4) + cond (sought k t) 2 34)
+      ∙ (λ t. one-key c i t + cond (sought k t) 2 34)
       ∙ sym (outside-mark (not (isBond l)) l (no-domestic l n) (partner l x f first))
 
   -- what a rule saves of two rates, by the marks and the rates that the legs are scanned by
   module _ (f : RateInRange l) (g : RateInRange s) where
-    by-marks : {x : ℕ} {r : Rule} → (Found (soughtMark l) (shortMark (isBond l) s) → 2 * min (scanRate l) (scanRate s) ≤ x)
+    by-marks : {x : ℕ} {r : Rule} → (Suits (soughtMark l) (shortMark (isBond l) s) → 2 * min (scanRate l) (scanRate s) ≤ x)
         → (OtherClass (soughtMark l) (openMark (shortMark (isBond l) s)) → (scanRate l + scanRate s + 1) / 2 ≤ x) → Permitted l s r
         → l .rate + s .rate - ruleRate r (l .rate) (s .rate) ≤ x
     unfolding ruleRate
@@ -243,10 +249,10 @@ module _ (l s : Leg) (p : l .period ≡ s .period) where
         omega (arith, h (two-marks c e), own-rate l a, own-rate s b)
     by-marks d h (one-government c x k e) =
         let (a, b) = of-one-government l s e in
-        omega (arith, d (found (foreign-mark c x k e)), own-rate l a, own-rate s b)
+        omega (arith, d (own-suits (foreign-mark c x k e)), own-rate l a, own-rate s b)
     by-marks d h (one-corporation c x k e rated) =
         let (n, (m, issuer)) = corporate-legs l s e in
-        let enough = d (found (corporate-mark c x k n m issuer rated)) in
+        let enough = d (own-suits (corporate-mark c x k n m issuer rated)) in
         ⊎-elim
         (λ w.
         le-trans (capped-saving (l .period) (f .bond n (w .0)) (rw (← p) at (g .strip m (w .1))) .0)
@@ -257,8 +263,8 @@ module _ (l s : Leg) (p : l .period ≡ s .period) where
         (one-bond-of l s k)
 
 module _ {long a short b : ℕ} where
-  -- what is asked is enough where it is for a short that the long finds, and for one of the other class
-  asks : {x : ℕ} → (Found long short → 2 * min a b ≤ x) → (OtherClass long (openMark short) → (a + b + 1) / 2 ≤ x) → Asks long a short b x
+  -- what is asked is enough where it is for a mark that suits, and for one of the other class
+  asks : {x : ℕ} → (Suits long short → 2 * min a b ≤ x) → (OtherClass long (openMark short) → (a + b + 1) / 2 ≤ x) → Asks long a short b x
   unfolding savingOf savingRateOf pairRateOf
   asks {x} d h = record {
     enough = λ l s ml ms. by-test (λ (y : ℕ). y ≤ x) (allowed l s)
@@ -268,14 +274,14 @@ module _ {long a short b : ℕ} where
         (λ _. omega arith);
   }
 
-  -- of any other nothing is asked
-  pub none-found : {cross : ℕ} → OtherClass long cross → (openMark short ≡ cross → ⊥) → (Found long short → ⊥) → Asks long a short b 0
-  none-found {cross} o f g = asks (λ e. absurd (g e)) (λ q. absurd (f (omega (arith, o .period, o .class, q .period, q .class))))
+  -- by any other mark nothing is asked
+  pub neither-mark : {cross : ℕ} → OtherClass long cross → (openMark short ≡ cross → ⊥) → (Suits long short → ⊥) → Asks long a short b 0
+  neither-mark {cross} o f g = asks (λ e. absurd (g e)) (λ q. absurd (f (omega (arith, o .period, o .class, q .period, q .class))))
 
-  -- of one that the long finds, twice the lesser rate
-  pub one-found : Found long short → Asks long a short b (2 * min a b)
-  one-found e = asks (λ _. omega arith) (λ o. absurd (⊎-elim (λ f. omega (arith, o .class, f)) (λ f. omega (arith, o .class, f)) e))
+  -- by one that suits, twice the lesser rate
+  pub suited-mark : Suits long short → Asks long a short b (2 * min a b)
+  suited-mark e = asks (λ _. omega arith) (λ o. absurd (not-other e o))
 
-  -- of one of the other class, half the sum
-  pub other-found : OtherClass long (openMark short) → Asks long a short b ((a + b + 1) / 2)
-  other-found o = asks (⊎-elim (λ f. absurd (omega (arith, o .class, f))) (λ f. absurd (omega (arith, o .class, f)))) (λ _. omega arith)
+  -- by one of the other class, half the sum
+  pub other-mark : OtherClass long (openMark short) → Asks long a short b ((a + b + 1) / 2)
+  other-mark o = asks (λ e. absurd (not-other e o)) (λ _. omega arith)

@@ -1,7 +1,5 @@
 -- `across_mark` is `acrossMark`. Assumes nothing.
 use mathlib.Core.Logic.{⊎-elim}
-use mathlib.Core.Bool.{not, and-false}
-use lib.Dec.{eqb}
 use borrow.Author.Tests.{eq-eqb, ne-eqb}
 use Rattle.marks.specs.Marks.{acrossMark}
 use Rattle.marks.proofs.across_mark.Statement.{statement}
