@@ -1,8 +1,8 @@
 //! The desk's side of the margin check on paired strip bond holdings (article 7204, Groups I, II, V and XI).
-//! In Canadian dollars it pairs debt of Canada and its provinces. For an approved participant, but not for a
-//! client, it also pairs a bond with a strip: in Canadian dollars of the same corporation, the bond rated single A
-//! or higher, and in US dollars or sterling of the same government, Canada, the United States or the United
-//! Kingdom.
+//! In Canadian dollars it pairs debt of Canada and its provinces, a provincial bond with a provincial strip only if
+//! the province is the same. For an approved participant, but not for a client, it also pairs a bond with a strip: in
+//! Canadian dollars of the same corporation, the bond rated single A or higher, and in US dollars or sterling of the
+//! same government, Canada, the United States or the United Kingdom.
 //!
 //! A desk makes a [`Book`] of [`Holding`]s on its valuation date, in a participant's or a client's account, and a
 //! [`Proposal`] on it, or reads both from a file with [`read()`]; [`check()`] gives the least margin, or the

@@ -47,7 +47,7 @@ const OF_BOTH: [Pair; 6] = [
     ((COUPON, ON, 2030_06_24, CAD, NOT_RATED), (RESIDUAL, QC, 2030_06_24, CAD, NOT_RATED), 17_520, 0),
     ((COUPON, CA, 2030_06_24, CAD, NOT_RATED), (RESIDUAL, ON, 2030_06_24, CAD, NOT_RATED), 6_570, 6_570),
     ((BOND, CA, 2030_06_24, CAD, NOT_RATED), (COUPON, CA, 2030_06_24, CAD, NOT_RATED), 5_840, 1_460),
-    ((BOND, ON, 2030_06_24, CAD, NOT_RATED), (COUPON, QC, 2030_06_24, CAD, NOT_RATED), 11_680, 2_920),
+    ((BOND, QC, 2030_06_24, CAD, NOT_RATED), (COUPON, QC, 2030_06_24, CAD, NOT_RATED), 11_680, 2_920),
     ((BOND, CA, 2030_06_24, CAD, NOT_RATED), (RESIDUAL, ON, 2030_06_24, CAD, NOT_RATED), 5_840, 5_840),
     ((RESIDUAL, 1, 2125_01_01, CAD, NOT_RATED), (COUPON, 10, 2045_01_01, CAD, NOT_RATED), 43_800, 0),
 ];
@@ -115,9 +115,10 @@ fn a_client_has_a_participants_pairs_of_paragraph_2() {
             }
         }
     }
-    // Of Canada and ON in CAD, of each two maturities, every two but two bonds; and a bond with a strip, either way
-    // round, of three governments in two currencies and of two corporations, whose strip may have either rating.
-    let domestic = 2 * 2 * 2 * 2 * (3 * 3 - 1);
+    // Of Canada, ON and QC in CAD, of each two maturities, every two but two bonds, and of ON with QC strips alone; and
+    // a bond with a strip, either way round, of three governments in two currencies and of two corporations, whose
+    // strip may have either rating.
+    let domestic = 2 * 2 * (7 * (3 * 3 - 1) + 2 * (2 * 2));
     let foreign = 2 * 2 * (3 * 2) * 2 * 2;
     let corporate = 2 * 2 * 2 * 2 * 2 * 2;
     assert_eq!(taken[1], 2 * domestic);

@@ -2,9 +2,12 @@
 
 mod support;
 
-use margin_calculator::samples::{Random, SHAPES, Shape, best_sheet, book};
-use margin_calculator::{FIRST_CORPORATION, Sheet, pair_rate};
+use margin_calculator::samples::{
+    DOMESTIC, PERIODS, PROVINCES, Random, SHAPES, Shape, best_sheet, book, holdings,
+};
+use margin_calculator::{FIRST_CORPORATION, Sheet, VALUED, pair_rate};
 use support::Run;
+use support::sheets::{HEADS, Leg, paper_pair, paper_rate};
 
 /// Two holdings that may be paired, and their rate.
 struct Pair {
@@ -13,12 +16,13 @@ struct Pair {
     rate: u64,
 }
 
-fn pairs(book: &Sheet) -> Vec<Pair> {
+/// The pairs of a book, by the rate that a long and a short have as one.
+fn pairs(book: &Sheet, rate_of: impl Fn(usize, usize) -> Option<u64>) -> Vec<Pair> {
     let of_side = |side| (0..book.side.len()).filter(move |number| book.side[*number] == side);
     let mut pairs = Vec::new();
     for long in of_side(0) {
         for short in of_side(1) {
-            if let Some(rate) = pair_rate(&book.position(long), &book.position(short)) {
+            if let Some(rate) = rate_of(long, short) {
                 pairs.push(Pair { long, short, rate });
             }
         }
@@ -75,7 +79,11 @@ fn paragraphs(sheet: &Sheet) -> [bool; 3] {
 fn least_is_found(run: &mut Run, shape: &Shape, size: usize, values: u64) -> Sheet {
     let book = small_book(&mut run.random, shape, size, values);
     let rates: Vec<u64> = (0..size).map(|number| book.position(number).rate).collect();
-    let found = least(&rates, &mut book.value.clone(), &pairs(&book));
+    let position = |number| book.position(number);
+    let pairs = pairs(&book, |long, short| {
+        pair_rate(&position(long), &position(short))
+    });
+    let found = least(&rates, &mut book.value.clone(), &pairs);
     let best = best_sheet(&book);
     let units = run.units(&best, format_args!("{}", shape.name));
     assert_eq!(units, found, "{}\n{book:?}", shape.name);
@@ -127,5 +135,63 @@ fn no_pairing_by_any_paragraph_needs_less() {
     assert!(
         several >= 300,
         "{several} books are paired by more than one paragraph"
+    );
+}
+
+/// The least sum over all pairings of a book that is valued on document 01's date, by the rates and pairs that are
+/// typed from the papers.
+fn least_by_the_papers(book: &Sheet) -> u64 {
+    let legs: Vec<Leg> = (0..book.side.len())
+        .map(|number| book.row(number))
+        .map(|row| (row.kind, row.issuer, row.maturity, row.currency))
+        .collect();
+    let rates: Vec<u64> = legs
+        .iter()
+        .map(|(kind, issuer, maturity, _)| paper_rate(*kind, *issuer, *maturity))
+        .collect();
+    let pairs = pairs(book, |long, short| {
+        paper_pair(legs[long], legs[short]).map(|(rate, _)| rate)
+    });
+    least(&rates, &mut book.value.clone(), &pairs)
+}
+
+#[test]
+fn no_pairing_within_and_across_provinces_needs_less() {
+    let mut run = Run::new("provinces", 0x0203);
+    let two = Shape {
+        name: "two provinces",
+        issuers: &[7, 9],
+        terms: &[PERIODS[2]],
+        ..PROVINCES
+    };
+    let with_canada = Shape {
+        name: "two provinces and Canada",
+        issuers: &[0, 1, 10],
+        terms: &[PERIODS[0]],
+        ..PROVINCES
+    };
+    let mut dearer = 0;
+    for shape in [PROVINCES, DOMESTIC, two, with_canada] {
+        for (size, values) in [(2, 4), (3, 4), (4, 4), (5, 3), (6, 2), (8, 2), (10, 1)] {
+            for round in 0..200 {
+                let mut rows = holdings(&mut run.random, &shape, VALUED, size);
+                for row in &mut rows {
+                    row.value = 1 + run.random.below(values);
+                }
+                let book = Sheet::of_rows(HEADS[round % 2], &rows, 0);
+                let units = run.units(&best_sheet(&book), format_args!("{}", shape.name));
+                assert_eq!(units, least_by_the_papers(&book), "{book:?}");
+                // As one province, which has more pairs.
+                let mut one = book.clone();
+                for issuer in one.issuer.iter_mut().filter(|issuer| **issuer != 0) {
+                    *issuer = 1;
+                }
+                dearer += usize::from(least_by_the_papers(&one) < units);
+            }
+        }
+    }
+    assert!(
+        dearer >= 500,
+        "{dearer} books need more than as one province"
     );
 }

@@ -65,7 +65,11 @@ fn titles_and_lengths_fit_the_framing() {
         assert!(case.text.len() <= 65_537, "{}", case.title);
         assert!(titles.insert(&case.title), "{} twice", case.title);
     }
-    assert!((150..=900).contains(&cases.len()), "{} cases", cases.len());
+    assert!(
+        (150..=1_200).contains(&cases.len()),
+        "{} cases",
+        cases.len()
+    );
     assert!(stdin(&cases).len() < 1_500_000);
 }
 

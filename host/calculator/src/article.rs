@@ -79,8 +79,7 @@ const fn markets() -> [[Market; 13]; 3] {
     table
 }
 
-/// The article's group of the issuer. Any two provinces count as one class, but not every bond and strip of
-/// theirs may be paired.
+/// The article's group of the issuer. Any two provinces count as one class.
 #[derive(Clone, Copy, Debug, PartialEq, Eq)]
 pub enum Class {
     /// Group I: Canada, the United States or the United Kingdom.
@@ -250,11 +249,11 @@ pub(crate) fn may_pair(one: &Position, other: &Position) -> bool {
     kinds && one.market == other.market && one.period == other.period
 }
 
-/// A bond and a strip of provinces are paired only if the province is the same; two strips of any provinces are.
+/// A provincial bond is paired with a provincial strip only if the province is the same; strips of any two are.
 fn provinces_pair(one: &Position, other: &Position) -> bool {
-    let provincial = [one, other].map(|position| position.class == Class::Province);
-    let bond_and_strip = one.bond != other.bond;
-    provincial != [true; 2] || !bond_and_strip || one.issuer == other.issuer
+    let of_provinces = one.class == Class::Province && other.class == Class::Province;
+    let strips = !one.bond && !other.bond;
+    !of_provinces || strips || one.issuer == other.issuer
 }
 
 /// The rate of a pair that is allowed, in units per cent; nothing where it is not.
@@ -291,7 +290,7 @@ pub(crate) fn corporate_pair_rate(one: u64, other: u64) -> u64 {
 mod tests {
     use margin_host::{Head, Refusal};
 
-    use super::{Account, Market, Position, pair_rate, saving_rate};
+    use super::{Account, Market, PROVINCES, Position, pair_rate, saving_rate};
     use crate::{NOT_RATED, Row, VALUED, client, participant};
 
     /// A position under a head, by the numbers of its kind, issuer, maturity, currency and rating.
@@ -409,6 +408,60 @@ mod tests {
         );
         let longest = position(2, 1, 2125_01_01);
         assert_eq!(saving_rate(&longest, &longest), Some(43_800));
+    }
+
+    #[test]
+    fn a_provincial_bond_pairs_within_its_province() {
+        let [bond, strip] = [0, 1].map(|kind| position(kind, 7, 2030_06_24));
+        let [other_bond, other_strip] = [0, 2].map(|kind| position(kind, 9, 2030_06_24));
+        let [canada_bond, canada_strip] = [0, 1].map(|kind| position(kind, 0, 2030_06_24));
+        for (one, other, rate) in [
+            (bond, strip, Some(2_920)),
+            (bond, other_strip, None),
+            (strip, other_bond, None),
+            (bond, other_bond, None),
+            (strip, other_strip, Some(0)),
+            (bond, canada_strip, Some(5_110)),
+            (strip, canada_bond, Some(5_840)),
+            (strip, canada_strip, Some(6_570)),
+            (bond, canada_bond, None),
+        ] {
+            assert_eq!(pair_rate(&one, &other), rate, "{one:?} {other:?}");
+            assert_eq!(pair_rate(&other, &one), rate, "{other:?} {one:?}");
+            let saving = rate.map(|rate| one.rate + other.rate - rate);
+            assert_eq!(saving_rate(&one, &other), saving, "{one:?} {other:?}");
+        }
+    }
+
+    #[test]
+    fn every_two_provinces_and_kinds() {
+        // Of provinces a bond has 5,840 and a strip 8,760; of Canada 2,920 and 4,380.
+        for head in [participant(VALUED), client(VALUED)] {
+            let of = |kind, issuer| valued(head, [kind, issuer, 2030_06_24, 0, NOT_RATED]);
+            for (long_kind, short_kind) in (0..9).map(|number| (number / 3, number % 3)) {
+                for long in PROVINCES {
+                    for short in PROVINCES {
+                        let wanted = match (long_kind, short_kind) {
+                            (0, 0) => None,
+                            (0, _) | (_, 0) if long != short => None,
+                            (0, _) | (_, 0) => Some(2_920),
+                            _ => Some(0),
+                        };
+                        let rate = pair_rate(&of(long_kind, long), &of(short_kind, short));
+                        assert_eq!(rate, wanted, "{long_kind} {long}, {short_kind} {short}");
+                    }
+                    let wanted = match (long_kind, short_kind) {
+                        (0, 0) => None,
+                        (0, _) => Some(5_110),
+                        (_, 0) => Some(5_840),
+                        _ => Some(6_570),
+                    };
+                    let (province, canada) = (of(long_kind, long), of(short_kind, 0));
+                    assert_eq!(pair_rate(&province, &canada), wanted, "{long}");
+                    assert_eq!(pair_rate(&canada, &province), wanted, "{long}");
+                }
+            }
+        }
     }
 
     #[test]

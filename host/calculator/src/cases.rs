@@ -16,6 +16,7 @@ mod grammar;
 mod judged;
 mod limits;
 mod paper;
+mod provinces;
 mod sound;
 
 /// A file with a title.
@@ -38,6 +39,7 @@ pub fn all() -> Vec<Case> {
     corporate::add(&mut list);
     dates::add(&mut list);
     accounts::add(&mut list);
+    provinces::add(&mut list);
     judged::add(&mut list);
     grammar::add(&mut list);
     fields::add(&mut list);

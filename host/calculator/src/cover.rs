@@ -120,8 +120,8 @@ impl Shorts {
         Shorts { shorts, bounds }
     }
 
-    /// The shorts that a long may be paired with, and in Canadian dollars other bonds beside a government's
-    /// bond, and what other provinces have beside a province's.
+    /// The shorts that a long may be paired with; by paragraph 2 all of its period, among them bonds beside a bond
+    /// and, beside a province's, what other provinces have.
     fn partners(&self, long: &Position) -> &[Short] {
         let bounds = group(long, !long.bond).and_then(|group| self.bounds.get(group));
         let (start, end) = bounds.copied().unwrap_or_default();

@@ -163,6 +163,13 @@ pub const DOMESTIC: Shape = Shape {
     ..ANY
 };
 
+/// What paragraph 2 pairs within one province and across provinces: bonds and strips of them all, in CAD.
+pub const PROVINCES: Shape = Shape {
+    name: "provinces",
+    issuers: &[1, 2, 3, 4, 5, 6, 7, 8, 9, 10],
+    ..DOMESTIC
+};
+
 /// What paragraph 4 pairs: Canada, US and GB in USD and GBP.
 pub const FOREIGN: Shape = Shape {
     name: "foreign",
@@ -185,7 +192,7 @@ const ENDS: &[Term] = &[
 ];
 
 /// Books of many kinds.
-pub const SHAPES: [Shape; 45] = [
+pub const SHAPES: [Shape; 50] = [
     DOMESTIC,
     Shape {
         name: "ends of periods",
@@ -227,10 +234,28 @@ pub const SHAPES: [Shape; 45] = [
         issuers: &[0],
         ..DOMESTIC
     },
+    PROVINCES,
     Shape {
-        name: "provinces",
-        issuers: &[1, 2, 3, 4, 5, 6, 7, 8, 9, 10],
-        ..DOMESTIC
+        name: "provinces, third period",
+        terms: &[PERIODS[2]],
+        ..PROVINCES
+    },
+    Shape {
+        name: "provinces about 20 years",
+        terms: &[ABOUT_20_YEARS],
+        ..PROVINCES
+    },
+    Shape {
+        name: "two provinces, fourth period",
+        issuers: &[7, 9],
+        terms: &[PERIODS[3]],
+        ..PROVINCES
+    },
+    Shape {
+        name: "two provinces and Canada, first period",
+        issuers: &[0, 7, 9],
+        terms: &[PERIODS[0]],
+        ..PROVINCES
     },
     Shape {
         name: "strips",
@@ -402,6 +427,13 @@ pub const SHAPES: [Shape; 45] = [
         name: "a client's, highest value",
         values: &[(HIGHEST_VALUE, HIGHEST_VALUE)],
         terms: ENDS,
+        ..CLIENTS
+    },
+    Shape {
+        name: "a client's, three provinces, fifth period",
+        issuers: &[1, 6, 10],
+        currencies: &[0],
+        terms: &[FIFTH],
         ..CLIENTS
     },
     Shape {

@@ -132,7 +132,7 @@ pub fn corporate_legs(corporations: &[u64], maturity: u64) -> Vec<RatedLeg> {
 /// Every kind and currency of some governments, at this maturity.
 pub fn government_legs(maturity: u64) -> Vec<RatedLeg> {
     let mut legs = Vec::new();
-    for issuer in [CA, ON, US, GB] {
+    for issuer in [CA, ON, QC, US, GB] {
         for kind in [BOND, COUPON, RESIDUAL] {
             legs.extend(
                 [CAD, USD, GBP].map(|currency| (kind, issuer, maturity, currency, NOT_RATED)),
@@ -189,7 +189,12 @@ pub fn paper_pair(long: Leg, short: Leg) -> Option<(u64, u64)> {
     }
     let rate = if currency == CAD {
         let of_canada = [issuer, partner].map(|issuer| issuer == CA);
-        let allowed = issuer <= 10 && partner <= 10 && (first != BOND || second != BOND);
+        let bonds = [first, second].map(|kind| kind == BOND);
+        let of_provinces = of_canada == [false; 2];
+        let allowed = issuer <= 10
+            && partner <= 10
+            && bonds != [true; 2]
+            && (!of_provinces || bonds == [false; 2] || issuer == partner);
         allowed.then_some(if of_canada[0] == of_canada[1] {
             one.abs_diff(other)
         } else {

@@ -2,7 +2,7 @@
 
 use super::{Files, List};
 use crate::samples::{
-    ANY, CLIENTS, CORPORATE, CORPORATIONS, DOMESTIC, GOVERNMENTS, Random, SHAPES, Shape,
+    ANY, CLIENTS, CORPORATE, CORPORATIONS, DOMESTIC, GOVERNMENTS, PROVINCES, Random, SHAPES, Shape,
     best_sheet, book, split_lines,
 };
 use crate::texts::{dated, file, holding, joined, quoted, records, text_of};
@@ -70,12 +70,14 @@ pub(super) fn add(list: &mut List) {
         ("of any issuer and currency", ANY),
         ("of many corporations", MANY_CORPORATIONS),
         ("of a client", CLIENTS),
+        ("of provinces", PROVINCES),
     ] {
         let sheet = best_sheet(&book(&mut random, &shape, 256));
         let title = format!("best proposal of 256 holdings {what}");
         list.add(title, text_of(&sheet), "");
     }
     both_accounts(list, &mut random);
+    as_one_province(list, &mut random);
     full(list, &mut random);
     next_to_best(list, &mut random);
     ties(list);
@@ -83,13 +85,27 @@ pub(super) fn add(list: &mut List) {
 
 /// The same holdings in a participant's account and in a client's.
 fn both_accounts(list: &mut List, random: &mut Random) {
-    for shape in [ANY, GOVERNMENTS, CORPORATE, DOMESTIC] {
+    for shape in [ANY, GOVERNMENTS, CORPORATE, DOMESTIC, PROVINCES] {
         let mut sheet = book(random, &shape, 30);
         for (letter, account) in (0..).zip(ACCOUNTS) {
             sheet.head.letter = letter;
             let title = format!("best proposal for {account}: {}", shape.name);
             list.add(title, text_of(&best_sheet(&sheet)), "");
         }
+    }
+}
+
+/// What would be best if all holdings were of one province: where it has a bond with another province's strip, that
+/// line is refused.
+fn as_one_province(list: &mut List, random: &mut Random) {
+    for size in [4, 9, 20, 65] {
+        let mut sheet = book(random, &PROVINCES, size);
+        let issuers = sheet.issuer.clone();
+        sheet.issuer.fill(issuers[0]);
+        let mut best = best_sheet(&sheet);
+        best.issuer = issuers;
+        let title = format!("best if all {size} were of one province");
+        list.add(title, text_of(&best), "");
     }
 }
 

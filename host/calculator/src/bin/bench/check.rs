@@ -3,8 +3,8 @@
 use std::hint::black_box;
 
 use margin_calculator::samples::{
-    ANY, CORPORATE, DOMESTIC, FOREIGN, GOVERNMENTS, PERIODS, Random, Shape, best_sheet, holdings,
-    split_lines,
+    ANY, CORPORATE, DOMESTIC, FOREIGN, GOVERNMENTS, PERIODS, PROVINCES, Random, Shape, best_sheet,
+    holdings, split_lines,
 };
 use margin_calculator::{FIRST_CORPORATION, Row, Sheet, VALUED, client, margin_check, participant};
 use margin_host::{Columns, Head, raw};
@@ -17,12 +17,6 @@ type Call = fn(u64, u64, &Columns<&[u8]>, &mut [u8], &mut [u8], &mut [u8]) -> u6
 /// Holdings in CAD in the first period alone, where days are counted.
 const FIRST_PERIOD: Shape = Shape {
     terms: &[PERIODS[0]],
-    ..DOMESTIC
-};
-
-/// Holdings of the ten provinces in CAD.
-const PROVINCES: Shape = Shape {
-    issuers: &[1, 2, 3, 4, 5, 6, 7, 8, 9, 10],
     ..DOMESTIC
 };
 
@@ -40,14 +34,15 @@ pub fn run() {
         "Proposals from seed {SEED:#x}; half long, half short; kinds and issuers mixed, in CAD."
     );
     println!(
-        "First period: every long with every short is allowed. Both paragraphs: half in USD or GBP,"
+        "First period: all in one period, the longs strips. Provinces: bonds and strips of the ten on either side, paired"
     );
     println!(
-        "each long there with a short. All paragraphs: half of the rest of corporations. Few and many"
+        "within a province, and strips across. Both paragraphs: half in USD or GBP, each long there with a short. All"
     );
     println!(
-        "corporations: 4, and a fourth of the holdings, in CAD. Any currency, any issuer: also what no paragraph pairs."
+        "paragraphs: half of the rest of corporations. Few and many corporations: 4, and a fourth of the holdings, in"
     );
+    println!("CAD. Any currency, any issuer: also what no paragraph pairs.");
     println!(
         "A client's: the holdings of any issuer in a client's account; all other accounts are approved participants'."
     );
@@ -62,11 +57,10 @@ pub fn run() {
         print_line("first period", &sheet_of(&book_of(size, &FIRST_PERIOD)), 0);
         print_line("mixed periods", &sheet_of(&mixed_periods(size)), 0);
         if size > 1 {
+            let provinces = in_turn(size, &PROVINCES, &PROVINCES);
+            print_line("provinces", &sheet_of(&provinces), 0);
             print_line("both paragraphs", &sheet_of(&both_paragraphs(size)), 0);
             print_line("all paragraphs", &sheet_of(&all_paragraphs(size)), 0);
-        }
-        if size > 1 {
-            print_line("provinces", &sheet_of(&provinces(size)), 0);
         }
         if size > 16 {
             print_line("few corporations", &sheet_of(&book_of(size, &CORPORATE)), 0);
@@ -106,16 +100,6 @@ fn sheet_under(head: Head, book: &[Row]) -> Sheet {
 /// Longs and shorts in CAD in all periods.
 pub fn mixed_periods(size: usize) -> Vec<Row> {
     book_of(size, &DOMESTIC)
-}
-
-/// Longs and shorts of the provinces in CAD, of any kinds, in all periods.
-fn provinces(size: usize) -> Vec<Row> {
-    let mut random = Random::new(SEED ^ 1);
-    let mut book = book_of(size, &PROVINCES);
-    for row in &mut book {
-        row.kind = random.pick(DOMESTIC.kinds);
-    }
-    book
 }
 
 /// In turn a long and a short in CAD, and a long and a short of one government in one foreign currency, of
@@ -165,19 +149,28 @@ fn many_corporations(size: usize) -> Vec<Row> {
 }
 
 /// Longs and shorts of a shape in turn. The longs are strips, so that in one period and in CAD each of them
-/// may be paired with every short of a government.
+/// may be paired with every short of Canada and every strip of a province.
 pub fn book_of(size: usize, shape: &Shape) -> Vec<Row> {
+    let strips = Shape {
+        kinds: &[1, 2],
+        ..*shape
+    };
+    in_turn(size, &strips, shape)
+}
+
+/// Longs of one shape and shorts of another in turn, of large values.
+fn in_turn(size: usize, longs: &Shape, shorts: &Shape) -> Vec<Row> {
     let mut random = Random::new(SEED);
+    let values = &[(1_000_000, 100_000_000_000)];
     let long = Shape {
         sides: &[0],
-        kinds: &[1, 2],
-        values: &[(1_000_000, 100_000_000_000)],
-        ..*shape
+        values,
+        ..*longs
     };
     let short = Shape {
         sides: &[1],
-        kinds: shape.kinds,
-        ..long
+        values,
+        ..*shorts
     };
     let mut book = Vec::with_capacity(size);
     for number in 0..size {
