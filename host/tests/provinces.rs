@@ -173,36 +173,28 @@ fn among(head: Head, long: Leg, price: u64, shorts: &[Leg]) -> Sheet {
 
 #[test]
 fn a_short_bond_among_long_strips() {
-    // The same with the bond on the other side: of strips of every province at price 0 the lowest that may be paired
-    // with it is named, and those of the others are accepted.
+    // The same with the bond on the other side and strips of every province: the lowest of its own is named, and without
+    // these all are accepted.
     let mut run = Run::fixed("a short bond among long strips");
     for province in AB..=SK {
-        for copies in [1, 2, 6, 7, 14] {
-            let strips = (0..copies).flat_map(|_| AB..=SK);
-            let strips: Vec<(u64, u64)> =
-                strips.zip([COUPON, RESIDUAL].into_iter().cycle()).collect();
-            let others = strips.iter().filter(|(issuer, _)| *issuer != province);
-            for (longs, own) in [(strips.clone(), true), (others.copied().collect(), false)] {
-                let mut holdings: Vec<_> = longs
-                    .iter()
-                    .map(|(issuer, kind)| (holding(LONG, *kind, *issuer, 2030_06_24, 1), 0))
-                    .collect();
-                let place = holdings.len() / 2;
-                holdings.insert(place, (holding(SHORT, BOND, province, 2030_06_24, 1), 0));
-                let first = holdings
-                    .iter()
-                    .position(|(row, _)| row.side == LONG && row.issuer == province);
-                let what = format_args!("{province}, {} strips", longs.len());
-                for head in HEADS {
-                    let lent = Lent::of(&sheet_under(head, &holdings, &[]));
-                    if own {
-                        let first = first.expect("a strip of the province") as u64;
-                        run.refused(&lent, (16, first, place as u64), what);
-                    } else {
-                        let units = 5_840 + 8_760 * longs.len() as u64;
-                        run.accepted(&lent, units, what);
-                    }
-                }
+        let bond = (holding(SHORT, BOND, province, 2030_06_24, 1), 0);
+        for count in [10, 20, 60, 70, 140] {
+            let strips = (0..count).map(|number| {
+                let (kind, issuer) = (COUPON + number % 2, AB + number % 10);
+                (holding(LONG, kind, issuer, 2030_06_24, 1), 0)
+            });
+            let (own, others): (Vec<_>, Vec<_>) =
+                strips.partition(|(row, _)| row.issuer == province);
+            let (before, after) = others.split_at(others.len() / 2);
+            let alone = [before, &[bond], after].concat();
+            let among = [before, &[bond], after, &own].concat();
+            let (first, short) = (alone.len() as u64, before.len() as u64);
+            for head in HEADS {
+                let what = format_args!("{province}, {count} strips, {head:?}");
+                let units = 5_840 + 8_760 * others.len() as u64;
+                run.accepted(&Lent::of(&sheet_under(head, &alone, &[])), units, what);
+                let wanted = (16, first, short);
+                run.refused(&Lent::of(&sheet_under(head, &among, &[])), wanted, what);
             }
         }
     }
@@ -257,11 +249,29 @@ fn renamed(sheet: &Sheet, name: impl Fn(u64) -> u64) -> Sheet {
     sheet
 }
 
-/// Whether two holdings of a sheet are a bond and a strip of two provinces.
-fn apart(sheet: &Sheet, [one, other]: [u64; 2]) -> bool {
-    let [one, other] = [one, other].map(|number| sheet.row(number as usize));
-    let provincial = is_provincial(one.issuer) && is_provincial(other.issuer);
-    provincial && one.issuer != other.issuer && (one.kind == BOND) != (other.kind == BOND)
+/// A proposal on the holdings of a book with the issuers of another.
+fn with_issuers_of(book: &Sheet, proposal: &Sheet) -> Sheet {
+    let mut sheet = proposal.clone();
+    sheet.issuer.clone_from(&book.issuer);
+    sheet
+}
+
+/// The long and the short of each line.
+fn lines(sheet: &Sheet) -> impl Iterator<Item = (u64, u64)> {
+    let longs = sheet.long.iter().copied();
+    longs.zip(sheet.short.iter().copied())
+}
+
+/// Whether two holdings of a sheet are of two provinces.
+fn two_provinces(sheet: &Sheet, (one, other): (u64, u64)) -> bool {
+    let [one, other] = [one, other].map(|number| sheet.issuer[number as usize]);
+    is_provincial(one) && is_provincial(other) && one != other
+}
+
+/// Whether they are a bond and a strip of two provinces.
+fn apart(sheet: &Sheet, (one, other): (u64, u64)) -> bool {
+    let bonds = [one, other].map(|number| sheet.kind[number as usize] == BOND);
+    two_provinces(sheet, (one, other)) && bonds[0] != bonds[1]
 }
 
 #[test]
@@ -275,15 +285,9 @@ fn as_many_provinces_and_as_one() {
         let one = best_sheet(&renamed(book, |_| SK));
         let [most, least] = [&many, &one].map(|best| run.units(best, format_args!("its own")));
         assert!(least <= most, "{book:?}");
-        let put_back = |best: &Sheet, book: &Sheet| {
-            let mut sheet = best.clone();
-            sheet.issuer.clone_from(&book.issuer);
-            sheet
-        };
-        let as_many = put_back(&one, book);
-        let mut lines = as_many.long.iter().zip(&as_many.short);
+        let as_many = with_issuers_of(book, &one);
         let what = format_args!("the best as one, as many");
-        match lines.position(|(long, short)| apart(&as_many, [*long, *short])) {
+        match lines(&as_many).position(|line| apart(&as_many, line)) {
             Some(line) => {
                 run.refused(&Lent::of(&as_many), (13, line as u64, 0), what);
                 seen[0][1] += 1;
@@ -294,15 +298,14 @@ fn as_many_provinces_and_as_one() {
                 seen[0][0] += 1;
             }
         }
-        let as_one = put_back(&many, &one);
+        let as_one = with_issuers_of(&one, &many);
         let what = format_args!("the best as many, as one");
         let left = run.compare(&Lent::of(&as_one), what);
         if left.number == 0 {
             assert_eq!((left.figures().0, most), (least, least), "{what}\n{many:?}");
         } else {
             assert_eq!(left.number, 16, "{what}\n{many:?}");
-            let (long, short) = left.figures();
-            assert!(apart(&many, [long, short]), "{what}\n{many:?}");
+            assert!(apart(&many, left.figures()), "{what}\n{many:?}");
         }
         seen[1][usize::from(least < most)] += 1;
     });
@@ -332,43 +335,45 @@ fn the_names_of_provinces_do_not_matter() {
 
 #[test]
 fn strips_do_not_ask_for_the_province() {
-    // Without a provincial bond the province counts for nothing, and the best as one is the best as many.
+    // Without a provincial bond the province counts for nothing: the best as one province is the best as many, and one
+    // unit less on a price leaves a pair uncovered.
     let mut run = Run::new("strips of any province", 0x1303);
-    let mut across = 0;
-    for kinds in [&[COUPON][..], &[COUPON, RESIDUAL]] {
-        for issuers in [PROVINCES.issuers, DOMESTIC.issuers] {
-            let shape = Shape {
-                kinds,
-                issuers,
-                ..PROVINCES
-            };
-            for size in [2, 5, 8, 9, 30, 64, 65, 100] {
-                for _ in 0..12 {
-                    let mut book = book(&mut run.random, &shape, size);
-                    for number in 0..size {
-                        // Canada's may be bonds.
-                        if book.issuer[number] == CA && run.random.below(3) == 0 {
-                            book.kind[number] = BOND;
-                        }
+    let (mut across, mut uncovered) = (0, 0);
+    for issuers in [PROVINCES.issuers, DOMESTIC.issuers] {
+        let shape = Shape {
+            kinds: &[COUPON, RESIDUAL],
+            issuers,
+            ..PROVINCES
+        };
+        for size in [2, 5, 8, 9, 30, 64, 65, 100] {
+            for _ in 0..24 {
+                let mut book = book(&mut run.random, &shape, size);
+                for number in 0..size {
+                    // Canada's may be bonds.
+                    if book.issuer[number] == CA && run.random.below(3) == 0 {
+                        book.kind[number] = BOND;
                     }
-                    let one = best_sheet(&renamed(&book, |_| ON));
-                    let units = run.units(&one, format_args!("as one"));
-                    let mut many = one.clone();
-                    many.issuer.clone_from(&book.issuer);
-                    run.accepted(&Lent::of(&many), units, format_args!("as many"));
-                    across += many
-                        .long
-                        .iter()
-                        .zip(&many.short)
-                        .filter(|(long, short)| {
-                            let [one, other] =
-                                [long, short].map(|number| many.issuer[**number as usize]);
-                            one != other && is_provincial(one) && is_provincial(other)
-                        })
-                        .count();
                 }
+                let one = best_sheet(&renamed(&book, |_| ON));
+                let units = run.units(&one, format_args!("as one"));
+                let many = with_issuers_of(&book, &one);
+                run.accepted(&Lent::of(&many), units, format_args!("as many"));
+                for holding in 0..size {
+                    if many.price[holding] > 0 {
+                        let mut cheap = many.clone();
+                        cheap.price[holding] -= 1;
+                        let what = format_args!("price of {holding} down");
+                        let left = run.compare(&Lent::of(&cheap), what);
+                        assert_eq!(left.number, 16, "{what}\n{cheap:?}");
+                        uncovered += usize::from(two_provinces(&many, left.figures()));
+                    }
+                }
+                across += lines(&many)
+                    .filter(|line| two_provinces(&many, *line))
+                    .count();
             }
         }
     }
     assert!(across >= 1_000, "{across} lines across provinces");
+    assert!(uncovered >= 1_000, "{uncovered} pairs across provinces");
 }
