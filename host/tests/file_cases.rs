@@ -7,8 +7,10 @@ use std::fs;
 use std::path::Path;
 
 use margin_calculator::cases::{Case, all, stdin, stdout};
-use margin_calculator::print;
+use margin_calculator::{print, read};
+use support::Run;
 use support::file::{File, Files};
+use support::lent::Lent;
 
 fn first_line(case: &Case) -> String {
     let printed = String::from_utf8(print(&case.text)).expect("ASCII");
@@ -94,4 +96,21 @@ fn the_reader_on_each_case() {
         files.compare(&File::of(&case.text), format_args!("{}", case.title));
     }
     files.has_seen(&[0, 3, 9, 18, 19, 20, 21, 22, 25], 1);
+}
+
+#[test]
+fn the_check_on_each_case() {
+    let mut run = Run::fixed("the check on each case");
+    for case in all() {
+        let Ok(sheet) = read(&case.text) else {
+            continue;
+        };
+        let left = run.compare(&Lent::of(&sheet), format_args!("{}", case.title));
+        let (first, second) = left.figures();
+        let line = match left.number {
+            0 => format!("M,{first},{second}"),
+            number => format!("X,{number},{first},{second}"),
+        };
+        assert_eq!(line, first_line(&case), "{}", case.title);
+    }
 }
