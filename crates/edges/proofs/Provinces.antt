@@ -2,7 +2,6 @@
 -- the least margin among these pairs, and files. Assumes nothing.
 use mathlib.Core.List.{List, [], _∷_, _++_, flatMap}
 use Prim.Native.Nat.{ℕ, suc}
-use lib.ListN.{replicate}
 use Rattle.holding.specs.declared.Row.{Row}
 use Rattle.edges.proofs.Cases.{Case, pair, pairs, pairs-by, no-pair, no-pairs, no-pairs-by, proposal, proposal-by, prints, D, D-by, H, P}
 use Rattle.edges.proofs.Cases.{client, line, row, L, S, B, C, R, CA, ON, QC, CAD, none}
