@@ -4,8 +4,8 @@ use Prim.Native.Nat.{ℕ}
 use native.Mathlib.Omega.{arith}
 use Rattle.rates.specs.Rate.{longerThan, atLeast, periodOf, classOf, bondRate, stripRate, kindRate, rateAt, rateOf}
 use Rattle.article.proofs.Paragraphs.{in-cad}
-use Rattle.article.specs.Article.{Paragraph2, ByParagraph, by-2, by-3, by-4, MayPair, ClientPairs}
-use Rattle.article.specs.Pair.{legOf, isBond, isStrip, isCanada, isProvince, kindsPair, sameClass, mixedClass, provincesPair, classRule, domesticRule, ruleOf, ruleRate, pairRateOf}
+use Rattle.article.specs.Article.{Paragraph2, ByParagraph, by-2, by-3, by-4, ClientPairs}
+use Rattle.article.specs.Pair.{legOf, isBond, isStrip, isCanada, isProvince, kindsPair, sameClass, mixedClass, provincesPair, classRule, domesticRule, ruleOf, pairRateOf}
 use Rattle.holding.specs.Holding.{letterNumber}
 use Rattle.holding.specs.declared.Account.{Account}
 use Rattle.holding.specs.declared.AccountKind.the-variants.{Participant, Client}
