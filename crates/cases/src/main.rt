@@ -67,7 +67,7 @@ fn run_case() -> bool {
 
 fn main() {
     let mut case: usize = 0;
-    while case < 1000 {
+    while case < 4000 {
         if !run_case() {
             return;
         }
