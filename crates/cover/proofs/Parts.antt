@@ -72,7 +72,8 @@ module _ {n : ℕ} {legs price counts marks strips rates prices : List ℕ} wher
 
       -- one more short, at place k, after the m in the part b of its period
       module _ {b m k o x y r z : ℕ} (part : b ≡ partOf leg) (count : m ≡ getD counts b 0) (at : k ≡ 256 * b + m)
-          (own : o ≡ markOf (isBond leg) leg) (mark : x ≡ acrossMark (leg .kind) o) (strip : (leg .kind ≡ 0 → ⊥) → y ≡ o) (rate : (r ≡ scanRate leg) × (r ≤ scanLimit)) (e : z ≡ wordAt price j) where
+          (own : o ≡ markOf (isBond leg) leg) (mark : x ≡ acrossMark (leg .kind) o) (strip : (leg .kind ≡ 0 → ⊥) → y ≡ o)
+          (rate : (r ≡ scanRate leg) × (r ≤ scanLimit)) (e : z ≡ wordAt price j) where
         -- the place is in each column, and no short before stands there
         place : k < 2048
         unfolding partOf
