@@ -3,19 +3,19 @@ use mathlib.Core.Path.{◌≡◌, refl, ap}
 use mathlib.Core.Bool.{Bool, true, false, cond}
 use Prim.Native.Nat.{ℕ, ◌≤◌}
 use native.Mathlib.Omega.{arith}
-use Rattle.article.specs.Answer.{Answer, makeAnswer}
-use Rattle.article.specs.Pair.{allowed, pairRateOf, savingRateOf, pairAnswer, pair_of, rateLimit, savingLimit, Pairs}
+use Rattle.article.specs.Answer.{Answer, make_answer}
+use Rattle.article.specs.Pair.{allowed, pair_rate_of, saving_rate_of, pair_answer, pair_of, rate_limit, saving_limit, Pairs}
 use Rattle.article.specs.declared.pair.Leg.{Leg}
 use Rattle.article.specs.declared.pair.Pair.{Pair}
 use Rattle.article.specs.declared.pair.Pair.TheVariants.{Allowed, NotAllowed}
 
 -- a test's value from the number of the answer that it picked
-refused-by : (t : Bool) (rate saving : ℕ) → makeAnswer 13 0 0 ≡ cond t (makeAnswer 0 rate saving) (makeAnswer 13 0 0) → t ≡ false
+refused-by : (t : Bool) (rate saving : ℕ) → make_answer 13 0 0 ≡ cond t (make_answer 0 rate saving) (make_answer 13 0 0) → t ≡ false
 refused-by true rate saving e = absurd (omega (arith, ap (λ (a : Answer). a.number) e))
 refused-by false rate saving e = refl
 
 -- and the rates that stand in it
-given_by : (t : Bool) (rate saving rate' saving' : ℕ) → makeAnswer 0 rate' saving' ≡ cond t (makeAnswer 0 rate saving) (makeAnswer 13 0 0)
+given_by : (t : Bool) (rate saving rate' saving' : ℕ) → make_answer 0 rate' saving' ≡ cond t (make_answer 0 rate saving) (make_answer 13 0 0)
     → (t ≡ true) × (rate' ≡ rate) × (saving' ≡ saving)
 given_by true rate saving rate' saving' e = (refl, ap (λ (a : Answer). a.first) e, ap (λ (a : Answer). a.second) e)
 given_by false rate saving rate' saving' e = absurd (omega (arith, ap (λ (a : Answer). a.number) e))
@@ -23,18 +23,18 @@ given_by false rate saving rate' saving' e = absurd (omega (arith, ap (λ (a : A
 -- an allowed pair, its rates, and their bounds
 pub record Answered (l s : Leg) (rate saving : ℕ) : Type 0 where
   pub may : allowed l s ≡ true
-  pub pair-rate : rate ≡ pairRateOf l s
-  pub saving-rate : saving ≡ savingRateOf l s
-  pub rate-high : rate ≤ rateLimit
-  pub saving-high : saving ≤ savingLimit
+  pub pair_rate_lem : rate ≡ pair_rate_of l s
+  pub saving_rate_lem : saving ≡ saving_rate_of l s
+  pub rate-high : rate ≤ rate_limit
+  pub saving-high : saving ≤ saving_limit
 
 module _ {l s : Leg} {p : Pair} (found : Pairs l s p) where
   pub answered-refused : p ≡ NotAllowed → allowed l s ≡ false
-  unfolding pairAnswer pair_of
+  unfolding pair_answer pair_of
   answered-refused e = refused-by (allowed l s) _ _ (rw e at found.answered)
 
   pub answered-allowed : {rate saving : ℕ} → p ≡ Allowed rate saving → Answered l s rate saving
-  unfolding pairAnswer pair_of
+  unfolding pair_answer pair_of
   answered-allowed {rate} {saving} e =
       let (may, r, k) = given_by (allowed l s) _ _ rate saving (rw e at found.answered) in
-      record { may = may; pair-rate = r; saving-rate = k; rate-high = rw e at found.rate-high; saving-high = rw e at found.saving-high }
+      record { may = may; pair_rate_lem = r; saving_rate_lem = k; rate-high = rw e at found.rate-high; saving-high = rw e at found.saving-high }

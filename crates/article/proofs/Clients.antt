@@ -2,11 +2,11 @@
 use mathlib.Core.Path.{◌≡◌, refl, ap, sym, subst, ◌∙◌}
 use Prim.Native.Nat.{ℕ}
 use native.Mathlib.Omega.{arith}
-use Rattle.rates.specs.Rate.{longerThan, at_least, periodOf, class_of, bondRate, stripRate, kindRate, rateAt, rateOf}
-use Rattle.article.proofs.Paragraphs.{in-cad}
-use Rattle.article.specs.Article.{Paragraph2, ByParagraph, by_2, by-3, by_4, ClientPairs}
-use Rattle.article.specs.Pair.{legOf, isBond, isStrip, isCanada, isProvince, kindsPair, sameClass, mixedClass, provincesPair, classRule, domesticRule, ruleOf, pairRateOf}
-use Rattle.holding.specs.Holding.{letterNumber}
+use Rattle.rates.specs.Rate.{longer_than, at_least, period_of, class_of, bond_rate, strip_rate, kind_rate, rate_at, rate_of}
+use Rattle.article.proofs.Paragraphs.{in_cad_lem}
+use Rattle.article.specs.Article.{Paragraph2, ByParagraph, by_2, by_3, by_4, ClientPairs}
+use Rattle.article.specs.Pair.{leg_of, is_bond, is_strip, is_canada, is_province, kinds_pair, same_class, mixed_class, provinces_pair, class_rule, domestic_rule, rule_of, pair_rate_of}
+use Rattle.holding.specs.Holding.{letter_number}
 use Rattle.holding.specs.declared.Account.{Account}
 use Rattle.holding.specs.declared.AccountKind.TheVariants.{Participant, Client}
 use Rattle.holding.specs.declared.Kind.{Kind}
@@ -14,50 +14,50 @@ use Rattle.holding.specs.declared.Kind.TheVariants.{Bond, Coupon, Residual}
 use Rattle.holding.specs.declared.Holding.{Holding}
 
 -- a client's account and a participant's, valued on one date
-abbrev clientOn : ℕ → Account
-clientOn date = record { date = date; letter = Client }
+abbrev client_on : ℕ → Account
+client_on date = record { date = date; letter = Client }
 
-abbrev participantOn : ℕ → Account
-participantOn date = record { date = date; letter = Participant }
+abbrev participant_on : ℕ → Account
+participant_on date = record { date = date; letter = Participant }
 
 -- a client is no participant
-no-participant : Client ≡ Participant → ⊥
-no-participant e = let never = ap letterNumber e in omega (arith, never)
+no_participant : Client ≡ Participant → ⊥
+no_participant e = let never = ap letter_number e in omega (arith, never)
 
 module _ (date : ℕ) where
   -- the term and the rate of a holding rest on the date alone
-  same-period : (maturity : ℕ) → periodOf (clientOn date) maturity ≡ periodOf (participantOn date) maturity
-  unfolding periodOf longerThan
+  same-period : (maturity : ℕ) → period_of (client_on date) maturity ≡ period_of (participant_on date) maturity
+  unfolding period_of longer_than
   same-period maturity = refl
 
   by_kind : (k : Kind) (class maturity : ℕ)
-      → kindRate k (bondRate class (clientOn date) maturity) (clientOn date) maturity ≡ kindRate k (bondRate class (participantOn date) maturity) (participantOn date) maturity
-  unfolding kindRate stripRate bondRate at_least longerThan periodOf
+      → kind_rate k (bond_rate class (client_on date) maturity) (client_on date) maturity ≡ kind_rate k (bond_rate class (participant_on date) maturity) (participant_on date) maturity
+  unfolding kind_rate strip_rate bond_rate at_least longer_than period_of
   by_kind Bond class maturity = refl
   by_kind Coupon class maturity = refl
   by_kind Residual class maturity = refl
 
-  same-alone : (h : Holding) → rateOf (clientOn date) h ≡ rateOf (participantOn date) h
-  unfolding rateOf rateAt
+  same-alone : (h : Holding) → rate_of (client_on date) h ≡ rate_of (participant_on date) h
+  unfolding rate_of rate_at
   same-alone h = by_kind h.kind (class_of h.issuer) h.maturity
 
   module _ (l s : Holding) where
     -- a client's pair is one of paragraph 2
-    by_two : ByParagraph (clientOn date) l s → Paragraph2 l s
+    by_two : ByParagraph (client_on date) l s → Paragraph2 l s
     by_two (by_2 p) = p
-    by_two (by-3 e p) = absurd (no-participant e)
-    by_two (by_4 e p) = absurd (no-participant e)
+    by_two (by_3 e p) = absurd (no_participant e)
+    by_two (by_4 e p) = absurd (no_participant e)
 
     -- whose rule asks for no letter
-    same-rule : Paragraph2 l s → ruleOf (legOf (clientOn date) l) (legOf (clientOn date) s) ≡ ruleOf (legOf (participantOn date) l) (legOf (participantOn date) s)
-    unfolding domesticRule kindsPair classRule sameClass mixedClass provincesPair isBond isStrip isCanada isProvince legOf
-    same-rule p = in-cad (clientOn date) l s p ∙ sym (in-cad (participantOn date) l s p)
+    same-rule : Paragraph2 l s → rule_of (leg_of (client_on date) l) (leg_of (client_on date) s) ≡ rule_of (leg_of (participant_on date) l) (leg_of (participant_on date) s)
+    unfolding domestic_rule kinds_pair class_rule same_class mixed_class provinces_pair is_bond is_strip is_canada is_province leg_of
+    same-rule p = in_cad_lem (client_on date) l s p ∙ sym (in_cad_lem (participant_on date) l s p)
 
-    same-rate : Paragraph2 l s → pairRateOf (legOf (clientOn date) l) (legOf (clientOn date) s) ≡ pairRateOf (legOf (participantOn date) l) (legOf (participantOn date) s)
-    unfolding pairRateOf legOf
+    same-rate : Paragraph2 l s → pair_rate_of (leg_of (client_on date) l) (leg_of (client_on date) s) ≡ pair_rate_of (leg_of (participant_on date) l) (leg_of (participant_on date) s)
+    unfolding pair_rate_of leg_of
     same-rate p = rw (same-rule p, same-alone l, same-alone s)
 
-    client-pairs : ClientPairs (clientOn date) (participantOn date) l s
+    client-pairs : ClientPairs (client_on date) (participant_on date) l s
     client-pairs = record {
       may = (
         λ m.
@@ -74,7 +74,7 @@ module _ (date : ℕ) where
 -- every client's account is one of these, and every participant's
 pub clients : (c p : Account) → c.letter ≡ Client → p.letter ≡ Participant → c.date ≡ p.date → (l s : Holding) → ClientPairs c p l s
 clients c p e f d l s =
-    let ours : clientOn p.date ≡ c = λ t. record { date = sym d t; letter = sym e t } in
-    let theirs : participantOn p.date ≡ p = λ t. record { date = p.date; letter = sym f t } in
+    let ours : client_on p.date ≡ c = λ t. record { date = sym d t; letter = sym e t } in
+    let theirs : participant_on p.date ≡ p = λ t. record { date = p.date; letter = sym f t } in
     subst (λ (a : Account). ClientPairs a p l s) ours
-    (subst (λ (a : Account). ClientPairs (clientOn p.date) a l s) theirs (client-pairs p.date l s))
+    (subst (λ (a : Account). ClientPairs (client_on p.date) a l s) theirs (client-pairs p.date l s))

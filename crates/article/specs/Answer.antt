@@ -7,5 +7,5 @@ pub record Answer : Type 0 where
   pub first : ℕ
   pub second : ℕ
 
-abbrev pub makeAnswer : ℕ → ℕ → ℕ → Answer
-makeAnswer n a b = record { number = n; first = a; second = b }
+abbrev pub make_answer : ℕ → ℕ → ℕ → Answer
+make_answer n a b = record { number = n; first = a; second = b }

@@ -1,7 +1,7 @@
 // A pair of a long and a short: whether the article allows it, its rate, and what it saves.
 ghost use Rattle.std.specs.Prelude.{◌≡◌, cond, ◌+◌, ◌≤◌, max};
-ghost use Rattle.article.specs.Pair.{legOf, kindsPair, provincesPair, classRule, domesticRule, isCorporate, bondRating, corporateRule};
-ghost use Rattle.article.specs.Pair.{areParticipants, oneBond, OneIssuer, foreignRule, Outside, ruleOf, permits, ruleRate, rateLimit, RateInRange, Pairs};
+ghost use Rattle.article.specs.Pair.{leg_of, kinds_pair, provinces_pair, class_rule, domestic_rule, is_corporate, bond_rating, corporate_rule};
+ghost use Rattle.article.specs.Pair.{are_participants, one_bond, OneIssuer, foreign_rule, Outside, rule_of, permits, rule_rate, rate_limit, RateInRange, Pairs};
 ghost use Rattle.holding.specs.Holding.{InRange};
 
 use holding::{Account, Holding};
@@ -37,7 +37,7 @@ pub enum Pair {
 
 // What a pair asks of this holding, worked out once.
 pub fn leg_of(account: Account, h: Holding) -> Leg
-    ensures { (result ≡ legOf account h) × (InRange account h → RateInRange result) }
+    ensures { (result ≡ leg_of account h) × (InRange account h → RateInRange result) }
 {
     let row = holding::row_of(h);
     let letter = account.letter;
@@ -56,7 +56,7 @@ pub fn leg_of(account: Account, h: Holding) -> Leg
 
 // The rule of two provinces: two strips of any, a bond and a strip only of the same.
 fn province_rule(long: Leg, short: Leg) -> Rule
-    ensures { result ≡ cond (provincesPair long short) Rule.Difference Rule.NotAllowed }
+    ensures { result ≡ cond (provinces_pair long short) Rule.Difference Rule.NotAllowed }
 {
     if long.kind != 0 && short.kind != 0 {
         return Rule::Difference;
@@ -69,7 +69,7 @@ fn province_rule(long: Leg, short: Leg) -> Rule
 
 // The rule by the numbers of the two issuers.
 fn class_rule(long: Leg, short: Leg) -> Rule
-    ensures { result ≡ classRule long short }
+    ensures { result ≡ class_rule long short }
 {
     let first = long.issuer;
     let second = short.issuer;
@@ -90,7 +90,7 @@ fn class_rule(long: Leg, short: Leg) -> Rule
 
 // Whether the two kinds pair in CAD: a bond with a strip or a strip with a strip.
 fn kinds_pair(long: Leg, short: Leg) -> bool
-    ensures { result ≡ kindsPair long short }
+    ensures { result ≡ kinds_pair long short }
 {
     let first = long.kind;
     let second = short.kind;
@@ -111,7 +111,7 @@ fn kinds_pair(long: Leg, short: Leg) -> bool
 
 // Paragraph 2: the rule by the numbers of the two kinds, and where they pair by those of the two issuers.
 fn domestic_rule(long: Leg, short: Leg) -> Rule
-    ensures { result ≡ domesticRule long short }
+    ensures { result ≡ domestic_rule long short }
 {
     if kinds_pair(long, short) {
         return class_rule(long, short);
@@ -121,7 +121,7 @@ fn domestic_rule(long: Leg, short: Leg) -> Rule
 
 // Whether a leg is a corporation's.
 pub fn is_corporate(leg: Leg) -> bool
-    ensures { result ≡ isCorporate leg }
+    ensures { result ≡ is_corporate leg }
 {
     let issuer = leg.issuer;
     match issuer {
@@ -132,7 +132,7 @@ pub fn is_corporate(leg: Leg) -> bool
 
 // Whether exactly one of the two is a bond.
 fn one_bond(long: Leg, short: Leg) -> bool
-    ensures { result ≡ oneBond long short }
+    ensures { result ≡ one_bond long short }
 {
     let first = long.kind;
     let second = short.kind;
@@ -151,7 +151,7 @@ fn one_bond(long: Leg, short: Leg) -> bool
 
 // The rating of the bond, where just one of the two is one.
 fn bond_rating(long: Leg, short: Leg) -> u64
-    ensures { result ≡ bondRating long short }
+    ensures { result ≡ bond_rating long short }
 {
     if long.kind == 0 {
         long.rating
@@ -163,7 +163,7 @@ fn bond_rating(long: Leg, short: Leg) -> u64
 // Paragraph 3, of a participant's bond and strip of one issuer: the greater rate, capped, where that is a corporation and the bond is rated.
 fn corporate_rule(long: Leg, short: Leg) -> Rule
     requires { OneIssuer long short }
-    ensures { result ≡ corporateRule long short }
+    ensures { result ≡ corporate_rule long short }
 {
     if bond_rating(long, short) != 0 {
         return Rule::NotAllowed;
@@ -177,7 +177,7 @@ fn corporate_rule(long: Leg, short: Leg) -> Rule
 // Paragraph 4, of a participant's bond and strip of one issuer: the difference, where that is Canada, US or GB.
 fn foreign_rule(long: Leg, short: Leg) -> Rule
     requires { OneIssuer long short }
-    ensures { result ≡ foreignRule long short }
+    ensures { result ≡ foreign_rule long short }
 {
     let issuer = long.issuer;
     match issuer {
@@ -190,7 +190,7 @@ fn foreign_rule(long: Leg, short: Leg) -> Rule
 
 // Whether both legs are approved participants'.
 fn are_participants(long: Leg, short: Leg) -> bool
-    ensures { result ≡ areParticipants long short }
+    ensures { result ≡ are_participants long short }
 {
     if long.letter != 0 {
         return false;
@@ -201,7 +201,7 @@ fn are_participants(long: Leg, short: Leg) -> bool
 // Paragraphs 3 and 4, by the number of the currency that both legs are in: approved participants', exactly one a bond, and the issuer is the same.
 fn outside_rule(long: Leg, short: Leg) -> Rule
     requires { Outside long short }
-    ensures { result ≡ ruleOf long short }
+    ensures { result ≡ rule_of long short }
 {
     if long.issuer != short.issuer {
         return Rule::NotAllowed;
@@ -222,7 +222,7 @@ fn outside_rule(long: Leg, short: Leg) -> Rule
 
 // The rule: paragraph 2 for Canada and the provinces in CAD, of clients too, paragraphs 3 and 4 for any other. Two currencies have none.
 pub fn rule_of(long: Leg, short: Leg) -> Rule
-    ensures { result ≡ ruleOf long short }
+    ensures { result ≡ rule_of long short }
 {
     if long.currency != short.currency {
         return Rule::NotAllowed;
@@ -252,7 +252,7 @@ fn greater(a: u64, b: u64) -> u64
 
 // The lesser of 29,200, which is 20 percent, and the greater of two rates.
 pub fn capped(a: u64, b: u64) -> u64
-    ensures { (result ≡ ruleRate Rule.Capped a b) × (result ≤ a + b) }
+    ensures { (result ≡ rule_rate Rule.Capped a b) × (result ≤ a + b) }
 {
     let rate = greater(a, b);
     if 29200 < rate { 29200 } else { rate }
@@ -260,8 +260,8 @@ pub fn capped(a: u64, b: u64) -> u64
 
 // The rate that a rule makes of two rates.
 fn rule_rate(rule: Rule, long: u64, short: u64) -> u64
-    requires { (long ≤ rateLimit) × (short ≤ rateLimit) }
-    ensures { (result ≡ ruleRate rule long short) × (result ≤ long + short) }
+    requires { (long ≤ rate_limit) × (short ≤ rate_limit) }
+    ensures { (result ≡ rule_rate rule long short) × (result ≤ long + short) }
 {
     match rule {
         Rule::Difference => {

@@ -1,8 +1,8 @@
 // Booking for the desk's Rust host, in an archive of its own: lists of records as byte slices.
 ghost use Rattle.std.specs.Prelude.{[], ◌∷◌};
-ghost use Rattle.holding.specs.Holding.{headBy, row_by};
+ghost use Rattle.holding.specs.Holding.{head_by, row_by};
 ghost use Rattle.daybook.specs.declared.Order.{TheVariants.Add, TheVariants.Take, TheVariants.MoveTo};
-ghost use Rattle.records.specs.Records.{makeSlices, Books};
+ghost use Rattle.records.specs.Records.{make_slices, Books};
 
 use daybook::Order;
 use holding::{Head, Row};
@@ -26,9 +26,9 @@ pub extern "C" fn margin_add(
     value: u64,
     answer: &mut [u8],
 ) -> u64
-    ensures { Books (Add (row_by (side ∷ kind ∷ issuer ∷ maturity ∷ value ∷ currency ∷ rating ∷ []))) count (headBy (date ∷ letter ∷ []))
-        (makeSlices list.old totals.old answer.old)
-        (makeSlices list.new totals.new answer.new) result }
+    ensures { Books (Add (row_by (side ∷ kind ∷ issuer ∷ maturity ∷ value ∷ currency ∷ rating ∷ []))) count (head_by (date ∷ letter ∷ []))
+        (make_slices list.old totals.old answer.old)
+        (make_slices list.new totals.new answer.new) result }
 {
     let head = Head { date, letter };
     let trade = Row {
@@ -60,9 +60,9 @@ pub extern "C" fn margin_take(
     value: u64,
     answer: &mut [u8],
 ) -> u64
-    ensures { Books (Take (row_by (side ∷ kind ∷ issuer ∷ maturity ∷ value ∷ currency ∷ rating ∷ []))) count (headBy (date ∷ letter ∷ []))
-        (makeSlices list.old totals.old answer.old)
-        (makeSlices list.new totals.new answer.new) result }
+    ensures { Books (Take (row_by (side ∷ kind ∷ issuer ∷ maturity ∷ value ∷ currency ∷ rating ∷ []))) count (head_by (date ∷ letter ∷ []))
+        (make_slices list.old totals.old answer.old)
+        (make_slices list.new totals.new answer.new) result }
 {
     let head = Head { date, letter };
     let trade = Row {
@@ -88,9 +88,9 @@ pub extern "C" fn margin_move(
     to: u64,
     answer: &mut [u8],
 ) -> u64
-    ensures { Books (MoveTo to) count (headBy (date ∷ letter ∷ []))
-        (makeSlices list.now totals.old answer.old)
-        (makeSlices list.now totals.new answer.new) result }
+    ensures { Books (MoveTo to) count (head_by (date ∷ letter ∷ []))
+        (make_slices list.now totals.old answer.old)
+        (make_slices list.now totals.new answer.new) result }
 {
     let head = Head { date, letter };
     records::move_to(list, count, totals, head, to, answer)

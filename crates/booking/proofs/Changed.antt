@@ -7,8 +7,8 @@ use lib.ListN.{length, take, drop, set, length-append, length-drop}
 use lib.Seq.{set_out, length-take-le, take-take, drop-drop}
 use Rattle.lists.specs.Tables.{front, overwrite}
 use Rattle.lists.proofs.Overwrite.{overwrite-none, length-overwrite}
-use Rattle.booking.specs.Seeing.{movedUp, changed}
-use Rattle.booking.specs.Settling.{noChange}
+use Rattle.booking.specs.Seeing.{moved_up, changed}
+use Rattle.booking.specs.Settling.{no_change}
 
 module _ {A : Type 0} where
   take_none : (n : ℕ) → take {A = A} n [] ≡ []
@@ -25,11 +25,11 @@ module _ {A : Type 0} where
   module _ (x : A) (xs : List A) where
     -- an entry is put
     pub put_only : (at value : ℕ) → changed (record { first = 1; end = 0; at = at; value = value }) x xs ≡ set xs at x
-    unfolding changed movedUp
+    unfolding changed moved_up
     put_only at value = ap (λ (l : List A). set l at x) (overwrite-none 0 xs)
 
     -- past the end
-    pub unchanged : (room : ℕ) → length xs ≡ room → changed (noChange room) x xs ≡ xs
+    pub unchanged : (room : ℕ) → length xs ≡ room → changed (no_change room) x xs ≡ xs
     unchanged room e = put_only room 0 ∙ set_out xs room x (omega (arith, e))
 
     -- entries after a place move up: the list without it, and the entry behind the new end as it was
@@ -51,8 +51,8 @@ module _ {A : Type 0} where
       without-long : length (take k xs ++ later) ≡ k + rest
       without-long = length-append (take k xs) later ∙ omega (arith, length-take-le k xs (omega arith), later-long)
 
-      moved : movedUp (k + 1) (k + 1 + rest) xs ≡ front (take k rows ++ drop (suc k) rows) xs
-      unfolding movedUp front overwrite
+      moved : moved_up (k + 1) (k + 1 + rest) xs ≡ front (take k rows ++ drop (suc k) rows) xs
+      unfolding moved_up front overwrite
       moved =
           let before : k + 1 - 1 ≡ k = omega arith in
           let left : k + 1 + rest - (k + 1) ≡ rest = omega arith in
@@ -64,10 +64,10 @@ module _ {A : Type 0} where
           ∙ ap (λ (m : ℕ). take k xs ++ later ++ drop m xs) (sym without-long)
           ∙ ap (λ (l : List A). l ++ drop (length l) xs) (sym without)
 
-      pub closes-up : (room value : ℕ) → length xs ≡ room
+      pub closes_up : (room value : ℕ) → length xs ≡ room
           → changed (record { first = k + 1; end = k + 1 + rest; at = room; value = value }) x xs ≡ front (take k rows ++ drop (suc k) rows) xs
       unfolding changed front
-      closes-up room value l =
+      closes_up room value l =
           ap (λ (ys : List A). set ys room x) moved
           ∙ set_out (front (take k rows ++ drop (suc k) rows) xs) room x
           (omega (

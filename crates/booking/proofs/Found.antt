@@ -5,14 +5,14 @@ use mathlib.Core.List.{List, [], ◌∷◌, ◌++◌}
 use Prim.Native.Nat.{ℕ, zero, suc, ◌+◌, ◌-◌, ◌*◌, ◌≤◌, ◌<◌}
 use native.Mathlib.Omega.{arith}
 use lib.ListN.{length, get_or, take, drop, set, length-set}
-use Rattle.lists.specs.Tables.{listTo, sum_of, only}
+use Rattle.lists.specs.Tables.{list_to, sum_of, only}
 use Rattle.lists.proofs.Sums.{only_same, only-other}
-use Rattle.lists.proofs.Tables.{getD-to}
-use Rattle.holding.specs.Holding.{holdingOf}
+use Rattle.lists.proofs.Tables.{get_or-to}
+use Rattle.holding.specs.Holding.{holding_of}
 use Rattle.holding.specs.declared.{Account.Account, Row.Row, Holding.Holding}
-use Rattle.rates.specs.Rate.{periodOf, rateOf}
+use Rattle.rates.specs.Rate.{period_of, rate_of}
 use Rattle.proposal.specs.Submission.{no_row}
-use Rattle.daybook.specs.Book.{alike, valued, place_in, heldIn, added, taken, marginOf, total_of, totalsOf}
+use Rattle.daybook.specs.Book.{alike, valued, place_in, held_in, added, taken, margin_of, total_of, totals_of}
 use Rattle.daybook.specs.Bookings.{Equal}
 use Rattle.daybook.proofs.Descriptions.{one-description}
 use Rattle.daybook.proofs.Trades.{First, Nowhere, held_first}
@@ -41,10 +41,10 @@ module _ (t : Row) where
             first = before r rs (place_in rs t) e f.first;
           })
 
-  pub nowhere-at : (rows : List Row) → place_in rows t ≡ length rows → Nowhere t rows
+  pub nowhere_at : (rows : List Row) → place_in rows t ≡ length rows → Nowhere t rows
   unfolding place_in
-  nowhere-at [] h = λ k q. absurd (omega arith)
-  nowhere-at (r ∷ rs) h = by (alike r t) refl (nowhere-at rs)
+  nowhere_at [] h = λ k q. absurd (omega arith)
+  nowhere_at (r ∷ rs) h = by (alike r t) refl (nowhere_at rs)
     where
       by : (b : Bool) → alike r t ≡ b → (place_in rs t ≡ length rs → Nowhere t rs) → Nowhere t (r ∷ rs)
       by true e later k q s = let never : 0 ≡ suc (length rs) = rw e at h in absurd (omega arith)
@@ -73,21 +73,21 @@ module _ {A : Type 0} (f : A → ℕ) (d : A) where
   sum-without (x ∷ xs) (suc k) h = omega (arith, sum-without xs k (omega arith))
 
 -- rows of one description have one period and one rate
-module _ (a : Account) (t : Row) (p rate : ℕ) (place : periodOf a t.maturity ≡ suc p) (units : rateOf a (holdingOf t) ≡ rate) where
+module _ (a : Account) (t : Row) (p rate : ℕ) (place : period_of a t.maturity ≡ suc p) (units : rate_of a (holding_of t) ≡ rate) where
   -- what a row of the description adds to a period's total
   unfoldable share : Row → ℕ → ℕ
-  share r k = only (periodOf a r.maturity) (marginOf a r) k
+  share r k = only (period_of a r.maturity) (margin_of a r) k
 
-  equal-rate : (r : Row) → Equal r t → rateOf a (holdingOf r) ≡ rate
-  unfolding rateOf holdingOf
+  equal-rate : (r : Row) → Equal r t → rate_of a (holding_of r) ≡ rate
+  unfolding rate_of holding_of
   equal-rate r e = rw (e.kind, e.issuer, e.maturity) units
 
   equal-share : (r : Row) → Equal r t → (k : ℕ) → share r k ≡ only (suc p) (rate * r.value) k
-  unfolding share marginOf
+  unfolding share margin_of
   equal-share r e k = rw (equal-rate r e, e.maturity, place)
 
-  own-share : (r : Row) → Equal r t → share r (suc p) ≡ rate * r.value
-  own-share r e = equal-share r e (suc p) ∙ only_same (suc p) (rate * r.value)
+  own_share : (r : Row) → Equal r t → share r (suc p) ≡ rate * r.value
+  own_share r e = equal-share r e (suc p) ∙ only_same (suc p) (rate * r.value)
 
   other-share : (r : Row) → Equal r t → (k : ℕ) → (k ≡ p → ⊥) → share r (suc k) ≡ 0
   other-share r e k o = equal-share r e (suc k) ∙ only-other (suc p) (rate * r.value) (suc k) (λ z. o (omega (arith, z)))
@@ -99,38 +99,38 @@ module _ (a : Account) (t : Row) (p rate : ℕ) (place : periodOf a t.maturity �
     -- the total of its period has its margin
     pub total-held : rate * old.value ≤ total_of a rows (suc p)
     unfolding total_of share
-    total-held = omega (arith, sum-without (λ r. share r (suc p)) no_row rows k f.counted, own-share old f.equal)
+    total-held = omega (arith, sum-without (λ r. share r (suc p)) no_row rows k f.counted, own_share old f.equal)
 
     -- another value
     module _ (n : Row) (e : Equal n t) where
       own-set : total_of a (set rows k n) (suc p) + rate * old.value ≡ total_of a rows (suc p) + rate * n.value
       unfolding total_of share
-      own-set = omega (arith, sum-set (λ r. share r (suc p)) no_row rows k n f.counted, own-share old f.equal, own-share n e)
+      own-set = omega (arith, sum-set (λ r. share r (suc p)) no_row rows k n f.counted, own_share old f.equal, own_share n e)
 
       other-set : (j : ℕ) → (j ≡ p → ⊥) → total_of a rows (suc j) ≡ total_of a (set rows k n) (suc j)
       unfolding total_of share
       other-set j o = omega (arith, sum-set (λ r. share r (suc j)) no_row rows k n f.counted, other-share old f.equal j o, other-share n e j o)
 
-      pub totals-set : (v : ℕ) → p < 5 → v + rate * old.value ≡ get_or (totalsOf a rows) p 0 + rate * n.value → set (totalsOf a rows) p v ≡ totalsOf a (set rows k n)
-      unfolding totalsOf
+      pub totals-set : (v : ℕ) → p < 5 → v + rate * old.value ≡ get_or (totals_of a rows) p 0 + rate * n.value → set (totals_of a rows) p v ≡ totals_of a (set rows k n)
+      unfolding totals_of
       totals-set v q h =
           set-total (λ j. total_of a rows (suc j)) (λ j. total_of a (set rows k n) (suc j)) p v q
-          (omega (arith, h, own-set, getD-to 5 (λ j. total_of a rows (suc j)) p 0 q)) other-set
+          (omega (arith, h, own-set, get_or-to 5 (λ j. total_of a rows (suc j)) p 0 q)) other-set
 
     -- and without it
     abbrev without : List Row
     without = take k rows ++ drop (suc k) rows
 
-    own-without : total_of a without (suc p) + rate * old.value ≡ total_of a rows (suc p)
+    own_without : total_of a without (suc p) + rate * old.value ≡ total_of a rows (suc p)
     unfolding total_of share
-    own-without = omega (arith, sum-without (λ r. share r (suc p)) no_row rows k f.counted, own-share old f.equal)
+    own_without = omega (arith, sum-without (λ r. share r (suc p)) no_row rows k f.counted, own_share old f.equal)
 
     other-without : (j : ℕ) → (j ≡ p → ⊥) → total_of a rows (suc j) ≡ total_of a without (suc j)
     unfolding total_of share
     other-without j o = omega (arith, sum-without (λ r. share r (suc j)) no_row rows k f.counted, other-share old f.equal j o)
 
-    pub totals-without : (v : ℕ) → p < 5 → v + rate * old.value ≡ get_or (totalsOf a rows) p 0 → set (totalsOf a rows) p v ≡ totalsOf a without
-    unfolding totalsOf
+    pub totals-without : (v : ℕ) → p < 5 → v + rate * old.value ≡ get_or (totals_of a rows) p 0 → set (totals_of a rows) p v ≡ totals_of a without
+    unfolding totals_of
     totals-without v q h =
         set-total (λ j. total_of a rows (suc j)) (λ j. total_of a without (suc j)) p v q
-        (omega (arith, h, own-without, getD-to 5 (λ j. total_of a rows (suc j)) p 0 q)) other-without
+        (omega (arith, h, own_without, get_or-to 5 (λ j. total_of a rows (suc j)) p 0 q)) other-without

@@ -11,27 +11,27 @@ use borrow.Author.Tests.{leb-true, leb-false, lt-leb, le-leb}
 use Rattle.lists.specs.Choice.{first_of}
 use Rattle.lists.specs.Tables.{Each, turns, in_turn, front}
 use Rattle.lists.proofs.Entries.{each_at}
-use Rattle.lists.proofs.Firsts.{None, first-append, first-of-none, first-refused, none_first}
+use Rattle.lists.proofs.Firsts.{None, first-append, first_of-none, first-refused, none_first}
 use Rattle.lists.proofs.Tests.{either_way}
-use Rattle.dates.specs.Calendar.{isDate}
+use Rattle.dates.specs.Calendar.{is_date}
 use Rattle.dates.proofs.Anniversaries.{anniversary-follows}
-use Rattle.holding.specs.Holding.{faultOf, rowFaults, Ranges, accountOf}
+use Rattle.holding.specs.Holding.{fault_of, row_faults, Ranges, account_of}
 use Rattle.holding.specs.declared.{Account.Account, Row.Row}
-use Rattle.holding.proofs.Ranges.{fault-none, none-fault, row_listed, row-refused}
-use Rattle.article.specs.Answer.{Answer, makeAnswer}
-use Rattle.proposal.specs.{Submission.no_row, Outcome.at_place, Outcome.firstFault}
-use Rattle.proposal.proofs.{Places.first-at, Places.zero-at, Clear.number}
-use Rattle.daybook.specs.Book.{totalsOf, head_of, accountAt}
-use Rattle.daybook.specs.Orders.{at_row, rowsFaults, dateFaults, atMatured, maturedFaults, orderFaults, holdingsAfter, dateAfter, stored, dayAfter, acceptedAnswer}
+use Rattle.holding.proofs.Ranges.{fault-none, none_fault, row_listed, row-refused}
+use Rattle.article.specs.Answer.{Answer, make_answer}
+use Rattle.proposal.specs.{Submission.no_row, Outcome.at_place, Outcome.first_fault}
+use Rattle.proposal.proofs.{Places.first-at, Places.zero_at, Clear.number}
+use Rattle.daybook.specs.Book.{totals_of, head_of, account_at}
+use Rattle.daybook.specs.Orders.{at_row, rows_faults, date_faults, at_matured, matured_faults, order_faults, holdings_after, date_after, stored, day_after, accepted_answer}
 use Rattle.daybook.specs.declared.Day.{Day}
 use Rattle.daybook.specs.declared.Order.{TheVariants.MoveTo}
 use Rattle.daybook.proofs.Written.{front_same}
-use Rattle.booking.specs.Seeing.{tradeOf, onDate, Seen}
-use Rattle.booking.specs.Settling.{noChange, refusalOf, acceptanceOf, settlement, Settles, Held}
+use Rattle.booking.specs.Seeing.{trade_of, on_date, Seen}
+use Rattle.booking.specs.Settling.{no_change, refusal_of, acceptance_of, settlement, Settles, Held}
 use Rattle.booking.specs.declared.{Scan.Scan, Outcome.Outcome}
 use Rattle.booking.proofs.Changed.{unchanged}
 use Rattle.booking.proofs.Seen.{rows-clear, rows-numbered}
-use Rattle.booking.proofs.Settled.{settles-refused, settles-accepted}
+use Rattle.booking.proofs.Settled.{settles_refused, settles_accepted}
 
 -- lists in turn whose firsts are the same, whatever follows
 turns-first : (f g : ℕ → List (Bool × Answer)) (i k : ℕ) → ((m : ℕ) → m < i + k → (w : Answer) → first_of (f m) w ≡ first_of (g m) w)
@@ -46,17 +46,17 @@ turns-first f g i (suc k) h z =
 
 module _ (a : Account) (to : ℕ) (later : a.date < to) where
   abbrev then : Account
-  then = onDate to a
+  then = on_date to a
 
-  matured : (r : Row) → Ranges a r → r.maturity ≤ to → faultOf then r ≡ 7
-  unfolding onDate
+  matured : (r : Row) → Ranges a r → r.maturity ≤ to → fault_of then r ≡ 7
+  unfolding on_date
   matured r g h = (row-refused then r).term g.identity g.maturity.date (inl h)
 
-  unmatured : (r : Row) → Ranges a r → to < r.maturity → faultOf then r ≡ 0
-  unfolding onDate
+  unmatured : (r : Row) → Ranges a r → to < r.maturity → fault_of then r ≡ 0
+  unfolding on_date
   unmatured r g h =
       let follows = anniversary-follows a.date to 100 (omega arith) in
-      none-fault then r (record {
+      none_fault then r (record {
         identity = g.identity;
         maturity = record { date = g.maturity.date; after = h; until = omega (arith, g.maturity.until, follows) };
         value = g.value;
@@ -73,65 +73,65 @@ module _ (a : Account) (to : ℕ) (later : a.date < to) where
   nothing t e = rw e
 
   -- of one holding, and of all
-  first-of : (r : Row) (k : ℕ) → faultOf a r ≡ 0 → (w : Answer) → first_of (at_place k (rowFaults then r)) w ≡ first_of (at_place k ((leb r.maturity to, 7) ∷ [])) w
-  unfolding faultOf
-  first-of r k e w =
+  first_of_lem : (r : Row) (k : ℕ) → fault_of a r ≡ 0 → (w : Answer) → first_of (at_place k (row_faults then r)) w ≡ first_of (at_place k ((leb r.maturity to, 7) ∷ [])) w
+  unfolding fault_of
+  first_of_lem r k e w =
       let g = fault-none a r e in
       either_way (leb r.maturity to)
-      (λ t. first-at k (rowFaults then r) 7 (sym (matured r g (leb-true _ _ t))) (λ z. omega arith) w
+      (λ t. first-at k (row_faults then r) 7 (sym (matured r g (leb-true _ _ t))) (λ z. omega arith) w
       ∙ sym (first-at k ((leb r.maturity to, 7) ∷ []) 7 (seven _ t) (λ z. omega arith) w))
-      (λ f. first-of-none (at_place k (rowFaults then r)) w (zero-at k (rowFaults then r) (row_listed then r) (unmatured r g (leb-false _ _ f)))
-      ∙ sym (first-of-none (at_place k ((leb r.maturity to, 7) ∷ [])) w (zero-at k ((leb r.maturity to, 7) ∷ []) (omega arith, tt) (nothing _ f))))
+      (λ f. first_of-none (at_place k (row_faults then r)) w (zero_at k (row_faults then r) (row_listed then r) (unmatured r g (leb-false _ _ f)))
+      ∙ sym (first_of-none (at_place k ((leb r.maturity to, 7) ∷ [])) w (zero_at k ((leb r.maturity to, 7) ∷ []) (omega arith, tt) (nothing _ f))))
 
-  pub first-matured : (rows : List Row) → Each (λ r. faultOf a r ≡ 0) rows → (z : Answer) → first_of (rowsFaults then rows) z ≡ first_of (maturedFaults rows to) z
-  unfolding rowsFaults maturedFaults in_turn at_row atMatured
+  pub first-matured : (rows : List Row) → Each (λ r. fault_of a r ≡ 0) rows → (z : Answer) → first_of (rows_faults then rows) z ≡ first_of (matured_faults rows to) z
+  unfolding rows_faults matured_faults in_turn at_row at_matured
   first-matured rows h z =
-      turns-first (at_row then rows) (atMatured rows to) 0 (length rows)
-      (λ m q w. first-of (get_or rows m no_row) m (each_at (λ r. faultOf a r ≡ 0) no_row rows h m (omega arith)) w) z
+      turns-first (at_row then rows) (at_matured rows to) 0 (length rows)
+      (λ m q w. first_of_lem (get_or rows m no_row) m (each_at (λ r. fault_of a r ≡ 0) no_row rows h m (omega arith)) w) z
 
 module _ {d : Day} {room to : ℕ} {rows : List Row} (held : Held d room rows) where
   -- no date
-  pub moving-unreal : {r : Outcome} → isDate to ≡ false → r ≡ refusalOf d room 24 0 → Settles d room rows (MoveTo to) r
-  unfolding settlement orderFaults dateFaults at_place first_of
-  moving-unreal e q = settles-refused q (λ z. omega arith) (rw e)
+  pub moving_unreal : {r : Outcome} → is_date to ≡ false → r ≡ refusal_of d room 24 0 → Settles d room rows (MoveTo to) r
+  unfolding settlement order_faults date_faults at_place first_of
+  moving_unreal e q = settles_refused q (λ z. omega arith) (rw e)
 
-  module _ (real : isDate to ≡ true) where
+  module _ (real : is_date to ≡ true) where
     -- not later
-    pub moving-back : {r : Outcome} → to ≤ d.date → r ≡ refusalOf d room 27 0 → Settles d room rows (MoveTo to) r
-    unfolding settlement orderFaults dateFaults at_place first_of
-    moving-back h q = settles-refused q (λ z. omega arith) (rw (real, le-leb to d.date h))
+    pub moving_back : {r : Outcome} → to ≤ d.date → r ≡ refusal_of d room 27 0 → Settles d room rows (MoveTo to) r
+    unfolding settlement order_faults date_faults at_place first_of
+    moving_back h q = settles_refused q (λ z. omega arith) (rw (real, le-leb to d.date h))
 
     module _ (later : d.date < to) where
-      from-matured : (z : Answer) → first_of (orderFaults room d rows (MoveTo to)) z ≡ first_of (maturedFaults rows to) z
-      unfolding orderFaults dateFaults at_place first_of
+      from-matured : (z : Answer) → first_of (order_faults room d rows (MoveTo to)) z ≡ first_of (matured_faults rows to) z
+      unfolding order_faults date_faults at_place first_of
       from-matured z = rw (real, lt-leb to d.date later)
 
-      account-later : (accountAt d).date < to
-      unfolding accountAt accountOf head_of
+      account-later : (account_at d).date < to
+      unfolding account_at account_of head_of
       account-later = later
 
-      same_first : (z : Answer) → first_of (rowsFaults (onDate to (accountAt d)) rows) z ≡ first_of (maturedFaults rows to) z
-      same_first z = first-matured (accountAt d) to account-later rows (rows-clear (accountAt d) rows held.clear) z
+      same_first : (z : Answer) → first_of (rows_faults (on_date to (account_at d)) rows) z ≡ first_of (matured_faults rows to) z
+      same_first z = first-matured (account_at d) to account-later rows (rows-clear (account_at d) rows held.clear) z
 
-      module _ {t : Row} {moved : Scan} (seen : Seen (onDate to (accountAt d)) t rows moved) where
+      module _ {t : Row} {moved : Scan} (seen : Seen (on_date to (account_at d)) t rows moved) where
         -- matured by then
-        pub moving-matured : {r : Outcome} → (moved.number ≡ 0 → ⊥) → r ≡ refusalOf d room moved.number moved.place → Settles d room rows (MoveTo to) r
+        pub moving_matured : {r : Outcome} → (moved.number ≡ 0 → ⊥) → r ≡ refusal_of d room moved.number moved.place → Settles d room rows (MoveTo to) r
         unfolding settlement
-        moving-matured other q =
-            settles-refused q other
+        moving_matured other q =
+            settles_refused q other
             (from-matured _ ∙ sym (same_first _)
-            ∙ first-refused number (rowsFaults (onDate to (accountAt d)) rows) (makeAnswer 0 0 0) (acceptedAnswer rows (MoveTo to)) refl (λ z. other (ap number seen.fault ∙ z))
+            ∙ first-refused number (rows_faults (on_date to (account_at d)) rows) (make_answer 0 0 0) (accepted_answer rows (MoveTo to)) refl (λ z. other (ap number seen.fault ∙ z))
             ∙ sym seen.fault)
 
         -- none has
-        pub moving-on : {r : Outcome} → moved.number ≡ 0
-            → r ≡ acceptanceOf (record { date = to; letter = d.letter; count = d.count; totals = moved.totals }) (noChange room)
+        pub moving_on : {r : Outcome} → moved.number ≡ 0
+            → r ≡ acceptance_of (record { date = to; letter = d.letter; count = d.count; totals = moved.totals }) (no_change room)
             → Settles d room rows (MoveTo to) r
-        unfolding settlement dayAfter dateAfter holdingsAfter stored accountAt accountOf head_of onDate
-        moving-on e q =
-            settles-accepted q
+        unfolding settlement day_after date_after holdings_after stored account_at account_of head_of on_date
+        moving_on e q =
+            settles_accepted q
             (from-matured _ ∙ sym (same_first _)
-            ∙ first-of-none (rowsFaults (onDate to (accountAt d)) rows) _ (none_first number (rowsFaults (onDate to (accountAt d)) rows) (makeAnswer 0 0 0)
-            (rows-numbered (onDate to (accountAt d)) rows) (sym (ap number seen.fault) ∙ e)).0)
+            ∙ first_of-none (rows_faults (on_date to (account_at d)) rows) _ (none_first number (rows_faults (on_date to (account_at d)) rows) (make_answer 0 0 0)
+            (rows-numbered (on_date to (account_at d)) rows) (sym (ap number seen.fault) ∙ e)).0)
             (λ i. record { date = to; letter = d.letter; count = sym held.count i; totals = (seen.clear e).totals i })
             (λ xs l k. unchanged _ xs room l ∙ sym (ap (λ (ys : List Row). front ys xs) (sym k) ∙ front_same (length rows) xs (omega (arith, l, held.within))))

@@ -6,52 +6,52 @@ use Prim.Native.Nat.{ℕ, suc, ◌+◌, ◌*◌, ◌≤◌, ◌<◌}
 use native.Mathlib.Omega.{arith}
 use lib.ListN.{length, get_or, set}
 use Rattle.lists.specs.Choice.{first_of}
-use Rattle.lists.specs.Tables.{Each, turns, in_turn, listTo, sum_of}
+use Rattle.lists.specs.Tables.{Each, turns, in_turn, list_to, sum_of}
 use Rattle.lists.proofs.Entries.{at_each}
-use Rattle.lists.proofs.Firsts.{None, Numbered, first-append, first-of-none, first_found, none_first, none-in-turn, in-turn-none, numbered-in-turn}
+use Rattle.lists.proofs.Firsts.{None, Numbered, first-append, first_of-none, first_found, none_first, none-in_turn, in_turn-none, numbered-in_turn}
 use Rattle.lists.proofs.Tests.{same_or_not}
-use Rattle.dates.specs.Calendar.{isDate}
-use Rattle.holding.specs.Holding.{rowFaults, faultOf, holdingOf}
+use Rattle.dates.specs.Calendar.{is_date}
+use Rattle.holding.specs.Holding.{row_faults, fault_of, holding_of}
 use Rattle.holding.specs.declared.{Account.Account, Row.Row}
 use Rattle.holding.proofs.Ranges.{row_listed, none-of-row}
-use Rattle.rates.specs.Rate.{periodOf, rateOf}
-use Rattle.article.specs.Answer.{Answer, makeAnswer}
-use Rattle.proposal.specs.{Submission.no_row, Submission.marginLimit, Outcome.at_place, Outcome.firstFault}
-use Rattle.proposal.proofs.{Places.none-at, Places.at_none, Places.listed_at, Places.zero-at, Places.first-at, Clear.number}
-use Rattle.daybook.specs.Book.{alike, place_in, heldIn, marginOf, total_of, totalsOf}
-use Rattle.daybook.specs.Orders.{at_row, rowsFaults}
+use Rattle.rates.specs.Rate.{period_of, rate_of}
+use Rattle.article.specs.Answer.{Answer, make_answer}
+use Rattle.proposal.specs.{Submission.no_row, Submission.margin_limit, Outcome.at_place, Outcome.first_fault}
+use Rattle.proposal.proofs.{Places.none-at, Places.at_none, Places.listed_at, Places.zero_at, Places.first-at, Clear.number}
+use Rattle.daybook.specs.Book.{alike, place_in, held_in, margin_of, total_of, totals_of}
+use Rattle.daybook.specs.Orders.{at_row, rows_faults}
 use Rattle.booking.specs.Seeing.{Counted, Seen, Countable}
 use Rattle.booking.specs.declared.Scan.{Scan}
 use Rattle.booking.proofs.Rows.{faults-more, place-few, found-more, none_more, totals-more, totals-high}
 
 -- every refusal of a holding has a number
-pub rows-numbered : (a : Account) (rows : List Row) → Numbered number (rowsFaults a rows)
-unfolding rowsFaults at_row
-rows-numbered a rows = numbered-in-turn number (at_row a rows) (λ k. listed_at k _ (row_listed a _)) (length rows)
+pub rows-numbered : (a : Account) (rows : List Row) → Numbered number (rows_faults a rows)
+unfolding rows_faults at_row
+rows-numbered a rows = numbered-in_turn number (at_row a rows) (λ k. listed_at k _ (row_listed a _)) (length rows)
 
 -- holdings without fault, one by one
-pub rows-clear : (a : Account) (rows : List Row) → (firstFault (rowsFaults a rows)).number ≡ 0 → Each (λ r. faultOf a r ≡ 0) rows
-unfolding rowsFaults at_row faultOf
+pub rows-clear : (a : Account) (rows : List Row) → (first_fault (rows_faults a rows)).number ≡ 0 → Each (λ r. fault_of a r ≡ 0) rows
+unfolding rows_faults at_row fault_of
 rows-clear a rows e =
-    let none = (none_first number (rowsFaults a rows) (makeAnswer 0 0 0) (rows-numbered a rows) e).0 in
-    at_each (λ r. faultOf a r ≡ 0) no_row rows (λ k q.
-    first-of-none (rowFaults a (get_or rows k no_row)) 0 (at_none k (rowFaults a (get_or rows k no_row)) (in-turn-none (at_row a rows) (length rows) none k q)))
+    let none = (none_first number (rows_faults a rows) (make_answer 0 0 0) (rows-numbered a rows) e).0 in
+    at_each (λ r. fault_of a r ≡ 0) no_row rows (λ k q.
+    first_of-none (row_faults a (get_or rows k no_row)) 0 (at_none k (row_faults a (get_or rows k no_row)) (in_turn-none (at_row a rows) (length rows) none k q)))
 
 module _ {a : Account} {t : Row} {rows : List Row} {s : Scan} (seen : Seen a t rows s) where
-  first-number : (firstFault (rowsFaults a rows)).number ≡ s.number
+  first-number : (first_fault (rows_faults a rows)).number ≡ s.number
   first-number = sym (ap number seen.fault)
 
   -- nothing was found: the place is 0
   place_none : s.number ≡ 0 → s.place ≡ 0
   place_none e =
-      ap (λ (x : Answer). x.first) (seen.fault ∙ first-of-none (rowsFaults a rows) _ (none_first number (rowsFaults a rows) (makeAnswer 0 0 0) (rows-numbered a rows) (first-number ∙ e)).0)
+      ap (λ (x : Answer). x.first) (seen.fault ∙ first_of-none (rows_faults a rows) _ (none_first number (rows_faults a rows) (make_answer 0 0 0) (rows-numbered a rows) (first-number ∙ e)).0)
 
-  pub seen-clear : s.number ≡ 0 → Each (λ r. faultOf a r ≡ 0) rows
+  pub seen-clear : s.number ≡ 0 → Each (λ r. fault_of a r ≡ 0) rows
   seen-clear e = rows-clear a rows (first-number ∙ e)
 
   -- there is room for one more
-  pub seen-countable : {i : ℕ} → isDate a.date ≡ true → length rows ≡ i → i < 256 → Countable a i s
-  seen-countable valued l few = record {
+  pub seen_countable : {i : ℕ} → is_date a.date ≡ true → length rows ≡ i → i < 256 → Countable a i s
+  seen_countable valued l few = record {
     valued = valued;
     few = few;
     low = λ e k. rw ((seen.clear e).totals, ← l) (totals-high a valued rows (seen-clear e) k);
@@ -66,48 +66,48 @@ module _ {a : Account} {t : Row} {rows : List Row} {s : Scan} (seen : Seen a t r
     seen-refused h = record {
       fault =
           seen.fault
-          ∙ sym (ap firstFault (faults-more a rows r)
-          ∙ first_found number (rowsFaults a rows) (at_place (length rows) (rowFaults a r)) (makeAnswer 0 0 0) (makeAnswer 0 0 0) refl (λ z. h (sym first-number ∙ z)));
+          ∙ sym (ap first_fault (faults-more a rows r)
+          ∙ first_found number (rows_faults a rows) (at_place (length rows) (row_faults a r)) (make_answer 0 0 0) (make_answer 0 0 0) refl (λ z. h (sym first-number ∙ z)));
       clear = λ z. absurd (h z);
     }
 
     module _ (e : s.number ≡ 0) where
-      passed : (w : Answer) → first_of (rowsFaults a rows) w ≡ w
-      passed w = first-of-none (rowsFaults a rows) w (none_first number (rowsFaults a rows) (makeAnswer 0 0 0) (rows-numbered a rows) (first-number ∙ e)).0
+      passed : (w : Answer) → first_of (rows_faults a rows) w ≡ w
+      passed w = first_of-none (rows_faults a rows) w (none_first number (rows_faults a rows) (make_answer 0 0 0) (rows-numbered a rows) (first-number ∙ e)).0
 
       -- the last decides
-      last : firstFault (rowsFaults a more) ≡ firstFault (at_place (length rows) (rowFaults a r))
-      last = ap firstFault (faults-more a rows r) ∙ first-append (rowsFaults a rows) (at_place (length rows) (rowFaults a r)) (makeAnswer 0 0 0) ∙ passed _
+      last : first_fault (rows_faults a more) ≡ first_fault (at_place (length rows) (row_faults a r))
+      last = ap first_fault (faults-more a rows r) ∙ first-append (rows_faults a rows) (at_place (length rows) (row_faults a r)) (make_answer 0 0 0) ∙ passed _
 
       -- its fault is the first
-      pub seen-fault : {n i : ℕ} {next : Scan} → length rows ≡ i → n ≡ faultOf a r → (n ≡ 0 → ⊥) → next.number ≡ n → next.place ≡ i → Seen a t more next
-      unfolding faultOf
+      pub seen-fault : {n i : ℕ} {next : Scan} → length rows ≡ i → n ≡ fault_of a r → (n ≡ 0 → ⊥) → next.number ≡ n → next.place ≡ i → Seen a t more next
+      unfolding fault_of
       seen-fault {n} {i} {next} l f other g p = record {
         fault =
-            (λ j. makeAnswer (g j) ((p ∙ sym l) j) 0)
-            ∙ sym (last ∙ first-at (length rows) (rowFaults a r) n f other (makeAnswer 0 0 0));
+            (λ j. make_answer (g j) ((p ∙ sym l) j) 0)
+            ∙ sym (last ∙ first-at (length rows) (row_faults a r) n f other (make_answer 0 0 0));
         clear = λ z. absurd (other (sym g ∙ z));
       }
 
       -- it has none, and is counted
-      pub seen-counted : {next : Scan} → faultOf a r ≡ 0 → next.number ≡ s.number → next.place ≡ s.place → Counted a t more next → Seen a t more next
-      unfolding faultOf
+      pub seen-counted : {next : Scan} → fault_of a r ≡ 0 → next.number ≡ s.number → next.place ≡ s.place → Counted a t more next → Seen a t more next
+      unfolding fault_of
       seen-counted {next} f g p c = record {
         fault =
-            (λ j. makeAnswer ((g ∙ e) j) ((p ∙ place_none e) j) 0)
-            ∙ sym (last ∙ first-of-none (at_place (length rows) (rowFaults a r)) (makeAnswer 0 0 0) (zero-at (length rows) (rowFaults a r) (row_listed a r) f));
+            (λ j. make_answer ((g ∙ e) j) ((p ∙ place_none e) j) 0)
+            ∙ sym (last ∙ first_of-none (at_place (length rows) (row_faults a r)) (make_answer 0 0 0) (zero_at (length rows) (row_faults a r) (row_listed a r) f));
         clear = λ _. c;
       }
 
       -- its margin is added to its period's total
-      module _ {p m : ℕ} (low : p < 5) (period : periodOf a r.maturity ≡ suc p) (margin : m ≡ marginOf a r) where
-        pub totals-next : set s.totals p (get_or s.totals p 0 + m) ≡ totalsOf a more
+      module _ {p m : ℕ} (low : p < 5) (period : period_of a r.maturity ≡ suc p) (margin : m ≡ margin_of a r) where
+        pub totals-next : set s.totals p (get_or s.totals p 0 + m) ≡ totals_of a more
         totals-next = rw ((seen.clear e).totals, margin) (totals-more a rows r p low period)
 
       module _ {i : ℕ} (l : length rows ≡ i) where
         -- it is equal to the trade, and the first
-        pub counted-here : {next : Scan} → s.at ≡ i → alike r t ≡ true → next.at ≡ s.at → next.held ≡ r.value → next.totals ≡ totalsOf a more → Counted a t more next
-        unfolding place_in heldIn
+        pub counted-here : {next : Scan} → s.at ≡ i → alike r t ≡ true → next.at ≡ s.at → next.held ≡ r.value → next.totals ≡ totals_of a more → Counted a t more next
+        unfolding place_in held_in
         counted-here {next} w b g h c =
             let (p, v, n) = none_more t r rows (sym (seen.clear e).at ∙ w ∙ sym l) in
             record {
@@ -117,9 +117,9 @@ module _ {a : Account} {t : Row} {rows : List Row} {s : Scan} (seen : Seen a t r
             }
 
         -- neither it nor any before it is equal
-        pub counted-past : {next : Scan} → s.at ≡ i → alike r t ≡ false → next.at ≡ i + 1 → next.held ≡ s.held → next.totals ≡ totalsOf a more → Counted a t more next
-        unfolding place_in heldIn
-        counted-past {next} w b g h c =
+        pub counted_past : {next : Scan} → s.at ≡ i → alike r t ≡ false → next.at ≡ i + 1 → next.held ≡ s.held → next.totals ≡ totals_of a more → Counted a t more next
+        unfolding place_in held_in
+        counted_past {next} w b g h c =
             let (p, v, n) = none_more t r rows (sym (seen.clear e).at ∙ w ∙ sym l) in
             record {
               at = g ∙ ap (λ (x : ℕ). x + 1) (sym l) ∙ sym (p ∙ rw b);
@@ -128,8 +128,8 @@ module _ {a : Account} {t : Row} {rows : List Row} {s : Scan} (seen : Seen a t r
             }
 
         -- one before it is
-        pub counted-later : {next : Scan} → (s.at ≡ i → ⊥) → next.at ≡ s.at → next.held ≡ s.held → next.totals ≡ totalsOf a more → Counted a t more next
-        counted-later {next} w g h c =
+        pub counted_later : {next : Scan} → (s.at ≡ i → ⊥) → next.at ≡ s.at → next.held ≡ s.held → next.totals ≡ totals_of a more → Counted a t more next
+        counted_later {next} w g h c =
             let few : place_in rows t ≤ length rows = place-few t rows in
             let found : place_in rows t < length rows = same_or_not (place_in rows t) (length rows) (λ z. absurd (w ((seen.clear e).at ∙ z ∙ l))) (λ z. omega arith) in
             let (p, v) = found-more t r rows found in
@@ -141,8 +141,8 @@ module _ {a : Account} {t : Row} {rows : List Row} {s : Scan} (seen : Seen a t r
 
 -- nothing was seen yet
 pub seen_none : (a : Account) (t : Row) (s : Scan) → s.number ≡ 0 → s.place ≡ 0 → s.at ≡ 0 → s.held ≡ 0 → s.totals ≡ 0 ∷ 0 ∷ 0 ∷ 0 ∷ 0 ∷ [] → Seen a t [] s
-unfolding rowsFaults in_turn turns first_of place_in heldIn totalsOf total_of sum_of listTo
+unfolding rows_faults in_turn turns first_of place_in held_in totals_of total_of sum_of list_to
 seen_none a t s n p w h c = record {
-  fault = λ j. makeAnswer (n j) (p j) 0;
+  fault = λ j. make_answer (n j) (p j) 0;
   clear = λ _. record { at = w; held = h; totals = c };
 }

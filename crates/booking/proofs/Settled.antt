@@ -10,41 +10,41 @@ use lib.Seq.{length-take-le}
 use borrow.Author.Tests.{eq-eqb, ne_eqb, lt-ltb, le-ltb}
 use Rattle.lists.specs.Choice.{first_of}
 use Rattle.lists.specs.Tables.{front}
-use Rattle.lists.proofs.Firsts.{None, Listed, first-of-none, first-passed, none_first, none-append, numbered-append}
+use Rattle.lists.proofs.Firsts.{None, Listed, first_of-none, first-passed, none_first, none-append, numbered-append}
 use Rattle.lists.proofs.Tests.{same_or_not}
 use Rattle.holding.specs.declared.{Account.Account, Row.Row}
-use Rattle.article.specs.Answer.{Answer, makeAnswer}
+use Rattle.article.specs.Answer.{Answer, make_answer}
 use Rattle.proposal.specs.{Submission.no_row, Outcome.at_place}
-use Rattle.proposal.proofs.Places.{none-at, first-at, zero-at}
-use Rattle.daybook.specs.Book.{valued, place_in, heldIn, added, taken, marginOf, totalsOf, head_of, accountAt}
-use Rattle.daybook.specs.Orders.{answer_of, descriptionFaults, sumFaults, joins, joinFaults, takingFaults, orderFaults, holdingsAfter, dateAfter, stored, dayAfter, acceptedAnswer}
+use Rattle.proposal.proofs.Places.{none-at, first-at, zero_at}
+use Rattle.daybook.specs.Book.{valued, place_in, held_in, added, taken, margin_of, totals_of, head_of, account_at}
+use Rattle.daybook.specs.Orders.{answer_of, description_faults, sum_faults, joins, join_faults, taking_faults, order_faults, holdings_after, date_after, stored, day_after, accepted_answer}
 use Rattle.daybook.specs.declared.{Day.Day, Reply.Reply}
 use Rattle.daybook.specs.declared.Order.{Order, TheVariants.Add, TheVariants.Take, TheVariants.MoveTo}
 use Rattle.daybook.proofs.Described.{description-listed}
-use Rattle.daybook.proofs.Trades.{First, held_first, added-first, Nowhere, held_none, added_none, taken-part, taken-whole}
+use Rattle.daybook.proofs.Trades.{First, held_first, added_first, Nowhere, held_none, added_none, taken_part, taken_whole}
 use Rattle.daybook.proofs.Written.{front-set, front-joined}
-use Rattle.booking.specs.Seeing.{tradeOf, Counted, movedUp, changed, Fits}
-use Rattle.booking.specs.Settling.{noChange, refusalOf, acceptanceOf, addingFaults, settlement, Settles, Held, Traded, Rated}
+use Rattle.booking.specs.Seeing.{trade_of, Counted, moved_up, changed, Fits}
+use Rattle.booking.specs.Settling.{no_change, refusal_of, acceptance_of, adding_faults, settlement, Settles, Held, Traded, Rated}
 use Rattle.booking.specs.declared.{Scan.Scan, Change.Change, Outcome.Outcome}
-use Rattle.booking.proofs.Changed.{put_only, unchanged, closes-up}
-use Rattle.booking.proofs.Found.{first-at as first-found-at, nowhere-at, valued_equal, total-held, totals-set, totals-without}
+use Rattle.booking.proofs.Changed.{put_only, unchanged, closes_up}
+use Rattle.booking.proofs.Found.{first-at as first-found-at, nowhere_at, valued_equal, total-held, totals-set, totals-without}
 use Rattle.booking.proofs.Rows.{place-few, totals-more}
 use Rattle.booking.proofs.Tested.{adds-listed, adds-sum, adds-few, adds-room}
 
 module _ {d : Day} {room : ℕ} {rows : List Row} {o : Order} where
-  pub settles-refused : {n k : ℕ} {r : Outcome} → r ≡ refusalOf d room n k → (n ≡ 0 → ⊥) → settlement d room rows o ≡ makeAnswer n k 0 → Settles d room rows o r
-  settles-refused {n} s other e =
+  pub settles_refused : {n k : ℕ} {r : Outcome} → r ≡ refusal_of d room n k → (n ≡ 0 → ⊥) → settlement d room rows o ≡ make_answer n k 0 → Settles d room rows o r
+  settles_refused {n} s other e =
       let no : eqb (settlement d room rows o).number 0 ≡ false = ap (λ (a : Answer). eqb a.number 0) e ∙ ne_eqb n 0 other in
       rw s (record { answer = sym e; day = rw no; list = λ xs l _. rw no (unchanged _ xs room l) })
 
-  pub settles-accepted : {d' : Day} {c : Change} {r : Outcome} → r ≡ acceptanceOf d' c → settlement d room rows o ≡ acceptedAnswer rows o → d' ≡ dayAfter d rows o
-      → ((xs : List Row) → length xs ≡ room → take (length rows) xs ≡ rows → changed c (valued (tradeOf o) c.value) xs ≡ front (holdingsAfter o rows) xs)
+  pub settles_accepted : {d' : Day} {c : Change} {r : Outcome} → r ≡ acceptance_of d' c → settlement d room rows o ≡ accepted_answer rows o → d' ≡ day_after d rows o
+      → ((xs : List Row) → length xs ≡ room → take (length rows) xs ≡ rows → changed c (valued (trade_of o) c.value) xs ≡ front (holdings_after o rows) xs)
       → Settles d room rows o r
-  unfolding acceptedAnswer dayAfter stored settlement
-  settles-accepted {d'} s found e h =
+  unfolding accepted_answer day_after stored settlement
+  settles_accepted {d'} s found e h =
       let yes : eqb (settlement d room rows o).number 0 ≡ true = ap (λ (a : Answer). eqb a.number 0) found in
       rw s (record {
-        answer = ap (λ (x : Day). makeAnswer 0 x.count 0) e ∙ sym found;
+        answer = ap (λ (x : Day). make_answer 0 x.count 0) e ∙ sym found;
         day = rw yes e;
         list = λ xs l t. rw yes (h xs l t);
       })
@@ -52,7 +52,7 @@ module _ {d : Day} {room : ℕ} {rows : List Row} {o : Order} where
 pub fits-put : {room at value : ℕ} → Fits room (record { first = 1; end = 0; at = at; value = value })
 fits-put = record { from = omega arith; until = omega arith }
 
-pub refusal-fits : {d : Day} {room n k : ℕ} {r : Outcome} → r ≡ refusalOf d room n k → Fits room r.change
+pub refusal-fits : {d : Day} {room n k : ℕ} {r : Outcome} → r ≡ refusal_of d room n k → Fits room r.change
 refusal-fits s = rw s fits-put
 
 -- the place that was counted is one of the holdings', or past their end
@@ -62,57 +62,57 @@ place-there {d} {room} {t} {s} {rows} traded other =
     same_or_not s.at d.count (λ e. absurd (other e)) (λ o. omega arith)
 
 -- what refuses a taking
-pub takes-zero : (held value : ℕ) → value ≡ 0 → 27 ≡ first_of (takingFaults held value) 0
-unfolding takingFaults first_of
-takes-zero held value e = rw (eq-eqb value 0 e)
+pub takes_zero : (held value : ℕ) → value ≡ 0 → 27 ≡ first_of (taking_faults held value) 0
+unfolding taking_faults first_of
+takes_zero held value e = rw (eq-eqb value 0 e)
 
-pub takes-more : (held value : ℕ) → held < value → 27 ≡ first_of (takingFaults held value) 0
-unfolding takingFaults first_of
+pub takes-more : (held value : ℕ) → held < value → 27 ≡ first_of (taking_faults held value) 0
+unfolding taking_faults first_of
 takes-more held value h = rw (lt-ltb held value h, or-true (eqb value 0))
 
 -- a trade on holdings without fault
-module _ {d : Day} {room : ℕ} {t : Row} {s : Scan} {rows : List Row} {p rate : ℕ} (traded : Traded d room t s rows) (rated : Rated (accountAt d) t p rate) where
+module _ {d : Day} {room : ℕ} {t : Row} {s : Scan} {rows : List Row} {p rate : ℕ} (traded : Traded d room t s rows) (rated : Rated (account_at d) t p rate) where
   abbrev a : Account
-  a = accountAt d
+  a = account_at d
 
-  at-place : s.at ≡ place_in rows t
-  at-place = traded.counted.at
+  at_place_lem : s.at ≡ place_in rows t
+  at_place_lem = traded.counted.at
 
-  held-there : s.held ≡ heldIn rows t
+  held-there : s.held ≡ held_in rows t
   held-there = traded.counted.held
 
-  totals-there : d.totals ≡ totalsOf a rows
+  totals-there : d.totals ≡ totals_of a rows
   totals-there = traded.totals ∙ traded.counted.totals
 
   -- what refuses an adding, by the numbers that were counted
-  adding-faults : orderFaults room d rows (Add t) ≡ at_place 0 (descriptionFaults a t ++ addingFaults s.held t.value (eqb s.at d.count) d.count room)
-  unfolding orderFaults addingFaults joinFaults joins
-  adding-faults =
-      let description = descriptionFaults a t in
-      ap (at_place 0) (append_assoc description (sumFaults (heldIn rows t) t.value) (joinFaults room rows t))
-      ∙ ap (λ (h : ℕ). at_place 0 (description ++ addingFaults h t.value (eqb (place_in rows t) (length rows)) (length rows) room)) (sym held-there)
-      ∙ ap (λ (k : ℕ). at_place 0 (description ++ addingFaults s.held t.value (eqb k (length rows)) (length rows) room)) (sym at-place)
-      ∙ ap (λ (n : ℕ). at_place 0 (description ++ addingFaults s.held t.value (eqb s.at n) n room)) traded.held.count
+  adding_faults_lem : order_faults room d rows (Add t) ≡ at_place 0 (description_faults a t ++ adding_faults s.held t.value (eqb s.at d.count) d.count room)
+  unfolding order_faults adding_faults join_faults joins
+  adding_faults_lem =
+      let description = description_faults a t in
+      ap (at_place 0) (append_assoc description (sum_faults (held_in rows t) t.value) (join_faults room rows t))
+      ∙ ap (λ (h : ℕ). at_place 0 (description ++ adding_faults h t.value (eqb (place_in rows t) (length rows)) (length rows) room)) (sym held-there)
+      ∙ ap (λ (k : ℕ). at_place 0 (description ++ adding_faults s.held t.value (eqb k (length rows)) (length rows) room)) (sym at_place_lem)
+      ∙ ap (λ (n : ℕ). at_place 0 (description ++ adding_faults s.held t.value (eqb s.at n) n room)) traded.held.count
 
-  module _ {n : ℕ} (e : n ≡ first_of (addingFaults s.held t.value (eqb s.at d.count) d.count room) 0) where
-    first-number : n ≡ first_of (descriptionFaults a t ++ addingFaults s.held t.value (eqb s.at d.count) d.count room) 0
-    first-number = e ∙ sym (first-passed (λ (m : ℕ). m) (descriptionFaults a t) _ 0 0 (description-listed a t) rated.described)
+  module _ {n : ℕ} (e : n ≡ first_of (adding_faults s.held t.value (eqb s.at d.count) d.count room) 0) where
+    first-number : n ≡ first_of (description_faults a t ++ adding_faults s.held t.value (eqb s.at d.count) d.count room) 0
+    first-number = e ∙ sym (first-passed (λ (m : ℕ). m) (description_faults a t) _ 0 0 (description-listed a t) rated.described)
 
-    pub adding-refused : {r : Outcome} → r ≡ refusalOf d room n 0 → (n ≡ 0 → ⊥) → Settles d room rows (Add t) r
+    pub adding-refused : {r : Outcome} → r ≡ refusal_of d room n 0 → (n ≡ 0 → ⊥) → Settles d room rows (Add t) r
     unfolding settlement
     adding-refused q other =
-        settles-refused q other (ap (λ (l : List (Bool × Answer)). first_of l (acceptedAnswer rows (Add t))) adding-faults ∙ first-at 0 _ n first-number other _)
+        settles_refused q other (ap (λ (l : List (Bool × Answer)). first_of l (accepted_answer rows (Add t))) adding_faults_lem ∙ first-at 0 _ n first-number other _)
 
-    adding-none : n ≡ 0 → settlement d room rows (Add t) ≡ acceptedAnswer rows (Add t)
+    adding-none : n ≡ 0 → settlement d room rows (Add t) ≡ accepted_answer rows (Add t)
     unfolding settlement
     adding-none z =
-        first-of-none (orderFaults room d rows (Add t)) _ (rw adding-faults (zero-at 0 (descriptionFaults a t ++ addingFaults s.held t.value (eqb s.at d.count) d.count room)
-        (numbered-append (λ (m : ℕ). m) (descriptionFaults a t) _ (description-listed a t) (adds-listed s.held t.value (eqb s.at d.count) d.count room)) (sym first-number ∙ z)))
+        first_of-none (order_faults room d rows (Add t)) _ (rw adding_faults_lem (zero_at 0 (description_faults a t ++ adding_faults s.held t.value (eqb s.at d.count) d.count room)
+        (numbered-append (λ (m : ℕ). m) (description_faults a t) _ (description-listed a t) (adds-listed s.held t.value (eqb s.at d.count) d.count room)) (sym first-number ∙ z)))
 
   -- where one is equal to the trade
   module _ (there : s.at < d.count) where
     pub found : First t rows s.at
-    found = rw at-place (first-found-at t rows (omega (arith, at-place, traded.held.count)))
+    found = rw at_place_lem (first-found-at t rows (omega (arith, at_place_lem, traded.held.count)))
 
     held-is : (get_or rows s.at no_row).value ≡ s.held
     held-is = sym (held-there ∙ held_first t rows s.at found)
@@ -126,7 +126,7 @@ module _ {d : Day} {room : ℕ} {t : Row} {s : Scan} {rows : List Row} {p rate :
           ∙ sym (ap (λ (ys : List Row). front (set ys s.at (valued t v)) xs) (sym e)
           ∙ front-set (length rows) xs (omega (arith, l, traded.held.within)) s.at (omega (arith, traded.held.count)) (valued t v))
 
-      totals-put : (total : ℕ) → p < 5 → total + rate * s.held ≡ get_or d.totals p 0 + rate * v → set d.totals p total ≡ totalsOf a (set rows s.at (valued t v))
+      totals-put : (total : ℕ) → p < 5 → total + rate * s.held ≡ get_or d.totals p 0 + rate * v → set d.totals p total ≡ totals_of a (set rows s.at (valued t v))
       unfolding valued
       totals-put total q h =
           ap (λ (l : List ℕ). set l p total) totals-there
@@ -136,7 +136,7 @@ module _ {d : Day} {room : ℕ} {t : Row} {s : Scan} {rows : List Row} {p rate :
       -- what is then stored
       put-day : (rows' : List Row) → rows' ≡ set rows s.at (valued t v) → (total : ℕ) → p < 5 → total + rate * s.held ≡ get_or d.totals p 0 + rate * v
           → record { date = d.date; letter = d.letter; count = d.count; totals = set d.totals p total } ≡ stored (head_of d) rows'
-      unfolding stored accountAt head_of
+      unfolding stored account_at head_of
       put-day rows' e total q h =
           rw e (λ i. record {
             date = d.date;
@@ -151,62 +151,62 @@ module _ {d : Day} {room : ℕ} {t : Row} {s : Scan} {rows : List Row} {p rate :
         let before : length (take s.at rows) ≡ s.at = length-take-le s.at rows (omega (arith, traded.held.count)) in
         omega (arith, traded.held.count, length-append (take s.at rows) (drop (suc s.at) rows), length-drop (suc s.at) rows, before)
 
-    moved_up : (xs : List Row) → length xs ≡ room → take (length rows) xs ≡ rows
+    moved_up_lem : (xs : List Row) → length xs ≡ room → take (length rows) xs ≡ rows
         → changed (record { first = s.at + 1; end = d.count; at = room; value = 0 }) (valued t 0) xs ≡ front (take s.at rows ++ drop (suc s.at) rows) xs
-    moved_up xs l e =
+    moved_up_lem xs l e =
         let rest = d.count - (s.at + 1) in
         let whole : s.at + 1 + rest ≡ d.count = omega arith in
         ap (λ (n : ℕ). changed (record { first = s.at + 1; end = n; at = room; value = 0 }) (valued t 0) xs) (sym whole)
-        ∙ closes-up (valued t 0) xs rows s.at rest (omega (arith, l, whole, traded.held.count, traded.held.within))
+        ∙ closes_up (valued t 0) xs rows s.at rest (omega (arith, l, whole, traded.held.count, traded.held.within))
         (sym e ∙ ap (λ (n : ℕ). take n xs) (traded.held.count ∙ sym whole)) room 0 l
 
     added-there : added rows t ≡ set rows s.at (valued t (s.held + t.value))
     unfolding valued
-    added-there = added-first t (valued t (s.held + t.value)) (valued_equal t (s.held + t.value)) rows s.at found (omega (arith, held-is))
+    added-there = added_first t (valued t (s.held + t.value)) (valued_equal t (s.held + t.value)) rows s.at found (omega (arith, held-is))
 
     -- an adding to it
-    pub adding-there : {n total : ℕ} {r : Outcome} → n ≡ first_of (addingFaults s.held t.value (eqb s.at d.count) d.count room) 0 → n ≡ 0 → p < 5
+    pub adding-there : {n total : ℕ} {r : Outcome} → n ≡ first_of (adding_faults s.held t.value (eqb s.at d.count) d.count room) 0 → n ≡ 0 → p < 5
         → total ≡ get_or d.totals p 0 + rate * t.value
-        → r ≡ acceptanceOf (record { date = d.date; letter = d.letter; count = d.count; totals = set d.totals p total })
+        → r ≡ acceptance_of (record { date = d.date; letter = d.letter; count = d.count; totals = set d.totals p total })
         (record { first = 1; end = 0; at = s.at; value = s.held + t.value })
         → Settles d room rows (Add t) r
-    unfolding dayAfter dateAfter holdingsAfter head_of tradeOf
+    unfolding day_after date_after holdings_after head_of trade_of
     adding-there {n} {total} e z q h g =
-        settles-accepted g (adding-none e z) (put-day (s.held + t.value) (added rows t) added-there total q (omega (arith, h)))
+        settles_accepted g (adding-none e z) (put-day (s.held + t.value) (added rows t) added-there total q (omega (arith, h)))
         (λ xs l k. put-there (s.held + t.value) xs l k ∙ ap (λ (ys : List Row). front ys xs) (sym added-there))
 
     taken-there : t.value < s.held → taken rows t ≡ set rows s.at (valued t (s.held - t.value))
     unfolding valued
-    taken-there low = taken-part t (valued t (s.held - t.value)) (valued_equal t (s.held - t.value)) rows s.at found (omega arith) (omega (arith, held-is))
+    taken-there low = taken_part t (valued t (s.held - t.value)) (valued_equal t (s.held - t.value)) rows s.at found (omega arith) (omega (arith, held-is))
 
   -- an adding that joins
   module _ (none : s.at ≡ d.count) where
     nowhere : Nowhere t rows
-    nowhere = nowhere-at t rows (sym at-place ∙ none ∙ sym traded.held.count)
+    nowhere = nowhere_at t rows (sym at_place_lem ∙ none ∙ sym traded.held.count)
 
     joined-row : valued t (s.held + t.value) ≡ t
     unfolding valued
     joined-row = ap (valued t) (ap (λ (h : ℕ). h + t.value) (held-there ∙ held_none t rows nowhere) ∙ omega arith)
 
-    joined-totals : (total : ℕ) → p < 5 → total ≡ get_or d.totals p 0 + rate * t.value → set d.totals p total ≡ totalsOf a (added rows t)
-    unfolding marginOf
+    joined-totals : (total : ℕ) → p < 5 → total ≡ get_or d.totals p 0 + rate * t.value → set d.totals p total ≡ totals_of a (added rows t)
+    unfolding margin_of
     joined-totals total q h =
         ap (λ (x : ℕ). set d.totals p x) h
         ∙ ap (λ (l : List ℕ). set l p (get_or l p 0 + rate * t.value)) totals-there
-        ∙ ap (λ (u : ℕ). set (totalsOf a rows) p (get_or (totalsOf a rows) p 0 + u * t.value)) (sym rated.units)
+        ∙ ap (λ (u : ℕ). set (totals_of a rows) p (get_or (totals_of a rows) p 0 + u * t.value)) (sym rated.units)
         ∙ totals-more a rows t p q rated.place
-        ∙ ap (totalsOf a) (sym (added_none t rows nowhere))
+        ∙ ap (totals_of a) (sym (added_none t rows nowhere))
 
-    pub adding-joined : {n total : ℕ} {r : Outcome} → n ≡ first_of (addingFaults s.held t.value (eqb s.at d.count) d.count room) 0 → n ≡ 0 → p < 5
+    pub adding-joined : {n total : ℕ} {r : Outcome} → n ≡ first_of (adding_faults s.held t.value (eqb s.at d.count) d.count room) 0 → n ≡ 0 → p < 5
         → total ≡ get_or d.totals p 0 + rate * t.value
-        → r ≡ acceptanceOf (record { date = d.date; letter = d.letter; count = d.count + 1; totals = set d.totals p total })
+        → r ≡ acceptance_of (record { date = d.date; letter = d.letter; count = d.count + 1; totals = set d.totals p total })
         (record { first = 1; end = 0; at = s.at; value = s.held + t.value })
         → Settles d room rows (Add t) r
-    unfolding dayAfter dateAfter holdingsAfter head_of tradeOf stored accountAt
+    unfolding day_after date_after holdings_after head_of trade_of stored account_at
     adding-joined {n} {total} e z q h g =
         let left : d.count < room = adds-room s.held t.value (eqb s.at d.count) d.count room (sym e ∙ z) (eq-eqb s.at d.count none) in
         let longer : d.count + 1 ≡ length (rows ++ (t ∷ [])) = omega (arith, length-append rows (t ∷ []), traded.held.count) in
-        settles-accepted g (adding-none e z)
+        settles_accepted g (adding-none e z)
         (λ i. record {
           date = d.date;
           letter = d.letter;
@@ -221,53 +221,53 @@ module _ {d : Day} {room : ℕ} {t : Row} {s : Scan} {rows : List Row} {p rate :
         ∙ front-joined (length rows) xs (omega (arith, l, traded.held.count)) t))
 
   -- what refuses a taking
-  taking-faults : orderFaults room d rows (Take t) ≡ at_place 0 (descriptionFaults a t ++ takingFaults s.held t.value)
-  unfolding orderFaults
-  taking-faults = ap (λ (h : ℕ). at_place 0 (descriptionFaults a t ++ takingFaults h t.value)) (sym held-there)
+  taking_faults_lem : order_faults room d rows (Take t) ≡ at_place 0 (description_faults a t ++ taking_faults s.held t.value)
+  unfolding order_faults
+  taking_faults_lem = ap (λ (h : ℕ). at_place 0 (description_faults a t ++ taking_faults h t.value)) (sym held-there)
 
-  described-none : None (descriptionFaults a t)
-  described-none = (none_first (λ (m : ℕ). m) (descriptionFaults a t) 0 (description-listed a t) rated.described).0
+  described-none : None (description_faults a t)
+  described-none = (none_first (λ (m : ℕ). m) (description_faults a t) 0 (description-listed a t) rated.described).0
 
-  pub taking-refused : {r : Outcome} → 27 ≡ first_of (takingFaults s.held t.value) 0 → r ≡ refusalOf d room 27 0 → Settles d room rows (Take t) r
+  pub taking-refused : {r : Outcome} → 27 ≡ first_of (taking_faults s.held t.value) 0 → r ≡ refusal_of d room 27 0 → Settles d room rows (Take t) r
   unfolding settlement
   taking-refused e q =
       let other : ◌≡◌ {A = ℕ} 27 0 → ⊥ = λ z. omega arith in
-      settles-refused q other
-      (ap (λ (l : List (Bool × Answer)). first_of l (acceptedAnswer rows (Take t))) taking-faults
-      ∙ first-at 0 _ 27 (e ∙ sym (first-passed (λ (m : ℕ). m) (descriptionFaults a t) _ 0 0 (description-listed a t) rated.described)) other _)
+      settles_refused q other
+      (ap (λ (l : List (Bool × Answer)). first_of l (accepted_answer rows (Take t))) taking_faults_lem
+      ∙ first-at 0 _ 27 (e ∙ sym (first-passed (λ (m : ℕ). m) (description_faults a t) _ 0 0 (description-listed a t) rated.described)) other _)
 
   -- where it is 1 cent or more, and no more than is held
   module _ (low : 1 ≤ t.value) (high : t.value ≤ s.held) where
-    taking-none : settlement d room rows (Take t) ≡ acceptedAnswer rows (Take t)
-    unfolding settlement takingFaults
+    taking-none : settlement d room rows (Take t) ≡ accepted_answer rows (Take t)
+    unfolding settlement taking_faults
     taking-none =
-        first-of-none (orderFaults room d rows (Take t)) _ (rw taking-faults
-        (none-at 0 (descriptionFaults a t ++ takingFaults s.held t.value)
-        (none-append (descriptionFaults a t) _ described-none
+        first_of-none (order_faults room d rows (Take t)) _ (rw taking_faults_lem
+        (none-at 0 (description_faults a t ++ taking_faults s.held t.value)
+        (none-append (description_faults a t) _ described-none
         ((ap (λ (b : Bool). b || ltb s.held t.value) (ne_eqb t.value 0 (λ z. omega arith)) ∙ le-ltb s.held t.value high), tt))))
 
     pub taking-there : (total : ℕ) {r : Outcome} → s.at < d.count → t.value < s.held → p < 5 → total + rate * t.value ≡ get_or d.totals p 0
-        → r ≡ acceptanceOf (record { date = d.date; letter = d.letter; count = d.count; totals = set d.totals p total })
+        → r ≡ acceptance_of (record { date = d.date; letter = d.letter; count = d.count; totals = set d.totals p total })
         (record { first = 1; end = 0; at = s.at; value = s.held - t.value })
         → Settles d room rows (Take t) r
-    unfolding dayAfter dateAfter holdingsAfter head_of tradeOf
+    unfolding day_after date_after holdings_after head_of trade_of
     taking-there total there less q h g =
         let v = s.held - t.value in
         let split : s.held ≡ v + t.value = omega arith in
         let rest : rate * s.held ≡ rate * (v + t.value) = ap (λ (x : ℕ). rate * x) split in
-        settles-accepted g taking-none (put-day there v (taken rows t) (taken-there there less) total q (omega (arith, h, rest)))
+        settles_accepted g taking-none (put-day there v (taken rows t) (taken-there there less) total q (omega (arith, h, rest)))
         (λ xs l k. put-there there v xs l k ∙ ap (λ (ys : List Row). front ys xs) (sym (taken-there there less)))
 
     -- the holding leaves, and later ones move up
     pub taking-whole : (total : ℕ) {r : Outcome} → s.at < d.count → t.value ≡ s.held → p < 5 → total + rate * t.value ≡ get_or d.totals p 0
-        → r ≡ acceptanceOf (record { date = d.date; letter = d.letter; count = d.count - 1; totals = set d.totals p total })
+        → r ≡ acceptance_of (record { date = d.date; letter = d.letter; count = d.count - 1; totals = set d.totals p total })
         (record { first = s.at + 1; end = d.count; at = room; value = 0 })
         → Settles d room rows (Take t) r
-    unfolding dayAfter dateAfter holdingsAfter head_of tradeOf stored accountAt
+    unfolding day_after date_after holdings_after head_of trade_of stored account_at
     taking-whole total there whole q h g =
         let f = found there in
-        let is : taken rows t ≡ take s.at rows ++ drop (suc s.at) rows = taken-whole t rows s.at f (whole ∙ sym (held-is there)) in
-        settles-accepted g taking-none
+        let is : taken rows t ≡ take s.at rows ++ drop (suc s.at) rows = taken_whole t rows s.at f (whole ∙ sym (held-is there)) in
+        settles_accepted g taking-none
         (λ i. record {
           date = d.date;
           letter = d.letter;
@@ -276,6 +276,6 @@ module _ {d : Day} {room : ℕ} {t : Row} {s : Scan} {rows : List Row} {p rate :
               (ap (λ (l : List ℕ). set l p total) totals-there
               ∙ totals-without a t p rate rated.place rated.units rows s.at f total q
               (ap (λ (x : ℕ). total + rate * x) (held-is there ∙ sym whole) ∙ h ∙ ap (λ (l : List ℕ). get_or l p 0) totals-there)
-              ∙ ap (totalsOf a) (sym is)) i;
+              ∙ ap (totals_of a) (sym is)) i;
         })
-        (λ xs l k. moved_up there xs l k ∙ ap (λ (ys : List Row). front ys xs) (sym is))
+        (λ xs l k. moved_up_lem there xs l k ∙ ap (λ (ys : List Row). front ys xs) (sym is))

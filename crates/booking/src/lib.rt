@@ -3,8 +3,8 @@ ghost use Rattle.std.specs.Prelude.{◌≡◌, true, false, ◌+◌, ◌-◌, �
 ghost use Rattle.lists.specs.Choice.{same, first_of};
 ghost use Rattle.holding.specs.Holding.{Builds};
 ghost use Rattle.daybook.specs.Book.{alike, valued};
-ghost use Rattle.booking.specs.Seeing.{tradeOf, Opens, OpensAgain, Unseen, Countable, Sees, Known, Concludes};
-ghost use Rattle.booking.specs.Settling.{Closed, noChange, refusalOf, acceptanceOf, addingFaults, Raisable, Adds, Lowerable, Takes, Moves, Tradable, Trades};
+ghost use Rattle.booking.specs.Seeing.{trade_of, Opens, OpensAgain, Unseen, Countable, Sees, Known, Concludes};
+ghost use Rattle.booking.specs.Settling.{Closed, no_change, refusal_of, acceptance_of, adding_faults, Raisable, Adds, Lowerable, Takes, Moves, Tradable, Trades};
 
 use daybook::{Day, Finding, Order, Reply};
 use holding::{Account, AccountKind, Built, Head, Headed, Row};
@@ -119,7 +119,7 @@ pub fn again(order: Order, opening: Opening) -> Opening
 
 // The trade of an order; a move has none.
 pub fn trade_of(order: Order) -> Row
-    ensures { result ≡ tradeOf order }
+    ensures { result ≡ trade_of order }
 {
     match order {
         Order::Add(t) => return t,
@@ -199,7 +199,7 @@ pub fn see(scan: Scan, i: usize, account: Account, row: Row, trade: Row) -> Scan
 
 // No entry of a list of so many is changed.
 fn no_change(room: usize) -> Change
-    ensures { result ≡ noChange room }
+    ensures { result ≡ no_change room }
 {
     Change {
         first: 1,
@@ -211,7 +211,7 @@ fn no_change(room: usize) -> Change
 
 // An order refused: what is stored with the book is as it was, and so is its list.
 fn refused(day: Day, room: usize, number: u64, place: usize) -> Outcome
-    ensures { result ≡ refusalOf day room number place }
+    ensures { result ≡ refusal_of day room number place }
 {
     let finding = Finding::Refused(number, place as u64);
     let reply = Reply { finding, day };
@@ -221,7 +221,7 @@ fn refused(day: Day, room: usize, number: u64, place: usize) -> Outcome
 
 // An order accepted: what is then stored with the book, and the change.
 fn accepted(day: Day, change: Change) -> Outcome
-    ensures { result ≡ acceptanceOf day change }
+    ensures { result ≡ acceptance_of day change }
 {
     let count = day.count;
     let finding = Finding::Done(count as u64);
@@ -231,7 +231,7 @@ fn accepted(day: Day, change: Change) -> Outcome
 
 // The first fault of an added value, where the first equal holding holds so much: 8; and where none is, 3 and 2.
 fn adding_fault(held: u64, value: u64, joins: bool, count: usize, room: usize) -> u64
-    ensures { result ≡ first_of (addingFaults held value joins count room) 0 }
+    ensures { result ≡ first_of (adding_faults held value joins count room) 0 }
 {
     if value < 1 {
         return 8;

@@ -1,21 +1,21 @@
 // Runs the cases on standard input: for each its title after `# `, and what `margin` prints of its text.
 // A case is two eight-byte little-endian numbers, the bytes of the title and of the text, then the title, then the text.
 ghost use Rattle.std.specs.Prelude.{◌≡◌, ◌+◌, ◌≤◌, length, take};
-ghost use Rattle.reader.specs.File.{fileLimit};
-ghost use Rattle.report.specs.Report.{reportRoom};
+ghost use Rattle.reader.specs.File.{file_limit};
+ghost use Rattle.report.specs.Report.{report_room};
 
 use report::Printed;
 
 // Room for a text of one byte more than a file may have, and for a title.
 fn text_buffer() -> [u8; reader::LIMIT + 1]
-    ensures { fileLimit + 1 ≡ length result }
+    ensures { file_limit + 1 ≡ length result }
 {
     [0; reader::LIMIT + 1]
 }
 
 // Room for what is printed.
 fn print_buffer() -> [u8; report::ROOM]
-    ensures { reportRoom ≡ length result }
+    ensures { report_room ≡ length result }
 {
     [0; report::ROOM]
 }

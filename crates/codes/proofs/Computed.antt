@@ -4,7 +4,7 @@ use mathlib.Core.Bool.{true}
 use mathlib.Core.List.{List, [], ◌∷◌, map}
 use Prim.Native.Nat.{ℕ}
 use Rattle.lists.specs.Choice.{same}
-use Rattle.codes.specs.Codes.{placeFrom, place_of, cells}
+use Rattle.codes.specs.Codes.{place_from, place_of, cells}
 use Rattle.codes.specs.declared.Place.TheVariants.{At, Nowhere}
 use Rattle.codes.proofs.Places.{distinct}
 
@@ -17,5 +17,5 @@ different = refl
 
 -- `R`, `D`, `BC`, and the empty text
 pub places : map (λ text. place_of text letters) ((82 ∷ []) ∷ (68 ∷ []) ∷ (66 ∷ 67 ∷ []) ∷ [] ∷ []) ≡ At 2 ∷ Nowhere ∷ Nowhere ∷ Nowhere ∷ []
-unfolding same cells place_of placeFrom
+unfolding same cells place_of place_from
 places = refl

@@ -9,8 +9,8 @@ use native.Mathlib.Omega.{arith}
 use lib.ListN.{length, get_or}
 use borrow.Author.Tests.{not-true}
 use Rattle.lists.specs.Choice.{same, every}
-use Rattle.lists.proofs.Entries.{each-by, each_at, same_false, eq-same, ne_same, one-or-not}
-use Rattle.codes.specs.Codes.{placeFrom, place_of, Named}
+use Rattle.lists.proofs.Entries.{each-by, each_at, same_false, eq_same, ne_same, one-or-not}
+use Rattle.codes.specs.Codes.{place_from, place_of, Named}
 use Rattle.codes.specs.declared.Place.TheVariants.{At, Nowhere}
 
 -- the text is that of place n, and of none before
@@ -29,27 +29,27 @@ module _ (text : List ℕ) where
   ahead : (t : List ℕ) (ts : List (List ℕ)) (n : ℕ) → Named text (t ∷ ts) (suc n) → Named text ts n
   ahead t ts n p = record { inside = omega (arith, p.inside); here = p.here }
 
-  from_first : (ts : List (List ℕ)) (j n : ℕ) → First text ts n → placeFrom j text ts ≡ At (j + n)
-  unfolding placeFrom
+  from_first : (ts : List (List ℕ)) (j n : ℕ) → First text ts n → place_from j text ts ≡ At (j + n)
+  unfolding place_from
   from_first [] j n f = absurd (omega (arith, f.named.inside))
-  from_first (t ∷ ts) j zero f = rw (eq-same text t f.named.here, add-zero)
+  from_first (t ∷ ts) j zero f = rw (eq_same text t f.named.here, add-zero)
   from_first (t ∷ ts) j (suc n) f =
       let next : suc j + n ≡ j + suc n = omega arith in
       let later : First text ts n = record { named = ahead t ts n f.named; before = λ k l. f.before (suc k) (omega arith) } in
       rw (ne_same text t (f.before 0 (omega arith)), ← next) (from_first ts (suc j) n later)
 
-  from-absent : (ts : List (List ℕ)) (j : ℕ) → Absent text ts → placeFrom j text ts ≡ Nowhere
-  unfolding placeFrom
-  from-absent [] j h = refl
-  from-absent (t ∷ ts) j h = rw (ne_same text t (h 0 (omega arith))) (from-absent ts (suc j) (λ k l. h (suc k) (omega arith)))
+  from_absent : (ts : List (List ℕ)) (j : ℕ) → Absent text ts → place_from j text ts ≡ Nowhere
+  unfolding place_from
+  from_absent [] j h = refl
+  from_absent (t ∷ ts) j h = rw (ne_same text t (h 0 (omega arith))) (from_absent ts (suc j) (λ k l. h (suc k) (omega arith)))
 
   pub place-first : (ts : List (List ℕ)) (n : ℕ) → First text ts n → place_of text ts ≡ At n
   unfolding place_of
   place-first ts n f = from_first ts 0 n f ∙ rw (zero-add n)
 
-  pub place-absent : (ts : List (List ℕ)) → Absent text ts → place_of text ts ≡ Nowhere
+  pub place_absent : (ts : List (List ℕ)) → Absent text ts → place_of text ts ≡ Nowhere
   unfolding place_of
-  place-absent ts h = from-absent ts 0 h
+  place_absent ts h = from_absent ts 0 h
 
   -- it stands at a first place, or at none
   either : {P : Type 0} (ts : List (List ℕ)) → ((n : ℕ) → First text ts n → P) → (Absent text ts → P) → P
@@ -74,7 +74,7 @@ module _ (text : List ℕ) where
         let s : m ≡ n = cc in
         rw (← s) f)
         (λ a.
-        let r = place-absent ts a in
+        let r = place_absent ts a in
         let z : ◌≡◌ {A = ℕ} 0 1 = cc in
         absurd (omega arith)),
     place-first ts n,

@@ -5,13 +5,13 @@ use Rattle.lists.specs.Choice.{same}
 use Rattle.codes.specs.declared.Place.{Place, TheVariants.At, TheVariants.Nowhere}
 
 -- the first place of a text in a list of texts, whose places go from n on
-unfoldable pub placeFrom : ℕ → List ℕ → List (List ℕ) → Place
-placeFrom n text [] = Nowhere
-placeFrom n text (t ∷ ts) = cond (same text t) (At n) (placeFrom (suc n) text ts)
+unfoldable pub place_from : ℕ → List ℕ → List (List ℕ) → Place
+place_from n text [] = Nowhere
+place_from n text (t ∷ ts) = cond (same text t) (At n) (place_from (suc n) text ts)
 
 -- the first place of a text in a list of texts, from 0
 unfoldable pub place_of : List ℕ → List (List ℕ) → Place
-place_of text ts = placeFrom 0 text ts
+place_of text ts = place_from 0 text ts
 
 -- the texts of a table that holds them one after another, `count` of them, each in `width` bytes
 unfoldable pub cells : ℕ → ℕ → List ℕ → List (List ℕ)

@@ -4,13 +4,13 @@ use mathlib.Core.List.{List, []}
 use Prim.Native.Nat.{ℕ, ◌*◌}
 use lib.ListN.{get_or, get_or-map}
 use lib.Seq.{drop-nil}
-use Rattle.lists.proofs.Tables.{length_to, getD-to}
+use Rattle.lists.proofs.Tables.{length_to, get_or-to}
 use Rattle.holding.specs.Holding.{row_by}
 use Rattle.holding.specs.declared.{Head.Head, Row.Row}
 use Rattle.pairing.specs.declared.Line.{Line}
-use Rattle.proposal.specs.Submission.{no_row, noLine, lineBy}
+use Rattle.proposal.specs.Submission.{no_row, no_line, line_by}
 use Rattle.words.specs.Words.{number, word_at, entries, decode}
-use Rattle.columns.specs.Columns.{Columns, columnAt, countIn, numbersAt, rowsIn, linesIn, submission, RowAt, LineAt, ColumnEntries}
+use Rattle.columns.specs.Columns.{Columns, column_at, count_in, numbers_at, rows_in, lines_in, submission, RowAt, LineAt, ColumnEntries}
 
 -- no bytes make 0, so a column that is not there reads as 0 everywhere
 nothing-there : (k : ℕ) → word_at [] k ≡ 0
@@ -19,35 +19,35 @@ nothing-there k = rw (drop-nil {A = ℕ} (8 * k))
 
 module _ (columns : List (List ℕ)) (k : ℕ) where
   -- the numbers at an entry, one of each column
-  number-at : (j : ℕ) → get_or (numbersAt columns k) j 0 ≡ word_at (columnAt columns j) k
-  unfolding numbersAt
-  number-at j = rw (nothing-there k) at (get_or-map (λ c. word_at c k) columns j [])
+  number_at_lem : (j : ℕ) → get_or (numbers_at columns k) j 0 ≡ word_at (column_at columns j) k
+  unfolding numbers_at
+  number_at_lem j = rw (nothing-there k) at (get_or-map (λ c. word_at c k) columns j [])
 
-  pub row_at : (r : Row) → r ≡ row_by (numbersAt columns k) → RowAt columns k r
+  pub row_at : (r : Row) → r ≡ row_by (numbers_at columns k) → RowAt columns k r
   row_at r e = record {
-    side = ap (λ (r : Row). r.side) e ∙ number-at 0;
-    kind = ap (λ (r : Row). r.kind) e ∙ number-at 1;
-    issuer = ap (λ (r : Row). r.issuer) e ∙ number-at 2;
-    maturity = ap (λ (r : Row). r.maturity) e ∙ number-at 3;
-    value = ap (λ (r : Row). r.value) e ∙ number-at 4;
-    currency = ap (λ (r : Row). r.currency) e ∙ number-at 5;
-    rating = ap (λ (r : Row). r.rating) e ∙ number-at 6;
+    side = ap (λ (r : Row). r.side) e ∙ number_at_lem 0;
+    kind = ap (λ (r : Row). r.kind) e ∙ number_at_lem 1;
+    issuer = ap (λ (r : Row). r.issuer) e ∙ number_at_lem 2;
+    maturity = ap (λ (r : Row). r.maturity) e ∙ number_at_lem 3;
+    value = ap (λ (r : Row). r.value) e ∙ number_at_lem 4;
+    currency = ap (λ (r : Row). r.currency) e ∙ number_at_lem 5;
+    rating = ap (λ (r : Row). r.rating) e ∙ number_at_lem 6;
   }
 
-  pub line_at : (l : Line) → l ≡ lineBy (numbersAt columns k) → LineAt columns k l
+  pub line_at : (l : Line) → l ≡ line_by (numbers_at columns k) → LineAt columns k l
   line_at l e = record {
-    long = ap (λ (l : Line). l.long) e ∙ number-at 0;
-    short = ap (λ (l : Line). l.short) e ∙ number-at 1;
-    amount = ap (λ (l : Line). l.amount) e ∙ number-at 2;
+    long = ap (λ (l : Line). l.long) e ∙ number_at_lem 0;
+    short = ap (λ (l : Line). l.short) e ∙ number_at_lem 1;
+    amount = ap (λ (l : Line). l.amount) e ∙ number_at_lem 2;
   }
 
 pub column-entries : (h : Head) (c : Columns) → ColumnEntries h c
-unfolding submission rowsIn linesIn countIn decode entries
+unfolding submission rows_in lines_in count_in decode entries
 column-entries h c = record {
   head = refl;
   holdings = length_to _ _;
   lines = length_to _ _;
-  holding = λ k q. row_at c.holdings k _ (getD-to _ _ k no_row q);
-  price = λ k q. getD-to _ _ k 0 q;
-  line = λ k q. line_at c.lines k _ (getD-to _ _ k noLine q);
+  holding = λ k q. row_at c.holdings k _ (get_or-to _ _ k no_row q);
+  price = λ k q. get_or-to _ _ k 0 q;
+  line = λ k q. line_at c.lines k _ (get_or-to _ _ k no_line q);
 }

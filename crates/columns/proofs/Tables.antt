@@ -5,19 +5,19 @@ use Prim.Native.Nat.{ℕ, suc, ◌+◌, ◌*◌, ◌≤◌, ◌<◌}
 use native.Mathlib.Omega.{arith}
 use lib.ListN.{length, get_or, take, drop, length-append, length-take, length-drop, length-map}
 use lib.Seq.{length-take-le, take-take}
-use Rattle.lists.specs.Tables.{listTo, front}
+use Rattle.lists.specs.Tables.{list_to, front}
 use Rattle.lists.proofs.Tables.{to_back}
-use Rattle.holding.specs.Holding.{numbersOf}
+use Rattle.holding.specs.Holding.{numbers_of}
 use Rattle.holding.specs.declared.Head.{Head}
-use Rattle.proposal.specs.Submission.{lineNumbers, lineBy, pricedRow, rowPrice}
+use Rattle.proposal.specs.Submission.{line_numbers, line_by, priced_row, row_price}
 use Rattle.words.specs.Words.{encode}
 use Rattle.words.proofs.Encoded.{word_more}
-use Rattle.columns.specs.Columns.{Columns, makeColumns, column, filledFrom, filled, columnIn, Entered, EntryPut, copied}
-use Rattle.columns.proofs.ReadBack.{nth, cut-numbers}
+use Rattle.columns.specs.Columns.{Columns, make_columns, column, filled_from, filled, column_in, Entered, EntryPut, copied}
+use Rattle.columns.proofs.ReadBack.{nth, cut_numbers}
 
 -- the first entries of a column have eight bytes each
-pub column-long : (rows n j : ℕ) (table : List ℕ) → 8 * (rows * j + n) ≤ length table → length (columnIn rows n table j) ≡ 8 * n
-unfolding columnIn
+pub column-long : (rows n j : ℕ) (table : List ℕ) → 8 * (rows * j + n) ≤ length table → length (column_in rows n table j) ≡ 8 * n
+unfolding column_in
 column-long rows n j table h = length-take-le (8 * n) (drop (8 * (rows * j)) table) (omega (arith, length-drop (8 * (rows * j)) table))
 
 -- no entry, and one entry more
@@ -32,28 +32,28 @@ entered-more {rows = rows} {numbers = numbers} {values = values} {old = old} e p
   few = simp length-append (omega arith);
   long = p.long ∙ e.long;
   each = λ j l.
-      let more = word_more (map (nth j) numbers) (columnIn rows rows old j) (nth j values) in
+      let more = word_more (map (nth j) numbers) (column_in rows rows old j) (nth j values) in
       p.each j l ∙ rw (e.each j l, map-append (nth j)) (rw (length-map numbers (nth j)) at more);
 }
 
 -- n entries in a table
 module _ {count rows n : ℕ} {numbers : List (List ℕ)} {old now : List ℕ} (e : Entered count rows numbers old now) (many : length numbers ≡ n) where
   -- the first n of a column are the bytes of the numbers alone
-  pub entered-column : (j : ℕ) → j < count → columnIn rows n now j ≡ encode (map (nth j) numbers)
-  unfolding columnIn
+  pub entered-column : (j : ℕ) → j < count → column_in rows n now j ≡ encode (map (nth j) numbers)
+  unfolding column_in
   entered-column j h =
-      let cut : take (8 * n) (columnIn rows rows now j) ≡ columnIn rows n now j = take-take (8 * n) (8 * rows) (drop (8 * (rows * j)) now) (omega (arith, e.few)) in
-      sym cut ∙ ap (take (8 * n)) (e.each j h) ∙ rw many at (cut-numbers numbers j (columnIn rows rows old j))
+      let cut : take (8 * n) (column_in rows rows now j) ≡ column_in rows n now j = take-take (8 * n) (8 * rows) (drop (8 * (rows * j)) now) (omega (arith, e.few)) in
+      sym cut ∙ ap (take (8 * n)) (e.each j h) ∙ rw many at (cut_numbers numbers j (column_in rows rows old j))
 
   -- copied, they fill the lists
-  pub entered-copied : (j : ℕ) (olds : List (List ℕ)) → j + length olds ≤ count → copied rows n now j olds ≡ filledFrom j numbers olds
-  unfolding copied filledFrom column
+  pub entered-copied : (j : ℕ) (olds : List (List ℕ)) → j + length olds ≤ count → copied rows n now j olds ≡ filled_from j numbers olds
+  unfolding copied filled_from column
   entered-copied j [] h = refl
   entered-copied j (list ∷ lists) h = λ i. front (entered-column j (omega arith) i) list ∷ entered-copied (suc j) lists (omega arith) i
 
 -- a column of a table fits a list that has room for its entries
-pub column_fits : (rows n j : ℕ) (table from list : List ℕ) → from ≡ columnIn rows n table j → 8 * n ≤ length list → length from ≤ length list
-unfolding columnIn
+pub column_fits : (rows n j : ℕ) (table from list : List ℕ) → from ≡ column_in rows n table j → 8 * n ≤ length list → length from ≤ length list
+unfolding column_in
 column_fits rows n j table from list e h = rw e (omega (arith, length-take (8 * n) (drop (8 * (rows * j)) table)))
 
 -- one column copied, and then those after it
@@ -61,18 +61,18 @@ pub copied_none : (rows n j : ℕ) (table : List ℕ) → [] ≡ copied rows n t
 unfolding copied
 copied_none rows n j table = refl
 
-pub copied_more : (rows n j : ℕ) (table old : List ℕ) (olds : List (List ℕ)) {from new : List ℕ} {news : List (List ℕ)} → from ≡ columnIn rows n table j → new ≡ front from old
+pub copied_more : (rows n j : ℕ) (table old : List ℕ) (olds : List (List ℕ)) {from new : List ℕ} {news : List (List ℕ)} → from ≡ column_in rows n table j → new ≡ front from old
     → news ≡ copied rows n table (suc j) olds → new ∷ news ≡ copied rows n table j (old ∷ olds)
 unfolding copied
 copied_more rows n j table old olds e p q = rw (p, e, q)
 
 -- the columns of a table of holdings, where the price's is the sixth, and of a table of lines
-abbrev pub byTables : List (List ℕ) → List (List ℕ) → Columns
-byTables book lines = makeColumns (take 5 book ++ drop 6 book) (get_or book 5 []) lines
+abbrev pub by_tables : List (List ℕ) → List (List ℕ) → Columns
+by_tables book lines = make_columns (take 5 book ++ drop 6 book) (get_or book 5 []) lines
 
 -- what is submitted by values fills them as the values fill the tables
 pub filled-values : (h : Head) (held lined book lines : List (List ℕ)) → length book ≡ 8 → length lines ≡ 3
-    → filled (record { head = h; rows = map pricedRow held; prices = map rowPrice held; lines = map lineBy lined }) (byTables book lines)
-    ≡ byTables (filledFrom 0 held book) (filledFrom 0 lined lines)
-unfolding filled filledFrom numbersOf lineNumbers listTo
+    → filled (record { head = h; rows = map priced_row held; prices = map row_price held; lines = map line_by lined }) (by_tables book lines)
+    ≡ by_tables (filled_from 0 held book) (filled_from 0 lined lines)
+unfolding filled filled_from numbers_of line_numbers list_to
 filled-values h held lined book lines e f = rw (← to_back 8 book [] e, ← to_back 3 lines [] f) (simp map-map)

@@ -1,6 +1,6 @@
 // Columns of bytes that stand one after another in a list, which is a table: written an entry at a time, and handed out.
 ghost use Rattle.std.specs.Prelude.{◌≡◌, [], ◌∷◌, ◌+◌, ◌*◌, ◌≤◌, length};
-ghost use Rattle.columns.specs.Columns.{columnIn, EntryRoom, EntryPut, CopyRoom, copied};
+ghost use Rattle.columns.specs.Columns.{column_in, EntryRoom, EntryPut, CopyRoom, copied};
 
 // Writes entry k of a table, each of whose columns has `rows` entries: value j into column j, for as many columns as are counted.
 pub fn put_entry(values: &[u64], count: usize, rows: usize, k: usize, table: &mut [u8])
@@ -17,7 +17,7 @@ pub fn put_entry(values: &[u64], count: usize, rows: usize, k: usize, table: &mu
 // The first n entries of column j of a table.
 pub fn column(table: &[u8], rows: usize, n: usize, j: usize) -> &[u8]
     requires { 8 * (rows * j + n) ≤ length table.now }
-    ensures { result.now ≡ columnIn rows n table.now j }
+    ensures { result.now ≡ column_in rows n table.now j }
 {
     let start = 8 * (rows * j);
     let end = start + 8 * n;

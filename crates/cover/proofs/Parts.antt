@@ -10,10 +10,10 @@ use borrow.Author.Count.{below_more}
 use Rattle.lists.proofs.Tests.{same_or_not}
 use Rattle.words.specs.Words.{word_at}
 use Rattle.article.specs.declared.pair.Leg.{Leg}
-use Rattle.packed.specs.Packed.{legAt}
-use Rattle.savings.specs.Savings.{savingOf}
-use Rattle.marks.specs.Marks.{mark_of, acrossMark, scanRate, scanLimit}
-use Rattle.article.specs.Pair.{isBond, RateInRange}
+use Rattle.packed.specs.Packed.{leg_at}
+use Rattle.savings.specs.Savings.{saving_of}
+use Rattle.marks.specs.Marks.{mark_of, across_mark, scan_rate, scan_limit}
+use Rattle.article.specs.Pair.{is_bond, RateInRange}
 use Rattle.cover.specs.Cover.{Priced, RowCovered, part_of, Parts, Free, ShortsByPart}
 use Rattle.cover.proofs.Written.{unmet, row_kept, row-added, rate-low}
 
@@ -23,7 +23,7 @@ unfolding part_of
 part_low l = omega arith
 
 -- legs of two parts have two periods, and save nothing
-apart : (l s : Leg) → (part_of l ≡ part_of s → ⊥) → savingOf l s ≡ 0
+apart : (l s : Leg) → (part_of l ≡ part_of s → ⊥) → saving_of l s ≡ 0
 unfolding part_of
 apart l s h = unmet l s (λ m. h (ap (λ (x : ℕ). x % 8) m.period))
 
@@ -35,8 +35,8 @@ pub record Parting (n : ℕ) (legs price counts marks strips rates prices : List
   pub shorts : ShortsByPart j legs price counts marks strips rates prices
 
 module _ {n : ℕ} {legs price counts marks strips rates prices : List ℕ} where
-  pub parting-none : Priced n legs price → Parts counts marks strips rates prices → Free counts → Parting n legs price counts marks strips rates prices 0
-  parting-none priced p e = record {
+  pub parting_none : Priced n legs price → Parts counts marks strips rates prices → Free counts → Parting n legs price counts marks strips rates prices 0
+  parting_none priced p e = record {
     few = omega arith;
     priced = priced;
     parts = p;
@@ -44,21 +44,21 @@ module _ {n : ℕ} {legs price counts marks strips rates prices : List ℕ} wher
   }
 
   module _ {j : ℕ} (f : Parting n legs price counts marks strips rates prices j) where
-    pub parting-all : n ≤ j → ShortsByPart n legs price counts marks strips rates prices
-    parting-all h =
+    pub parting_all : n ≤ j → ShortsByPart n legs price counts marks strips rates prices
+    parting_all h =
         let e : j ≡ n = omega (arith, f.few) in
         rw e at f.shorts
 
-    module _ {leg : Leg} (found : leg ≡ legAt legs j) (h : j < n) where
+    module _ {leg : Leg} (found : leg ≡ leg_at legs j) (h : j < n) where
       -- a holding that is not short is passed over
-      pub parting-other : (leg.side ≡ 1 → ⊥) → Parting n legs price counts marks strips rates prices (j + 1)
-      parting-other e = record {
+      pub parting_other : (leg.side ≡ 1 → ⊥) → Parting n legs price counts marks strips rates prices (j + 1)
+      parting_other e = record {
         few = omega arith;
         priced = f.priced;
         parts = f.parts;
         shorts = record {
           few = λ b l. omega (arith, f.shorts.few b l);
-          all = λ l p fair c. below_more _ _ (f.shorts.all l p fair c) (rw (unmet l (legAt legs j) (λ m. rw found at e m.short)) (omega arith));
+          all = λ l p fair c. below_more _ _ (f.shorts.all l p fair c) (rw (unmet l (leg_at legs j) (λ m. rw found at e m.short)) (omega arith));
         };
       }
 
@@ -72,8 +72,8 @@ module _ {n : ℕ} {legs price counts marks strips rates prices : List ℕ} wher
 
       -- one more short, at place k, after the m in the part b of its period
       module _ {b m k o x y r z : ℕ} (part : b ≡ part_of leg) (count : m ≡ get_or counts b 0) (at : k ≡ 256 * b + m)
-          (own : o ≡ mark_of (isBond leg) leg) (mark : x ≡ acrossMark leg.kind o) (strip : (leg.kind ≡ 0 → ⊥) → y ≡ o)
-          (rate : (r ≡ scanRate leg) × (r ≤ scanLimit)) (e : z ≡ word_at price j) where
+          (own : o ≡ mark_of (is_bond leg) leg) (mark : x ≡ across_mark leg.kind o) (strip : (leg.kind ≡ 0 → ⊥) → y ≡ o)
+          (rate : (r ≡ scan_rate leg) × (r ≤ scan_limit)) (e : z ≡ word_at price j) where
         -- the place is in each column, and no short before stands there
         place : k < 2048
         unfolding part_of
@@ -86,7 +86,7 @@ module _ {n : ℕ} {legs price counts marks strips rates prices : List ℕ} wher
 
         -- the count of its part grows by one, and no other does
         own-count : get_or (set counts b (m + 1)) b 0 ≡ m + 1
-        own-count = get_or-set_same counts b (m + 1) 0 (rw (f.parts.counts-held, part) (part_low leg))
+        own-count = get_or-set_same counts b (m + 1) 0 (rw (f.parts.counts_held, part) (part_low leg))
 
         counts_up : (q : ℕ) → (get_or counts q 0 ≤ get_or (set counts b (m + 1)) q 0) × (get_or (set counts b (m + 1)) q 0 ≤ get_or counts q 0 + 1)
         counts_up q =
@@ -94,28 +94,28 @@ module _ {n : ℕ} {legs price counts marks strips rates prices : List ℕ} wher
 
         -- a long of its part is covered with it, and one of another part saves nothing with it
         new-covered : (l : Leg) (p : ℕ) → RateInRange l → RowCovered l p (set marks k x) (set strips k y) (set rates k r) (set prices k z)
-            (256 * part_of l) (256 * part_of l + get_or (set counts b (m + 1)) (part_of l) 0) → savingOf l (legAt legs j) ≤ p + word_at price j
+            (256 * part_of l) (256 * part_of l + get_or (set counts b (m + 1)) (part_of l) 0) → saving_of l (leg_at legs j) ≤ p + word_at price j
         new-covered l p fair c =
             same_or_not (part_of l) b
             (λ t. rw (← found, ← e) (row-added k rates prices r z marks strips x y (rw (t, own-count) at c) fair (omega (arith, at)) (omega (arith, at))
-            (rw f.parts.marks-held place) (rw f.parts.strips-held place) (rw f.parts.rates-held place) (rw f.parts.prices-held place)
+            (rw f.parts.marks_held place) (rw f.parts.strips_held place) (rw f.parts.rates_held place) (rw f.parts.prices_held place)
             leg (rate-low j f.priced h found) rate.0 own mark strip))
-            (λ t. rw (apart l (legAt legs j) (λ u. t (u ∙ sym (part ∙ ap part_of found)))) (omega arith))
+            (λ t. rw (apart l (leg_at legs j) (λ u. t (u ∙ sym (part ∙ ap part_of found)))) (omega arith))
 
-        pub parting-more : Parting n legs price (set counts b (m + 1)) (set marks k x) (set strips k y) (set rates k r) (set prices k z) (j + 1)
-        parting-more = record {
+        pub parting_more : Parting n legs price (set counts b (m + 1)) (set marks k x) (set strips k y) (set rates k r) (set prices k z) (j + 1)
+        parting_more = record {
           few = omega arith;
           priced = f.priced;
           parts = record {
-            counts-held = length-set counts b (m + 1) ∙ f.parts.counts-held;
-            marks-held = length-set marks k x ∙ f.parts.marks-held;
-            strips-held = length-set strips k y ∙ f.parts.strips-held;
-            rates-held = length-set rates k r ∙ f.parts.rates-held;
-            prices-held = length-set prices k z ∙ f.parts.prices-held;
-            rates-high = λ i l.
+            counts_held = length-set counts b (m + 1) ∙ f.parts.counts_held;
+            marks_held = length-set marks k x ∙ f.parts.marks_held;
+            strips_held = length-set strips k y ∙ f.parts.strips_held;
+            rates_held = length-set rates k r ∙ f.parts.rates_held;
+            prices_held = length-set prices k z ∙ f.parts.prices_held;
+            rates_high = λ i l.
                 same_or_not i k
-                (λ t. rw (t, get_or-set_same rates k r 0 (rw f.parts.rates-held place)) rate.1)
-                (λ t. rw (get_or-set_other rates k i r 0 t) (f.parts.rates-high i l));
+                (λ t. rw (t, get_or-set_same rates k r 0 (rw f.parts.rates_held place)) rate.1)
+                (λ t. rw (get_or-set_other rates k i r 0 t) (f.parts.rates_high i l));
           };
           shorts = record {
             few = λ q l. omega (arith, (counts_up q).1, f.shorts.few q l);

@@ -8,59 +8,59 @@ use lib.Dec.{ltb}
 use borrow.Author.Count.{below_more}
 use borrow.Author.Tests.{lt-ltb, le-ltb, ne_eqb}
 use Rattle.lists.specs.Choice.{first_of}
-use Rattle.lists.proofs.Firsts.{None, first-of-none, none-in-turn, first-in-turn}
+use Rattle.lists.proofs.Firsts.{None, first_of-none, none-in_turn, first-in_turn}
 use Rattle.words.specs.Words.{word_at}
-use Rattle.article.specs.Answer.{Answer, makeAnswer}
-use Rattle.article.specs.Pair.{isLong, allowed, savingRateOf}
+use Rattle.article.specs.Answer.{Answer, make_answer}
+use Rattle.article.specs.Pair.{is_long, allowed, saving_rate_of}
 use Rattle.article.specs.declared.pair.Leg.{Leg}
-use Rattle.savings.specs.Savings.{savingOf}
-use Rattle.proposal.proofs.PricedBooks.{saving-rate}
+use Rattle.savings.specs.Savings.{saving_of}
+use Rattle.proposal.proofs.PricedBooks.{saving_rate_lem}
 use Rattle.proposal.specs.Submission.{PricedBook}
-use Rattle.proposal.specs.Outcome.{makeFault, faultAnswer, uncovered, atPair, atLong, uncoveredPairs}
-use Rattle.packed.specs.Packed.{legAt, LegsOf, Same}
+use Rattle.proposal.specs.Outcome.{make_fault, fault_answer, uncovered, at_pair, at_long, uncovered_pairs}
+use Rattle.packed.specs.Packed.{leg_at, LegsOf, Same}
 use Rattle.cover.specs.Cover.{PairCovered, FirstOpen, Finds}
 
 -- a pair is uncovered where its two prices add up to less than its legs save
-uncovered-saving : (b : PricedBook) (i j : ℕ) → uncovered b i j ≡ ltb (b.price i + b.price j) (savingOf (b.leg i) (b.leg j))
-unfolding uncovered savingOf
+uncovered-saving : (b : PricedBook) (i j : ℕ) → uncovered b i j ≡ ltb (b.price i + b.price j) (saving_of (b.leg i) (b.leg j))
+unfolding uncovered saving_of
 uncovered-saving b i j =
-    rw (saving-rate b i j) (by (allowed (b.leg i) (b.leg j)) (b.price i + b.price j) (savingRateOf (b.leg i) (b.leg j)))
+    rw (saving_rate_lem b i j) (by (allowed (b.leg i) (b.leg j)) (b.price i + b.price j) (saving_rate_of (b.leg i) (b.leg j)))
   where
     by : (t : Bool) (x y : ℕ) → (t && ltb x y) ≡ ltb x (cond t y 0)
     by true x y = refl
     by false x y = sym (le-ltb x 0 (omega arith))
 
 -- the refusal of an uncovered pair
-at_pair : (b : PricedBook) {i j : ℕ} → uncovered b i j ≡ true → (v : Answer) → first_of (atPair b i j) v ≡ makeAnswer 16 i j
-unfolding atPair first_of
-at_pair b e v = rw e
+at_pair_lem : (b : PricedBook) {i j : ℕ} → uncovered b i j ≡ true → (v : Answer) → first_of (at_pair b i j) v ≡ make_answer 16 i j
+unfolding at_pair first_of
+at_pair_lem b e v = rw e
 
 -- a holding that is not long saves nothing as the long
-not-long : (l s : Leg) → (l.side ≡ 0 → ⊥) → savingOf l s ≡ 0
-unfolding savingOf allowed isLong
+not-long : (l s : Leg) → (l.side ≡ 0 → ⊥) → saving_of l s ≡ 0
+unfolding saving_of allowed is_long
 not-long l s h = rw (ne_eqb _ _ h)
 
-pub other-covered : (legs price : List ℕ) (i : ℕ) {leg : Leg} → leg ≡ legAt legs i → (leg.side ≡ 0 → ⊥) → (j : ℕ) → PairCovered legs price i j
-other-covered legs price i found h j = rw (not-long (legAt legs i) (legAt legs j) (rw found at h)) (omega arith)
+pub other-covered : (legs price : List ℕ) (i : ℕ) {leg : Leg} → leg ≡ leg_at legs i → (leg.side ≡ 0 → ⊥) → (j : ℕ) → PairCovered legs price i j
+other-covered legs price i found h j = rw (not-long (leg_at legs i) (leg_at legs j) (rw found at h)) (omega arith)
 
 -- a book that the lists hold
 module _ {n : ℕ} {legs : List ℕ} (price : List ℕ) {b : PricedBook} (h : LegsOf b n legs) (p : Same n (word_at price) b.price) where
   module _ (i j : ℕ) (f : i < n) (g : j < n) where
-    test : uncovered b i j ≡ ltb (word_at price i + word_at price j) (savingOf (legAt legs i) (legAt legs j))
+    test : uncovered b i j ≡ ltb (word_at price i + word_at price j) (saving_of (leg_at legs i) (leg_at legs j))
     test = uncovered-saving b i j ∙ rw (h.leg i f, h.leg j g, p i f, p j g)
 
-    pair-none : PairCovered legs price i j → None (atPair b i j)
-    unfolding atPair
+    pair-none : PairCovered legs price i j → None (at_pair b i j)
+    unfolding at_pair
     pair-none c = (test ∙ le-ltb _ _ c, tt)
 
-    pair-open : word_at price i + word_at price j < savingOf (legAt legs i) (legAt legs j) → uncovered b i j ≡ true
-    pair-open c = test ∙ lt-ltb _ _ c
+    pair_open : word_at price i + word_at price j < saving_of (leg_at legs i) (leg_at legs j) → uncovered b i j ≡ true
+    pair_open c = test ∙ lt-ltb _ _ c
 
-  row-none : (i : ℕ) → i < n → ((j : ℕ) → j < n → PairCovered legs price i j) → None (atLong b i)
-  unfolding atLong
+  row-none : (i : ℕ) → i < n → ((j : ℕ) → j < n → PairCovered legs price i j) → None (at_long b i)
+  unfolding at_long
   row-none i f c =
       let count = h.count in
-      none-in-turn (atPair b i) b.count (λ j g. pair-none i j f (omega arith) (c j (omega arith)))
+      none-in_turn (at_pair b i) b.count (λ j g. pair-none i j f (omega arith) (c j (omega arith)))
 
 -- the first i holdings are covered, as the long, with every holding
 pub record Closed (n : ℕ) (legs price : List ℕ) (i : ℕ) : Type 0 where
@@ -72,38 +72,38 @@ module _ {n : ℕ} {legs price : List ℕ} where
   closed_none = record { few = omega arith; rows = λ k h. absurd (omega arith) }
 
   module _ {i : ℕ} (c : Closed n legs price i) where
-    pub closed-more : i < n → ((j : ℕ) → j < n → PairCovered legs price i j) → Closed n legs price (i + 1)
-    closed-more h g = record { few = omega arith; rows = below_more (λ (k : ℕ). (j : ℕ) → j < n → PairCovered legs price k j) i c.rows g }
+    pub closed_more : i < n → ((j : ℕ) → j < n → PairCovered legs price i j) → Closed n legs price (i + 1)
+    closed_more h g = record { few = omega arith; rows = below_more (λ (k : ℕ). (j : ℕ) → j < n → PairCovered legs price k j) i c.rows g }
 
     -- no holding was found that i is not covered with
-    pub closed-row : {r : ℕ} → i < n → FirstOpen n legs price i r → n ≤ r → Closed n legs price (i + 1)
-    closed-row h o e = closed-more h (λ j l. o.covered j (omega arith))
+    pub closed_row : {r : ℕ} → i < n → FirstOpen n legs price i r → n ≤ r → Closed n legs price (i + 1)
+    closed_row h o e = closed_more h (λ j l. o.covered j (omega arith))
 
-    pub finds-open : {j : ℕ} → i < n → FirstOpen n legs price i j → j < n → Finds n legs price (makeFault 16 i j)
-    unfolding faultAnswer uncoveredPairs atLong
-    finds-open {j} h o g = record {
+    pub finds_open : {j : ℕ} → i < n → FirstOpen n legs price i j → j < n → Finds n legs price (make_fault 16 i j)
+    unfolding fault_answer uncovered_pairs at_long
+    finds_open {j} h o g = record {
       found = λ b held prices.
           let count = held.count in
-          sym (first-in-turn (atLong b) b.count i (makeAnswer 16 i j) (makeAnswer 0 0 0) (omega arith)
+          sym (first-in_turn (at_long b) b.count i (make_answer 16 i j) (make_answer 0 0 0) (omega arith)
           (λ k l. row-none price held prices k (omega arith) (c.rows k l))
-          (λ w. first-in-turn (atPair b i) b.count j (makeAnswer 16 i j) w (omega arith)
+          (λ w. first-in_turn (at_pair b i) b.count j (make_answer 16 i j) w (omega arith)
           (λ k l. pair-none price held prices i k (omega arith) (omega arith) (o.covered k l))
-          (λ v. at_pair b (pair-open price held prices i j h g (o.short g)) v)));
+          (λ v. at_pair_lem b (pair_open price held prices i j h g (o.short g)) v)));
     }
 
-    pub finds-none : n ≤ i → Finds n legs price (makeFault 0 0 0)
-    unfolding faultAnswer uncoveredPairs
-    finds-none e = record {
+    pub finds_none : n ≤ i → Finds n legs price (make_fault 0 0 0)
+    unfolding fault_answer uncovered_pairs
+    finds_none e = record {
       found = λ b held prices.
           let count = held.count in
-          sym (first-of-none (uncoveredPairs b) (makeAnswer 0 0 0)
-          (none-in-turn (atLong b) b.count (λ k l. row-none price held prices k (omega arith) (c.rows k (omega arith)))));
+          sym (first_of-none (uncovered_pairs b) (make_answer 0 0 0)
+          (none-in_turn (at_long b) b.count (λ k l. row-none price held prices k (omega arith) (c.rows k (omega arith)))));
     }
 
 -- long i with short j: what the two legs were found to be and to save, and the two prices
-module _ (legs price : List ℕ) (i j : ℕ) {long short : Leg} {first second saving : ℕ} (a-long : long ≡ legAt legs i) (a-short : short ≡ legAt legs j)
-    (a : first ≡ word_at price i) (b : second ≡ word_at price j) (found : saving ≡ savingOf long short) where
-  saves : saving ≡ savingOf (legAt legs i) (legAt legs j)
+module _ (legs price : List ℕ) (i j : ℕ) {long short : Leg} {first second saving : ℕ} (a-long : long ≡ leg_at legs i) (a-short : short ≡ leg_at legs j)
+    (a : first ≡ word_at price i) (b : second ≡ word_at price j) (found : saving ≡ saving_of long short) where
+  saves : saving ≡ saving_of (leg_at legs i) (leg_at legs j)
   saves = rw (← a-long, ← a-short) found
 
   pub first_more : saving ≤ first + second → PairCovered legs price i j

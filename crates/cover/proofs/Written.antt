@@ -8,23 +8,23 @@ use lib.ListN.{length, set}
 use lib.Seq.{get_or-set_same, get_or-set_other}
 use borrow.Author.Tests.{eq-eqb, ne_eqb}
 use Rattle.lists.proofs.Tests.{by-test, same_or_not}
-use Rattle.article.specs.Pair.{isBond, allowed, RateInRange}
-use Rattle.article.proofs.Legs.{Meets, allowed-meets}
+use Rattle.article.specs.Pair.{is_bond, allowed, RateInRange}
+use Rattle.article.proofs.Legs.{Meets, allowed_meets}
 use Rattle.article.specs.declared.pair.Leg.{Leg}
-use Rattle.packed.specs.Packed.{legAt}
-use Rattle.savings.specs.Savings.{savingOf}
-use Rattle.marks.specs.Marks.{mark_of, acrossMark, shortMark, soughtMark, scanRate, Seeks, Marked}
+use Rattle.packed.specs.Packed.{leg_at}
+use Rattle.savings.specs.Savings.{saving_of}
+use Rattle.marks.specs.Marks.{mark_of, across_mark, short_mark, sought_mark, scan_rate, Seeks, Marked}
 use Rattle.marks.proofs.Estimate.{two-bonds}
 use Rattle.cover.specs.Cover.{Priced, Covered, RowCovered}
 
 -- a leg in the list has a rate within the article's
-pub rate-low : {n : ℕ} {legs price : List ℕ} (j : ℕ) {leg : Leg} → Priced n legs price → j < n → leg ≡ legAt legs j → RateInRange leg
+pub rate-low : {n : ℕ} {legs price : List ℕ} (j : ℕ) {leg : Leg} → Priced n legs price → j < n → leg ≡ leg_at legs j → RateInRange leg
 rate-low j priced h found = rw found (priced.bounded.rate j h)
 
 -- two legs that are no allowed pair save nothing
-pub unmet : (l s : Leg) → (Meets l s → ⊥) → savingOf l s ≡ 0
-unfolding savingOf
-unmet l s h = by-test (λ (x : ℕ). x ≡ 0) (allowed l s) (λ e. absurd (h (allowed-meets l s e))) (λ _. refl)
+pub unmet : (l s : Leg) → (Meets l s → ⊥) → saving_of l s ≡ 0
+unfolding saving_of
+unmet l s h = by-test (λ (x : ℕ). x ≡ 0) (allowed l s) (λ e. absurd (h (allowed_meets l s e))) (λ _. refl)
 
 -- a short is written at place k of the columns
 module _ (k : ℕ) (rates prices : List ℕ) (r z : ℕ) where
@@ -40,8 +40,8 @@ module _ (k : ℕ) (rates prices : List ℕ) (r z : ℕ) where
     }
 
     -- the short itself is at the place
-    column-added : from ≤ k → k < more → k < length column → k < length rates → k < length prices → {l s : Leg} → Seeks l long rate → Marked (isBond l) s w r
-        → savingOf l s ≤ p + z
+    column-added : from ≤ k → k < more → k < length column → k < length rates → k < length prices → {l s : Leg} → Seeks l long rate → Marked (is_bond l) s w r
+        → saving_of l s ≤ p + z
     column-added f g a b d {l} {s} ml ms =
         rw (get_or-set_same prices k z 0 d) at (c.covered k f g l s ml (rw (get_or-set_same column k w 0 a, get_or-set_same rates k r 0 b) ms))
 
@@ -53,11 +53,11 @@ module _ (k : ℕ) (rates prices : List ℕ) (r z : ℕ) where
 
     -- a bond saves nothing with a bond, and the strips hold any other short
     pub row-added : {own : ℕ} → RateInRange l → from ≤ k → k < more → k < length marks → k < length strips → k < length rates → k < length prices → (s : Leg) → RateInRange s
-        → r ≡ scanRate s → own ≡ mark_of (isBond s) s → x ≡ acrossMark s.kind own → ((s.kind ≡ 0 → ⊥) → y ≡ own) → savingOf l s ≤ p + z
-    unfolding shortMark isBond
+        → r ≡ scan_rate s → own ≡ mark_of (is_bond s) s → x ≡ across_mark s.kind own → ((s.kind ≡ 0 → ⊥) → y ≡ own) → saving_of l s ≤ p + z
+    unfolding short_mark is_bond
     row-added fair f g a a' b d s low rated own mark strip =
-        let seeks : Seeks l (soughtMark l) (scanRate l) = record { marked = refl; rated = refl; in-range = fair } in
-        let marked : (w : ℕ) → w ≡ shortMark (isBond l) s → Marked (isBond l) s w r = λ w e. record { marked = e; rated = rated; in-range = low } in
+        let seeks : Seeks l (sought_mark l) (scan_rate l) = record { marked = refl; rated = refl; in_range = fair } in
+        let marked : (w : ℕ) → w ≡ short_mark (is_bond l) s → Marked (is_bond l) s w r = λ w e. record { marked = e; rated = rated; in_range = low } in
         same_or_not l.kind 0
         (λ e. same_or_not s.kind 0
         (λ t. rw (two-bonds l s e t) (omega arith))

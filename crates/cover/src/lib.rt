@@ -1,7 +1,7 @@
 // Whether the prices cover the book, and what they add up to.
 ghost use Rattle.std.specs.Prelude.{◌≡◌, false, ◌-◌, ◌*◌, ◌≤◌, ◌<◌, length};
 ghost use Rattle.article.specs.Pair.{RateInRange};
-ghost use Rattle.marks.specs.Marks.{scanLimit};
+ghost use Rattle.marks.specs.Marks.{scan_limit};
 ghost use Rattle.packed.specs.Packed.{AtMost, entry};
 ghost use Rattle.cover.specs.Cover.{Priced, FirstOpen, Finds, Valued, Totals, Covered, RowCovered, Places, Shorts, Parts, Free, ShortsByPart};
 
@@ -19,7 +19,7 @@ fn row_open(
     rate: u16,
     price: u16,
 ) -> bool
-    requires { (m ≤ 256) × ((rate ≤ scanLimit) × (AtMost scanLimit m (entry rates.now))) }
+    requires { (m ≤ 256) × ((rate ≤ scan_limit) × (AtMost scan_limit m (entry rates.now))) }
     ensures { result ≡ false → Covered mark rate price marks.now rates.now prices.now 0 m }
 {
     let mut worst: u16 = 0;
@@ -43,7 +43,7 @@ fn long_open(
     long: Leg,
     price: u16,
 ) -> bool
-    requires { (m ≤ 256) × (RateInRange long × (AtMost scanLimit m (entry rates.now))) }
+    requires { (m ≤ 256) × (RateInRange long × (AtMost scan_limit m (entry rates.now))) }
     ensures { result ≡ false → RowCovered long price marks.now strips.now rates.now prices.now 0 m }
 {
     let mark = marks::mark_of(long.kind != 0, long);
@@ -184,7 +184,7 @@ fn part_open(
     rate: u16,
     price: u16,
 ) -> bool
-    requires { (to ≤ length marks.now) × ((to ≤ length rates.now) × ((to ≤ length prices.now) × ((rate ≤ scanLimit) × (AtMost scanLimit to (entry rates.now))))) }
+    requires { (to ≤ length marks.now) × ((to ≤ length rates.now) × ((to ≤ length prices.now) × ((rate ≤ scan_limit) × (AtMost scan_limit to (entry rates.now))))) }
     ensures { result ≡ false → Covered mark rate price marks.now rates.now prices.now from to }
 {
     let mut worst: u16 = 0;
@@ -210,7 +210,7 @@ fn long_part_open(
     price: u16,
 ) -> bool
     requires { (to ≤ length marks.now) × ((to ≤ length strips.now) × ((to ≤ length rates.now) × ((to ≤ length prices.now)
-        × (RateInRange long × (AtMost scanLimit to (entry rates.now)))))) }
+        × (RateInRange long × (AtMost scan_limit to (entry rates.now)))))) }
     ensures { result ≡ false → RowCovered long price marks.now strips.now rates.now prices.now from to }
 {
     let sought = marks::mark_of(long.kind != 0, long);

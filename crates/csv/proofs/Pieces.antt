@@ -10,9 +10,9 @@ use lib.Dec.{eqb}
 use lib.ListN.{length, drop, length-append, length-drop}
 use lib.Seq.{drop-drop, take_at, drop_at}
 use Rattle.lists.proofs.Tests.{by-test}
-use Rattle.csv.specs.Grammar.{isText, isQuotable, TextRun, no_text, text-data, QuotedRun, no-quoted, quoted, doubled, escaped, non-escaped}
+use Rattle.csv.specs.Grammar.{is_text, is_quotable, TextRun, no_text, text_data, QuotedRun, no_quoted, quoted, doubled, escaped, non_escaped}
 use Rattle.csv.specs.Grammar as G
-use Rattle.csv.specs.Reading.{span, part, textFrom, textEnd, closeFrom, closeAt, followedBy, followed, begins, opens, enclosed, field_at}
+use Rattle.csv.specs.Reading.{span, part, text_from, text_end, close_from, close_at, followed_by, followed, begins, opens, enclosed, field_at}
 use Rattle.csv.specs.declared.Span.{Span}
 use Rattle.csv.specs.declared.Found.{Found}
 use Rattle.csv.specs.declared.Found.TheVariants.{At, Nothing}
@@ -43,12 +43,12 @@ longer p q i e s r = record {
 }
 
 -- TEXTDATA up to where it ends
-text-run : (i : ℕ) (s : List ℕ) → Run (λ t r. TextRun t) i (textFrom i s) s
-unfolding textFrom
+text-run : (i : ℕ) (s : List ℕ) → Run (λ t r. TextRun t) i (text_from i s) s
+unfolding text_from
 text-run i [] = nothing_yet i [] no_text
 text-run i (c ∷ s) =
-    by-test (λ e. Run (λ t r. TextRun t) i e (c ∷ s)) (isText c)
-    (λ p. longer (c ∷ []) (λ t r h. text-data p h) i _ s (text-run (i + 1) s))
+    by-test (λ e. Run (λ t r. TextRun t) i e (c ∷ s)) (is_text c)
+    (λ p. longer (c ∷ []) (λ t r h. text_data p h) i _ s (text-run (i + 1) s))
     (λ p. nothing_yet i (c ∷ s) no_text)
 
 -- what may be quoted, and then a quote
@@ -59,33 +59,33 @@ abbrev Closed : ℕ → List ℕ → Found → Type 0
 Closed i s (At e) = Run Quoted i e s
 Closed i s Nothing = Unit {0}
 
-closed-here : (i c : ℕ) (s : List ℕ) → eqb c 0x22 ≡ true → Run Quoted i i (c ∷ s)
-closed-here i c s p = nothing_yet i (c ∷ s) (no-quoted, rw (eqb-true c 0x22 p))
+closed_here : (i c : ℕ) (s : List ℕ) → eqb c 0x22 ≡ true → Run Quoted i i (c ∷ s)
+closed_here i c s p = nothing_yet i (c ∷ s) (no_quoted, rw (eqb-true c 0x22 p))
 
 closed_on : (p : List ℕ) → ((t : List ℕ) → QuotedRun t → QuotedRun (p ++ t)) → (i : ℕ) (s : List ℕ) (f : Found) → Closed (i + length p) s f → Closed i (p ++ s) f
 closed_on p q i s (At e) r = longer p (λ t l h. (q t h.0, h.1)) i e s r
 closed_on p q i s Nothing r = tt
 
 -- up to the quote that is found
-closed : (i : ℕ) (s : List ℕ) → Closed i s (closeFrom i s)
-unfolding closeFrom
+closed : (i : ℕ) (s : List ℕ) → Closed i s (close_from i s)
+unfolding close_from
 closed i [] = tt
-closed i (c ∷ []) = by-test (Closed i (c ∷ [])) (eqb c 0x22) (λ p. closed-here i c [] p) (λ p. tt)
+closed i (c ∷ []) = by-test (Closed i (c ∷ [])) (eqb c 0x22) (λ p. closed_here i c [] p) (λ p. tt)
 closed i (c ∷ d ∷ s) =
     by-test (Closed i (c ∷ d ∷ s)) (eqb c 0x22)
     (λ p.
     by-test (Closed i (c ∷ d ∷ s)) (eqb d 0x22)
-    (λ q. closed_on (c ∷ d ∷ []) (λ t h. rw (eqb-true c 0x22 p, eqb-true d 0x22 q) (doubled h)) i s (closeFrom (i + 2) s) (closed (i + 2) s))
-    (λ q. closed-here i c (d ∷ s) p))
+    (λ q. closed_on (c ∷ d ∷ []) (λ t h. rw (eqb-true c 0x22 p, eqb-true d 0x22 q) (doubled h)) i s (close_from (i + 2) s) (closed (i + 2) s))
+    (λ q. closed_here i c (d ∷ s) p))
     (λ p.
-    by-test (Closed i (c ∷ d ∷ s)) (isQuotable c)
-    (λ q. closed_on (c ∷ []) (λ t h. quoted q h) i (d ∷ s) (closeFrom (i + 1) (d ∷ s)) (closed (i + 1) (d ∷ s)))
+    by-test (Closed i (c ∷ d ∷ s)) (is_quotable c)
+    (λ q. closed_on (c ∷ []) (λ t h. quoted q h) i (d ∷ s) (close_from (i + 1) (d ∷ s)) (closed (i + 1) (d ∷ s)))
     (λ q. tt))
 
 -- a quote that closes stands in the text
-pub close-in-text : (text : List ℕ) (i e : ℕ) (f : Found) → f ≡ closeAt text i → f ≡ At e → e < length text
-unfolding closeAt
-close-in-text text i e f g h =
+pub close_in_text : (text : List ℕ) (i e : ℕ) (f : Found) → f ≡ close_at text i → f ≡ At e → e < length text
+unfolding close_at
+close_in_text text i e f g h =
     let r : Run Quoted i e (drop i text) = rw (sym g ∙ h) at (closed i (drop i text)) in
     omega (arith, r.to, ap length r.there, length-append r.inner r.rest, ap length r.run.1, length-drop i text)
 
@@ -129,8 +129,8 @@ module _ (text : List ℕ) (i : ℕ) (t r : List ℕ) (here : drop i text ≡ t 
 
 -- a field of the grammar that stands at i and ends at a, by what stands there
 module _ (text : List ℕ) (i : ℕ) (s : Span) (t f : List ℕ) (d : G.Field t f) (h : part text s ≡ f) (a : ℕ) (e : a ≡ i + length t) where
-  field-to : {last : Bool} {mark rest : List ℕ} → Ending last mark rest → (n : ℕ) → n ≡ a + length mark → drop i text ≡ t ++ (mark ++ rest) → FieldRead text i s last n
-  field-to {last} {mark} {rest} w n k g =
+  field_to : {last : Bool} {mark rest : List ℕ} → Ending last mark rest → (n : ℕ) → n ≡ a + length mark → drop i text ≡ t ++ (mark ++ rest) → FieldRead text i s last n
+  field_to {last} {mark} {rest} w n k g =
       let there : drop n text ≡ rest = after text a mark rest (after text i t (mark ++ rest) g a e) n k in
       record {
         whole = t;
@@ -143,30 +143,30 @@ module _ (text : List ℕ) (i : ℕ) (s : Span) (t f : List ℕ) (d : G.Field t 
         on = omega arith;
       }
 
-  piece-by : (l : List ℕ) → drop i text ≡ t ++ l → PieceRead text i (followedBy s a l)
-  unfolding followedBy
-  piece-by [] g = field-to end a (omega arith) g
-  piece-by (c ∷ l) g =
+  piece_by : (l : List ℕ) → drop i text ≡ t ++ l → PieceRead text i (followed_by s a l)
+  unfolding followed_by
+  piece_by [] g = field_to end a (omega arith) g
+  piece_by (c ∷ l) g =
       by-test (PieceRead text i) (eqb c 0x2C)
-      (λ p. field-to comma (a + 1) refl (rw (eqb-true c 0x2C p) at g))
+      (λ p. field_to comma (a + 1) refl (rw (eqb-true c 0x2C p) at g))
       (λ p.
       by-test (PieceRead text i) (eqb c 0x0D && begins 0x0A l)
       (λ q.
       let (x, y) = (and-eq-true_iff (eqb c 0x0D) (begins 0x0A l)).0 q in
       let (s, z) = first 0x0A l y in
-      field-to line (a + 2) refl (rw (eqb-true c 0x0D x, z) at g))
+      field_to line (a + 2) refl (rw (eqb-true c 0x0D x, z) at g))
       (λ q. tt))
 
   piece : (l : List ℕ) → drop i text ≡ t ++ l → PieceRead text i (followed text s a)
   unfolding followed
-  piece l g = rw (after text i t l g a e) (piece-by l g)
+  piece l g = rw (after text i t l g a e) (piece_by l g)
 
 module _ (text : List ℕ) (i : ℕ) where
-  plain-read : PieceRead text i (followed text (span i (textEnd text i)) (textEnd text i))
-  unfolding textEnd
-  plain-read =
+  plain_read : PieceRead text i (followed text (span i (text_end text i)) (text_end text i))
+  unfolding text_end
+  plain_read =
       let r = text-run i (drop i text) in
-      piece text i _ r.inner r.inner (non-escaped r.run) (part_of text i r.inner r.rest r.there _ r.to) _ r.to r.rest r.there
+      piece text i _ r.inner r.inner (non_escaped r.run) (part_of text i r.inner r.rest r.there _ r.to) _ r.to r.rest r.there
 
   quoted-read : (f : Found) → drop i text ≡ 0x22 ∷ drop (i + 1) text → Closed (i + 1) (drop (i + 1) text) f → PieceRead text i (enclosed text (i + 1) f)
   unfolding enclosed
@@ -180,14 +180,14 @@ module _ (text : List ℕ) (i : ℕ) where
   quoted-read Nothing o r = tt
 
   -- what is read at a place is a field of the grammar
-  pub field-read : PieceRead text i (field_at text i)
-  unfolding field_at opens closeAt
-  field-read =
+  pub field_read : PieceRead text i (field_at text i)
+  unfolding field_at opens close_at
+  field_read =
       by-test (PieceRead text i) (opens text i)
       (λ p.
       let (s, e) = first 0x22 (drop i text) p in
-      quoted-read (closeAt text (i + 1)) (e ∙ ap (λ l. 0x22 ∷ l) (sym (after text i (0x22 ∷ []) s e (i + 1) refl))) (closed (i + 1) (drop (i + 1) text)))
-      (λ p. plain-read)
+      quoted-read (close_at text (i + 1)) (e ∙ ap (λ l. 0x22 ∷ l) (sym (after text i (0x22 ∷ []) s e (i + 1) refl))) (closed (i + 1) (drop (i + 1) text)))
+      (λ p. plain_read)
 
 -- what follows a field takes bytes, or nothing is left
 sized : {last : Bool} {mark rest : List ℕ} → Ending last mark rest → (0 < length mark) ⊎ ((last ≡ true) × (length rest ≡ 0))

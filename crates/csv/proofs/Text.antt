@@ -6,30 +6,30 @@ use native.Mathlib.Omega.{arith}
 use lib.Dec.{leb}
 use borrow.Author.Tests.{le-leb, lt-leb, leb-false}
 use Rattle.lists.specs.Choice.{within}
-use Rattle.csv.specs.Grammar.{isText}
+use Rattle.csv.specs.Grammar.{is_text}
 
 module _ (c : ℕ) where
-  pub text-quote : c ≡ 0x22 → isText c ≡ false
-  unfolding isText within
-  text-quote e = rw e
+  pub text_quote : c ≡ 0x22 → is_text c ≡ false
+  unfolding is_text within
+  text_quote e = rw e
 
-  pub text-comma : c ≡ 0x2C → isText c ≡ false
-  unfolding isText within
+  pub text-comma : c ≡ 0x2C → is_text c ≡ false
+  unfolding is_text within
   text-comma e = rw e
 
-  pub text-under : c < 0x20 → isText c ≡ false
-  unfolding isText within
-  text-under h = rw (lt-leb 0x20 c h, lt-leb 0x23 c (omega arith), lt-leb 0x2D c (omega arith))
+  pub text_under : c < 0x20 → is_text c ≡ false
+  unfolding is_text within
+  text_under h = rw (lt-leb 0x20 c h, lt-leb 0x23 c (omega arith), lt-leb 0x2D c (omega arith))
 
-  pub text-over : 0x7F ≤ c → isText c ≡ false
-  unfolding isText within
+  pub text-over : 0x7F ≤ c → is_text c ≡ false
+  unfolding is_text within
   text-over h = rw (lt-leb c 0x21 (omega arith), lt-leb c 0x2B (omega arith), lt-leb c 0x7E h, and-false (leb 0x20 c), and-false (leb 0x23 c), and-false (leb 0x2D c))
 
-  pub text-printable : 0x20 ≤ c → c < 0x7F → (c ≡ 0x22 → ⊥) → (c ≡ 0x2C → ⊥) → isText c ≡ true
-  unfolding isText within
-  text-printable a b p q = go (leb c 0x21) refl (leb c 0x2B) refl
+  pub text_printable : 0x20 ≤ c → c < 0x7F → (c ≡ 0x22 → ⊥) → (c ≡ 0x2C → ⊥) → is_text c ≡ true
+  unfolding is_text within
+  text_printable a b p q = go (leb c 0x21) refl (leb c 0x2B) refl
     where
-      go : (x : Bool) → leb c 0x21 ≡ x → (y : Bool) → leb c 0x2B ≡ y → isText c ≡ true
+      go : (x : Bool) → leb c 0x21 ≡ x → (y : Bool) → leb c 0x2B ≡ y → is_text c ≡ true
       go true e y f = rw (le-leb 0x20 c a, e)
       go false e true f = rw (e, and-false (leb 0x20 c), f, le-leb 0x23 c (omega (arith, leb-false)))
       go false e false f = rw (e, f, and-false (leb 0x20 c), and-false (leb 0x23 c), le-leb 0x2D c (omega (arith, leb-false)), le-leb c 0x7E (omega arith))

@@ -4,22 +4,22 @@ use Rattle.std.specs.Prelude.{ℕ, eqb}
 use Rattle.lists.specs.Choice.{within}
 
 -- TEXTDATA = %x20-21 / %x23-2B / %x2D-7E
-unfoldable pub isText : ℕ → Bool
-isText c = within 0x20 0x21 c || within 0x23 0x2B c || within 0x2D 0x7E c
+unfoldable pub is_text : ℕ → Bool
+is_text c = within 0x20 0x21 c || within 0x23 0x2B c || within 0x2D 0x7E c
 
 -- TEXTDATA / COMMA / CR / LF, where COMMA = %x2C, CR = %x0D, LF = %x0A
-unfoldable pub isQuotable : ℕ → Bool
-isQuotable c = eqb c 0x2C || eqb c 0x0D || eqb c 0x0A || isText c
+unfoldable pub is_quotable : ℕ → Bool
+is_quotable c = eqb c 0x2C || eqb c 0x0D || eqb c 0x0A || is_text c
 
 -- *TEXTDATA
 pub data TextRun : List ℕ → Type 0 where
   no_text : TextRun []
-  text-data : {c : ℕ} {s : List ℕ} → isText c ≡ true → TextRun s → TextRun (c ∷ s)
+  text_data : {c : ℕ} {s : List ℕ} → is_text c ≡ true → TextRun s → TextRun (c ∷ s)
 
 -- *(TEXTDATA / COMMA / CR / LF / 2DQUOTE)                 DQUOTE = %x22
 pub data QuotedRun : List ℕ → Type 0 where
-  no-quoted : QuotedRun []
-  quoted : {c : ℕ} {s : List ℕ} → isQuotable c ≡ true → QuotedRun s → QuotedRun (c ∷ s)
+  no_quoted : QuotedRun []
+  quoted : {c : ℕ} {s : List ℕ} → is_quotable c ≡ true → QuotedRun s → QuotedRun (c ∷ s)
   doubled : {s : List ℕ} → QuotedRun s → QuotedRun (0x22 ∷ 0x22 ∷ s)
 
 -- field = (escaped / non-escaped)
@@ -27,7 +27,7 @@ pub data QuotedRun : List ℕ → Type 0 where
 -- non-escaped = *TEXTDATA
 pub data Field : List ℕ → List ℕ → Type 0 where
   escaped : {t : List ℕ} → QuotedRun t → Field (0x22 ∷ (t ++ 0x22 ∷ [])) t
-  non-escaped : {t : List ℕ} → TextRun t → Field t t
+  non_escaped : {t : List ℕ} → TextRun t → Field t t
 
 -- record = field *(COMMA field)                           COMMA = %x2C
 pub data Record : List ℕ → List (List ℕ) → Type 0 where

@@ -1,7 +1,7 @@
 // RFC 4180 in one pass: a field, what follows it, a record. A byte is written as its number: 10 LF, 13 CR, 34 the quote, 44 the comma.
 ghost use Rattle.std.specs.Prelude.{◌≡◌, set};
-ghost use Rattle.csv.specs.Grammar.{isText, isQuotable};
-ghost use Rattle.csv.specs.Reading.{span, part, textEnd, closeAt, followed, opens, field_at, recordAt, Scans, HandsBack};
+ghost use Rattle.csv.specs.Grammar.{is_text, is_quotable};
+ghost use Rattle.csv.specs.Reading.{span, part, text_end, close_at, followed, opens, field_at, record_at, Scans, HandsBack};
 
 // The number of fields that a record of the file has.
 pub const FIELDS: usize = 9;
@@ -36,7 +36,7 @@ pub enum Scanned {
 
 // TEXTDATA: what is printable, but for the quote and the comma.
 fn text_data(c: u8) -> bool
-    ensures { result ≡ isText c }
+    ensures { result ≡ is_text c }
 {
     match c {
         34 => false,
@@ -48,7 +48,7 @@ fn text_data(c: u8) -> bool
 
 // TEXTDATA / COMMA / CR / LF
 fn quotable(c: u8) -> bool
-    ensures { result ≡ isQuotable c }
+    ensures { result ≡ is_quotable c }
 {
     if c == 44 {
         return true;
@@ -64,7 +64,7 @@ fn quotable(c: u8) -> bool
 
 // Where TEXTDATA from a place on ends.
 fn text_end(text: &[u8], at: usize) -> usize
-    ensures { result ≡ textEnd text.now at }
+    ensures { result ≡ text_end text.now at }
 {
     let mut i = at;
     while i < text.len() {
@@ -78,7 +78,7 @@ fn text_end(text: &[u8], at: usize) -> usize
 
 // The quote that closes a field whose text starts at a place.
 fn close(text: &[u8], at: usize) -> Found
-    ensures { result ≡ closeAt text.now at }
+    ensures { result ≡ close_at text.now at }
 {
     let mut i = at;
     while i < text.len() {
@@ -170,7 +170,7 @@ pub fn record(
     starts: &mut [usize; FIELDS],
     ends: &mut [usize; FIELDS],
 ) -> Scanned
-    ensures { Scans (recordAt text.now at) starts.old ends.old
+    ensures { Scans (record_at text.now at) starts.old ends.old
         starts.new ends.new result }
 {
     let mut count: usize = 0;

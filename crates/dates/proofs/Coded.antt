@@ -7,77 +7,77 @@ use Prim.Native.Nat.{ℕ, zero, suc, ◌+◌, ◌-◌, ◌*◌, ◌/◌, ◌%◌
 use native.Mathlib.Omega.{arith}
 use lib.Dec.{leb}
 use lib.ListN.{get_or}
-use Rattle.lists.specs.Tables.{sum_of, listTo}
-use Rattle.lists.proofs.Tables.{getD-to}
-use Rattle.dates.specs.Calendar.{year, month, day, dated, isLeap, leapDay, monthLengths, monthLength, nextDay, yearStart, monthStart, anniversary}
-use Rattle.dates.proofs.Years.{leap-false, year-more, year-end, month-end, start-early, start-late}
-use Rattle.dates.proofs.Days.{next-in-month, next-month, next-year}
+use Rattle.lists.specs.Tables.{sum_of, list_to}
+use Rattle.lists.proofs.Tables.{get_or-to}
+use Rattle.dates.specs.Calendar.{year, month, day, dated, is_leap, leap_day, month_lengths, month_length, next_day, year_start, month_start, anniversary}
+use Rattle.dates.proofs.Years.{leap_false, year-more, year-end, month-end, start_early, start_late}
+use Rattle.dates.proofs.Days.{next_in_month, next-month, next-year}
 use Rattle.dates.proofs.Anniversaries.{kept, lost}
 
 -- 31 and 30 in turn, and in turn again from August on; the test, computed
 abbrev in_turn : ℕ → ℕ
 in_turn m = 30 + (m + m / 8) % 2
 
-turns : listTo 13 in_turn ≡ 30 ∷ 31 ∷ 30 ∷ 31 ∷ 30 ∷ 31 ∷ 30 ∷ 31 ∷ 31 ∷ 30 ∷ 31 ∷ 30 ∷ 31 ∷ []
-unfolding listTo
+turns : list_to 13 in_turn ≡ 30 ∷ 31 ∷ 30 ∷ 31 ∷ 30 ∷ 31 ∷ 30 ∷ 31 ∷ 31 ∷ 30 ∷ 31 ∷ 30 ∷ 31 ∷ []
+unfolding list_to
 turns = refl
 
 -- so are the twelve months but February
-pub coded-length : (y m : ℕ) → m ≢ 2 → 1 ≤ m → m ≤ 12 → in_turn m ≡ monthLength y m
-unfolding monthLength monthLengths
+pub coded-length : (y m : ℕ) → m ≢ 2 → 1 ≤ m → m ≤ 12 → in_turn m ≡ month_length y m
+unfolding month_length month_lengths
 coded-length y zero n l h = absurd (omega arith)
 coded-length y (suc zero) n l h = refl
 coded-length y (suc (suc zero)) n l h = absurd (n refl)
 coded-length y (suc (suc (suc m))) n l h =
-    sym (getD-to 13 in_turn (suc (suc (suc m))) 0 (omega arith)) ∙ ap (λ (s : List ℕ). get_or s (suc (suc (suc m))) 0) turns
+    sym (get_or-to 13 in_turn (suc (suc (suc m))) 0 (omega arith)) ∙ ap (λ (s : List ℕ). get_or s (suc (suc (suc m))) 0) turns
 
 -- the days before a month of a common year, as the year 1 is, and before the next; the test, computed
 abbrev before : ℕ → ℕ → ℕ
 before m short = (367 * m - 362) / 12 - short
 
-befores : listTo 14 (λ m. before m (cond (leb m 2) 0 2)) ≡ listTo 14 (monthStart 1)
-unfolding listTo monthStart sum_of monthLengths leapDay isLeap
+befores : list_to 14 (λ m. before m (cond (leb m 2) 0 2)) ≡ list_to 14 (month_start 1)
+unfolding list_to month_start sum_of month_lengths leap_day is_leap
 befores = refl
 
-common : leapDay 1 ≡ 0
-common = leap-false 1 (unfold isLeap in refl)
+common : leap_day 1 ≡ 0
+common = leap_false 1 (unfold is_leap in refl)
 
-pub start_small : (m : ℕ) → monthStart 1 m ≤ 365
+pub start_small : (m : ℕ) → month_start 1 m ≤ 365
 start_small m = omega (arith, month-end 1 m, common)
 
-pub coded-start : (m short : ℕ) → short ≡ cond (leb m 2) 0 2 → m ≤ 13 → before m short ≡ monthStart 1 m
-coded-start m short e h =
+pub coded_start : (m short : ℕ) → short ≡ cond (leb m 2) 0 2 → m ≤ 13 → before m short ≡ month_start 1 m
+coded_start m short e h =
     rw e
-    (sym (getD-to 14 (λ m. before m (cond (leb m 2) 0 2)) m 0 (omega arith))
+    (sym (get_or-to 14 (λ m. before m (cond (leb m 2) 0 2)) m 0 (omega arith))
     ∙ ap (λ (s : List ℕ). get_or s m 0) befores
-    ∙ getD-to 14 (monthStart 1) m 0 (omega arith))
+    ∙ get_or-to 14 (month_start 1) m 0 (omega arith))
 
 -- before January there is nothing, and behind December the year ends
-pub start_first : (m : ℕ) → m < 1 → monthStart 1 1 ≡ monthStart 1 m
-unfolding monthStart sum_of
+pub start_first : (m : ℕ) → m < 1 → month_start 1 1 ≡ month_start 1 m
+unfolding month_start sum_of
 start_first zero h = refl
 start_first (suc m) h = absurd (omega arith)
 
-pub start-last : (m : ℕ) → 12 < m → monthStart 1 13 ≡ monthStart 1 m
-start-last m h = year-end 1 13 (omega arith) ∙ sym (year-end 1 m h)
+pub start_last : (m : ℕ) → 12 < m → month_start 1 13 ≡ month_start 1 m
+start_last m h = year-end 1 13 (omega arith) ∙ sym (year-end 1 m h)
 
 -- the days before a month of a year: l leap days of some years before, which from March on are those to the next year, and s days of a common year
-module _ (y m years l s : ℕ) (e : 365 * years + l ≡ yearStart years) (f : s ≡ monthStart 1 m) where
-  pub number-early : m ≤ 2 → years ≡ y → 365 * y + l + s ≡ yearStart y + monthStart y m
-  number-early h g = omega (arith, rw g at e, start-early 1 y m h)
+module _ (y m years l s : ℕ) (e : 365 * years + l ≡ year_start years) (f : s ≡ month_start 1 m) where
+  pub number_early : m ≤ 2 → years ≡ y → 365 * y + l + s ≡ year_start y + month_start y m
+  number_early h g = omega (arith, rw g at e, start_early 1 y m h)
 
-  pub number-late : 2 < m → years ≡ y + 1 → 365 * y + l + s ≡ yearStart y + monthStart y m
-  number-late h g = omega (arith, rw g at e, year-more y, start-late y 1 m h, common)
+  pub number_late : 2 < m → years ≡ y + 1 → 365 * y + l + s ≡ year_start y + month_start y m
+  number_late h g = omega (arith, rw g at e, year-more y, start_late y 1 m h, common)
 
 -- the next day
-module _ (d l : ℕ) (e : l ≡ monthLength (year d) (month d)) where
-  pub coded-in-month : day d < l → d + 1 ≡ nextDay d
-  coded-in-month h = sym (next-in-month d (rw e at h))
+module _ (d l : ℕ) (e : l ≡ month_length (year d) (month d)) where
+  pub coded_in_month : day d < l → d + 1 ≡ next_day d
+  coded_in_month h = sym (next_in_month d (rw e at h))
 
-  pub coded-month : l ≤ day d → month d < 12 → dated (year d) (month d + 1) 1 ≡ nextDay d
+  pub coded-month : l ≤ day d → month d < 12 → dated (year d) (month d + 1) 1 ≡ next_day d
   coded-month h m = sym (next-month d (rw e at h) m)
 
-  pub coded-year : l ≤ day d → 12 ≤ month d → 10000 * (year d + 1) + 101 ≡ nextDay d
+  pub coded-year : l ≤ day d → 12 ≤ month d → 10000 * (year d + 1) + 101 ≡ next_day d
   coded-year h m = sym (next-year d (rw e at h) m ∙ omega arith)
 
 -- an anniversary
@@ -88,10 +88,10 @@ module _ (d n : ℕ) where
   pub coded-same : (d % 10000 ≡ 229 → ⊥) → d + 10000 * n ≡ anniversary d n
   coded-same h = sym (kept d n (λ m l. absurd (h (omega arith))) ∙ same)
 
-  pub coded-leap : isLeap (year d + n) ≡ true → d + 10000 * n ≡ anniversary d n
+  pub coded-leap : is_leap (year d + n) ≡ true → d + 10000 * n ≡ anniversary d n
   coded-leap h = sym (kept d n (λ m l. h) ∙ same)
 
-  pub coded-lost : d % 10000 ≡ 229 → isLeap (year d + n) ≡ false → d + 10000 * n - 1 ≡ anniversary d n
+  pub coded-lost : d % 10000 ≡ 229 → is_leap (year d + n) ≡ false → d + 10000 * n - 1 ≡ anniversary d n
   coded-lost h c =
       let second : month d ≡ 2 = omega arith in
       let day29 : day d ≡ 29 = omega arith in

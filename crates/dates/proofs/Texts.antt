@@ -7,23 +7,23 @@ use Prim.Native.Nat.{ℕ, ◌+◌, ◌-◌, ◌*◌, ◌/◌, ◌%◌, ◌≤◌
 use native.Mathlib.Omega.{arith}
 use lib.ListN.{length, get_or}
 use Rattle.lists.specs.Choice.{same, within}
-use Rattle.lists.specs.Tables.{Each, listTo}
-use Rattle.lists.proofs.Entries.{each-so, each_map, same_true, same_refl}
+use Rattle.lists.specs.Tables.{Each, list_to}
+use Rattle.lists.proofs.Entries.{each_so, each_map, same_true, same_refl}
 use Rattle.lists.proofs.Tables.{to_back}
-use Rattle.lists.proofs.Tests.{by-test, within-true, true-within}
-use Rattle.numerals.specs.Numerals.{valueFrom}
+use Rattle.lists.proofs.Tests.{by-test, within_true, true_within}
+use Rattle.numerals.specs.Numerals.{value_from}
 use Rattle.dates.specs.Calendar.{year, month, day, dated}
-use Rattle.dates.specs.Text.{digitsOf, dateText, textNumber, readDate, Form, twoAt}
+use Rattle.dates.specs.Text.{digits_of, date_text, text_number, read_date, Form, two_at}
 use Rattle.dates.specs.Dates.{EightDigits}
 use Rattle.dates.specs.declared.text.Reading.TheVariants.{Number, NotADate}
 use Rattle.dates.proofs.Tested.{on-parts}
 
-value-four : (x : ℕ) → valueFrom 0 (digitsOf 4 x) ≡ x % 10000
-unfolding valueFrom digitsOf
+value-four : (x : ℕ) → value_from 0 (digits_of 4 x) ≡ x % 10000
+unfolding value_from digits_of
 value-four x = omega arith
 
-value-two : (x : ℕ) → valueFrom 0 (digitsOf 2 x) ≡ x % 100
-unfolding valueFrom digitsOf
+value-two : (x : ℕ) → value_from 0 (digits_of 2 x) ≡ x % 100
+unfolding value_from digits_of
 value-two x = omega arith
 
 last-four : (n : ℕ) → 100 * (month n % 100) + day n % 100 ≡ n % 10000
@@ -39,49 +39,49 @@ last-eight : (n : ℕ) → dated (year n % 10000) (month n % 100) (day n % 100) 
 last-eight n = join _ _ _ _ _ (last-four n) (first-four n)
 
 -- the text of a number holds its last eight digits
-number-back : (n : ℕ) → textNumber (dateText n) ≡ n % 100000000
-unfolding textNumber dateText digitsOf
+number-back : (n : ℕ) → text_number (date_text n) ≡ n % 100000000
+unfolding text_number date_text digits_of
 number-back n =
-    let y : valueFrom 0 (digitsOf 4 (year n)) ≡ year n % 10000 = value-four (year n) in
-    let m : valueFrom 0 (digitsOf 2 (month n)) ≡ month n % 100 = value-two (month n) in
-    let d : valueFrom 0 (digitsOf 2 (day n)) ≡ day n % 100 = value-two (day n) in
+    let y : value_from 0 (digits_of 4 (year n)) ≡ year n % 10000 = value-four (year n) in
+    let m : value_from 0 (digits_of 2 (month n)) ≡ month n % 100 = value-two (month n) in
+    let d : value_from 0 (digits_of 2 (day n)) ≡ day n % 100 = value-two (day n) in
     rw (y, m, d) (last-eight n)
 
 small : (n : ℕ) → n < 100000000 → n % 100000000 ≡ n
 small n h = omega arith
 
 -- the text of a number is read as the number
-pub read_of : (text : List ℕ) (n : ℕ) → text ≡ dateText n → n < 100000000 → readDate text ≡ Number n
-unfolding readDate
+pub read_of : (text : List ℕ) (n : ℕ) → text ≡ date_text n → n < 100000000 → read_date text ≡ Number n
+unfolding read_date
 read_of text n e h =
-    let back : textNumber (dateText n) ≡ n = number-back n ∙ small n h in
-    rw (e, back, same_refl (dateText n))
+    let back : text_number (date_text n) ≡ n = number-back n ∙ small n h in
+    rw (e, back, same_refl (date_text n))
 
 -- what is read as a number is its text
 module _ (text : List ℕ) where
-  passed : same text (dateText (textNumber text)) ≡ true → (text ≡ dateText (textNumber text)) × (textNumber text < 100000000)
+  passed : same text (date_text (text_number text)) ≡ true → (text ≡ date_text (text_number text)) × (text_number text < 100000000)
   passed e =
-      let is : text ≡ dateText (textNumber text) = same_true text (dateText (textNumber text)) e in
-      let last : textNumber text ≡ textNumber text % 100000000 = ap textNumber is ∙ number-back (textNumber text) in
+      let is : text ≡ date_text (text_number text) = same_true text (date_text (text_number text)) e in
+      let last : text_number text ≡ text_number text % 100000000 = ap text_number is ∙ number-back (text_number text) in
       (is, omega arith)
 
-  of-read : (n : ℕ) → readDate text ≡ Number n → (text ≡ dateText n) × (n < 100000000)
-  unfolding readDate
+  of-read : (n : ℕ) → read_date text ≡ Number n → (text ≡ date_text n) × (n < 100000000)
+  unfolding read_date
   of-read n =
-      by-test (λ r. r ≡ Number n → (text ≡ dateText n) × (n < 100000000)) (same text (dateText (textNumber text)))
+      by-test (λ r. r ≡ Number n → (text ≡ date_text n) × (n < 100000000)) (same text (date_text (text_number text)))
       (λ e r.
-      let value : textNumber text ≡ n = cc in
+      let value : text_number text ≡ n = cc in
       rw value at (passed e))
       (λ e r.
       let none : ◌≡◌ {A = ℕ} 0 1 = cc in
       absurd (omega arith))
 
-  pub read-exactly : (n : ℕ) → (readDate text ≡ Number n) ↔ ((text ≡ dateText n) × (n < 100000000))
+  pub read-exactly : (n : ℕ) → (read_date text ≡ Number n) ↔ ((text ≡ date_text n) × (n < 100000000))
   read-exactly n = (of-read n, λ h. read_of text n h.0 h.1)
 
 -- the text of a number has the form
-pub form_of : (n : ℕ) → Form (dateText n)
-unfolding dateText digitsOf
+pub form_of : (n : ℕ) → Form (date_text n)
+unfolding date_text digits_of
 form_of n =
     let d : (x : ℕ) → (48 ≤ 48 + x % 10) × (48 + x % 10 ≤ 57) = λ x. (omega arith, omega arith) in
     record {
@@ -90,28 +90,28 @@ form_of n =
       hyphens = (refl, (refl, tt));
     }
 
-pub text-length : (n : ℕ) → length (dateText n) ≡ 10
+pub text-length : (n : ℕ) → length (date_text n) ≡ 10
 text-length n = (form_of n).ten
 
 -- a text without the form is not read
-pub not-read : (text : List ℕ) → (Form text → ⊥) → NotADate ≡ readDate text
-unfolding readDate
+pub not-read : (text : List ℕ) → (Form text → ⊥) → NotADate ≡ read_date text
+unfolding read_date
 not-read text h =
-    by-test (λ r. NotADate ≡ r) (same text (dateText (textNumber text)))
-    (λ e. absurd (h (rw (passed text e).0 (form_of (textNumber text)))))
+    by-test (λ r. NotADate ≡ r) (same text (date_text (text_number text)))
+    (λ e. absurd (h (rw (passed text e).0 (form_of (text_number text)))))
     (λ e. refl)
 
 -- the digits of a number that is given by them
 module _ (a b : ℕ) (p : a ≤ 9) (q : b ≤ 9) where
-  two_digits : digitsOf 2 (10 * a + b) ≡ (48 + a) ∷ (48 + b) ∷ []
-  unfolding digitsOf
+  two_digits : digits_of 2 (10 * a + b) ≡ (48 + a) ∷ (48 + b) ∷ []
+  unfolding digits_of
   two_digits =
       let first : (10 * a + b) / 10 % 10 ≡ a = omega arith in
       let second : (10 * a + b) % 10 ≡ b = omega arith in
       rw (first, second)
 
-  four-digits : (c d : ℕ) → c ≤ 9 → d ≤ 9 → digitsOf 4 (1000 * a + 100 * b + 10 * c + d) ≡ (48 + a) ∷ (48 + b) ∷ (48 + c) ∷ (48 + d) ∷ []
-  unfolding digitsOf
+  four-digits : (c d : ℕ) → c ≤ 9 → d ≤ 9 → digits_of 4 (1000 * a + 100 * b + 10 * c + d) ≡ (48 + a) ∷ (48 + b) ∷ (48 + c) ∷ (48 + d) ∷ []
+  unfolding digits_of
   four-digits c d r s =
       let x = 1000 * a + 100 * b + 10 * c + d in
       let third : x / 10 ≡ 100 * a + 10 * b + c = omega arith in
@@ -123,12 +123,12 @@ module _ (a b : ℕ) (p : a ≤ 9) (q : b ≤ 9) where
       bytes e f g h = λ i. (48 + e i) ∷ (48 + f i) ∷ (48 + g i) ∷ (48 + h i) ∷ []
 
 digits-text : (a b c d e f g h : ℕ) → Each (◌≤ 9) (a ∷ b ∷ c ∷ d ∷ e ∷ f ∷ g ∷ h ∷ [])
-    → dateText (dated (1000 * a + 100 * b + 10 * c + d) (10 * e + f) (10 * g + h))
+    → date_text (dated (1000 * a + 100 * b + 10 * c + d) (10 * e + f) (10 * g + h))
     ≡ (48 + a) ∷ (48 + b) ∷ (48 + c) ∷ (48 + d) ∷ 45 ∷ (48 + e) ∷ (48 + f) ∷ 45 ∷ (48 + g) ∷ (48 + h) ∷ []
-unfolding dateText
+unfolding date_text
 digits-text a b c d e f g h (p, (q, (r, (s, (t, (u, (v, (w, _)))))))) =
     let on = on-parts (1000 * a + 100 * b + 10 * c + d) (10 * e + f) (10 * g + h) (omega arith) (omega arith) in
-    rw (on.of-year, on.of-month, on.of-day, four-digits a b p q c d r s, two_digits e f t u, two_digits g h v w)
+    rw (on.of_year, on.of_month, on.of_day, four-digits a b p q c d r s, two_digits e f t u, two_digits g h v w)
 
 -- as one sum
 pub eight-text : (a b c d e f g h : ℕ) → Each (◌≤ 9) (a ∷ b ∷ c ∷ d ∷ e ∷ f ∷ g ∷ h ∷ []) → EightDigits a b c d e f g h
@@ -137,9 +137,9 @@ eight-text a b c d e f g h low =
     ≡ dated (1000 * a + 100 * b + 10 * c + d) (10 * e + f) (10 * g + h) = omega arith in
     record { text = rw sum (digits-text a b c d e f g h low) }
 
-digits-below : (a b c d e f g h : ℕ) → Each (◌≤ 9) (a ∷ b ∷ c ∷ d ∷ e ∷ f ∷ g ∷ h ∷ [])
+digits_below : (a b c d e f g h : ℕ) → Each (◌≤ 9) (a ∷ b ∷ c ∷ d ∷ e ∷ f ∷ g ∷ h ∷ [])
     → dated (1000 * a + 100 * b + 10 * c + d) (10 * e + f) (10 * g + h) < 100000000
-digits-below a b c d e f g h (p, (q, (r, (s, (t, (u, (v, (w, _)))))))) = omega arith
+digits_below a b c d e f g h (p, (q, (r, (s, (t, (u, (v, (w, _)))))))) = omega arith
 
 module _ (text : List ℕ) where
   -- the digit at a place
@@ -163,11 +163,11 @@ module _ (text : List ℕ) where
   places = 0 ∷ 1 ∷ 2 ∷ 3 ∷ 5 ∷ 6 ∷ 8 ∷ 9 ∷ []
 
   lows : Form text → Each (◌≤ 9) (map at places)
-  lows f = each_map (◌≤ 9) at places (each-so IsDigit (λ i. at i ≤ 9) low places f.digits)
+  lows f = each_map (◌≤ 9) at places (each_so IsDigit (λ i. at i ≤ 9) low places f.digits)
 
   -- a text of the form is the text of the number of its digits
-  form-text : Form text → text ≡ dateText eight
-  unfolding listTo
+  form-text : Form text → text ≡ date_text eight
+  unfolding list_to
   form-text f =
       let (a, (b, (c, (d, (e, (g, (h, (k, _)))))))) = f.digits in
       let (m, (n, _)) = f.hyphens in
@@ -175,60 +175,60 @@ module _ (text : List ℕ) where
       ∙ (λ i. byte 0 a i ∷ byte 1 b i ∷ byte 2 c i ∷ byte 3 d i ∷ m i ∷ byte 5 e i ∷ byte 6 g i ∷ n i ∷ byte 8 h i ∷ byte 9 k i ∷ [])
       ∙ sym (digits-text (at 0) (at 1) (at 2) (at 3) (at 5) (at 6) (at 8) (at 9) (lows f))
 
-  pub form-read : Form text → readDate text ≡ Number (textNumber text)
+  pub form-read : Form text → read_date text ≡ Number (text_number text)
   form-read f =
-      let below = digits-below (at 0) (at 1) (at 2) (at 3) (at 5) (at 6) (at 8) (at 9) (lows f) in
-      let value : textNumber text ≡ eight = ap textNumber (form-text f) ∙ number-back eight ∙ small eight below in
+      let below = digits_below (at 0) (at 1) (at 2) (at 3) (at 5) (at 6) (at 8) (at 9) (lows f) in
+      let value : text_number text ≡ eight = ap text_number (form-text f) ∙ number-back eight ∙ small eight below in
       rw value (read_of text eight (form-text f) below)
 
   -- two digits at a place
-  pub two-value : (i : ℕ) → IsDigit i → IsDigit (i + 1) → twoAt text i ≡ 10 * at i + at (i + 1)
-  unfolding twoAt
-  two-value i p q = rw (true-within 48 57 (get_or text i 0) p.0 p.1, true-within 48 57 (get_or text (i + 1) 0) q.0 q.1)
+  pub two-value : (i : ℕ) → IsDigit i → IsDigit (i + 1) → two_at text i ≡ 10 * at i + at (i + 1)
+  unfolding two_at
+  two-value i p q = rw (true_within 48 57 (get_or text i 0) p.0 p.1, true_within 48 57 (get_or text (i + 1) 0) q.0 q.1)
 
-  pub two-found : (i : ℕ) → twoAt text i ≤ 99 → IsDigit i × IsDigit (i + 1)
-  unfolding twoAt
+  pub two-found : (i : ℕ) → two_at text i ≤ 99 → IsDigit i × IsDigit (i + 1)
+  unfolding two_at
   two-found i =
       by-test (λ x. x ≤ 99 → IsDigit i × IsDigit (i + 1)) (within 48 57 (get_or text i 0) && within 48 57 (get_or text (i + 1) 0))
       (λ e h.
       let (a, b) = (and-eq-true_iff (within 48 57 (get_or text i 0)) (within 48 57 (get_or text (i + 1) 0))).0 e in
-      (within-true 48 57 (get_or text i 0) a, within-true 48 57 (get_or text (i + 1) 0) b))
+      (within_true 48 57 (get_or text i 0) a, within_true 48 57 (get_or text (i + 1) 0) b))
       (λ e h. absurd (omega arith))
 
   pub two-sum : (i x y : ℕ) → x + 48 ≡ get_or text i 0 → get_or text i 0 ≤ 57 → y + 48 ≡ get_or text (i + 1) 0 → get_or text (i + 1) 0 ≤ 57
-      → (10 * x + y ≡ twoAt text i) × (10 * x + y ≤ 100)
+      → (10 * x + y ≡ two_at text i) × (10 * x + y ≤ 100)
   two-sum i x y p a q b =
       let value = two-value i (omega arith, a) (omega arith, b) in
       (omega arith, omega arith)
 
   -- what the code finds on its way: no form, or the form
-  pub not-ten : length text ≢ 10 → NotADate ≡ readDate text
+  pub not-ten : length text ≢ 10 → NotADate ≡ read_date text
   not-ten h = not-read text (λ f. h f.ten)
 
-  pub no-hyphen-4 : get_or text 4 0 ≢ 45 → NotADate ≡ readDate text
-  no-hyphen-4 h = not-read text (λ f. h f.hyphens.0)
+  pub no_hyphen_4 : get_or text 4 0 ≢ 45 → NotADate ≡ read_date text
+  no_hyphen_4 h = not-read text (λ f. h f.hyphens.0)
 
-  pub no-hyphen-7 : get_or text 7 0 ≢ 45 → NotADate ≡ readDate text
-  no-hyphen-7 h = not-read text (λ f. h f.hyphens.1.0)
+  pub no_hyphen_7 : get_or text 7 0 ≢ 45 → NotADate ≡ read_date text
+  no_hyphen_7 h = not-read text (λ f. h f.hyphens.1.0)
 
-  too-high : (i : ℕ) → 99 < twoAt text i → IsDigit i → IsDigit (i + 1) → ⊥
-  too-high i h p q = omega (arith, two-value i p q)
+  too_high : (i : ℕ) → 99 < two_at text i → IsDigit i → IsDigit (i + 1) → ⊥
+  too_high i h p q = omega (arith, two-value i p q)
 
-  pub no-digits-0 : (x : ℕ) → x ≡ twoAt text 0 → 99 < x → NotADate ≡ readDate text
-  no-digits-0 x e h = not-read text (λ f. let (a, (b, _)) = f.digits in too-high 0 (rw e at h) a b)
+  pub no_digits_0 : (x : ℕ) → x ≡ two_at text 0 → 99 < x → NotADate ≡ read_date text
+  no_digits_0 x e h = not-read text (λ f. let (a, (b, _)) = f.digits in too_high 0 (rw e at h) a b)
 
-  pub no-digits-2 : (x : ℕ) → x ≡ twoAt text 2 → 99 < x → NotADate ≡ readDate text
-  no-digits-2 x e h = not-read text (λ f. let (_, (_, (a, (b, _)))) = f.digits in too-high 2 (rw e at h) a b)
+  pub no_digits_2 : (x : ℕ) → x ≡ two_at text 2 → 99 < x → NotADate ≡ read_date text
+  no_digits_2 x e h = not-read text (λ f. let (_, (_, (a, (b, _)))) = f.digits in too_high 2 (rw e at h) a b)
 
-  pub no-digits-5 : (x : ℕ) → x ≡ twoAt text 5 → 99 < x → NotADate ≡ readDate text
-  no-digits-5 x e h = not-read text (λ f. let (_, (_, (_, (_, (a, (b, _)))))) = f.digits in too-high 5 (rw e at h) a b)
+  pub no_digits_5 : (x : ℕ) → x ≡ two_at text 5 → 99 < x → NotADate ≡ read_date text
+  no_digits_5 x e h = not-read text (λ f. let (_, (_, (_, (_, (a, (b, _)))))) = f.digits in too_high 5 (rw e at h) a b)
 
-  pub no-digits-8 : (x : ℕ) → x ≡ twoAt text 8 → 99 < x → NotADate ≡ readDate text
-  no-digits-8 x e h = not-read text (λ f. let (_, (_, (_, (_, (_, (_, (a, (b, _)))))))) = f.digits in too-high 8 (rw e at h) a b)
+  pub no_digits_8 : (x : ℕ) → x ≡ two_at text 8 → 99 < x → NotADate ≡ read_date text
+  no_digits_8 x e h = not-read text (λ f. let (_, (_, (_, (_, (_, (_, (a, (b, _)))))))) = f.digits in too_high 8 (rw e at h) a b)
 
   pub all_found : (a b c d : ℕ) → length text ≡ 10 → get_or text 4 0 ≡ 45 → get_or text 7 0 ≡ 45
-      → a ≡ twoAt text 0 → b ≡ twoAt text 2 → c ≡ twoAt text 5 → d ≡ twoAt text 8 → a ≤ 99 → b ≤ 99 → c ≤ 99 → d ≤ 99
-      → Number (1000000 * a + 10000 * b + 100 * c + d) ≡ readDate text
+      → a ≡ two_at text 0 → b ≡ two_at text 2 → c ≡ two_at text 5 → d ≡ two_at text 8 → a ≤ 99 → b ≤ 99 → c ≤ 99 → d ≤ 99
+      → Number (1000000 * a + 10000 * b + 100 * c + d) ≡ read_date text
   all_found a b c d n s t p q r u e f g h =
       let (a0, a1) = two-found 0 (rw p at e) in
       let (b0, b1) = two-found 2 (rw q at f) in
@@ -236,4 +236,4 @@ module _ (text : List ℕ) where
       let (d0, d1) = two-found 8 (rw u at h) in
       let form : Form text = record { ten = n; digits = (a0, (a1, (b0, (b1, (c0, (c1, (d0, (d1, tt)))))))); hyphens = (s, (t, tt)) } in
       let value : eight ≡ 1000000 * a + 10000 * b + 100 * c + d = omega (arith, two-value 0 a0 a1, two-value 2 b0 b1, two-value 5 c0 c1, two-value 8 d0 d1) in
-      sym (read_of text (1000000 * a + 10000 * b + 100 * c + d) (form-text form ∙ ap dateText value) (omega arith))
+      sym (read_of text (1000000 * a + 10000 * b + 100 * c + d) (form-text form ∙ ap date_text value) (omega arith))

@@ -2,26 +2,26 @@
 use mathlib.Core.{Path.◌≡◌, Bool.cond, Bool.◌&&◌, List.List, List.[], List.◌∷◌, List.◌++◌}
 use Rattle.std.specs.Prelude.{ℕ, zero, suc, ◌+◌, ◌-◌, ◌*◌, ◌/◌, ◌%◌, ◌≤◌, length, get_or, take, drop}
 use Rattle.lists.specs.{Choice.same, Choice.within, Tables.Each}
-use Rattle.numerals.specs.Numerals.{valueFrom}
+use Rattle.numerals.specs.Numerals.{value_from}
 use Rattle.dates.specs.Calendar.{year, month, day, dated}
 use Rattle.dates.specs.declared.text.Reading.{Reading, TheVariants.Number, TheVariants.NotADate}
 
 -- the last k digits of a number, as bytes
-unfoldable pub digitsOf : ℕ → ℕ → List ℕ
-digitsOf zero x = []
-digitsOf (suc k) x = digitsOf k (x / 10) ++ (48 + x % 10) ∷ []
+unfoldable pub digits_of : ℕ → ℕ → List ℕ
+digits_of zero x = []
+digits_of (suc k) x = digits_of k (x / 10) ++ (48 + x % 10) ∷ []
 
 -- four digits, a hyphen, two, a hyphen, two
-unfoldable pub dateText : ℕ → List ℕ
-dateText n = digitsOf 4 (year n) ++ 45 ∷ digitsOf 2 (month n) ++ 45 ∷ digitsOf 2 (day n)
+unfoldable pub date_text : ℕ → List ℕ
+date_text n = digits_of 4 (year n) ++ 45 ∷ digits_of 2 (month n) ++ 45 ∷ digits_of 2 (day n)
 
 -- the number of a text: what stands before, between and behind its hyphens
-unfoldable pub textNumber : List ℕ → ℕ
-textNumber text = dated (valueFrom 0 (take 4 text)) (valueFrom 0 (take 2 (drop 5 text))) (valueFrom 0 (take 2 (drop 8 text)))
+unfoldable pub text_number : List ℕ → ℕ
+text_number text = dated (value_from 0 (take 4 text)) (value_from 0 (take 2 (drop 5 text))) (value_from 0 (take 2 (drop 8 text)))
 
 -- the number that the text is the text of
-unfoldable pub readDate : List ℕ → Reading
-readDate text = cond (same text (dateText (textNumber text))) (Number (textNumber text)) NotADate
+unfoldable pub read_date : List ℕ → Reading
+read_date text = cond (same text (date_text (text_number text))) (Number (text_number text)) NotADate
 
 -- a text of that form: ten bytes, digits and hyphens at their places
 pub record Form (text : List ℕ) : Type 0 where
@@ -30,8 +30,8 @@ pub record Form (text : List ℕ) : Type 0 where
   pub hyphens : Each (λ i. get_or text i 0 ≡ 45) (4 ∷ 7 ∷ [])
 
 -- the number of two digits at a place, 100 where they are not two digits
-unfoldable pub twoAt : List ℕ → ℕ → ℕ
-twoAt text i =
+unfoldable pub two_at : List ℕ → ℕ → ℕ
+two_at text i =
     let a = get_or text i 0 in
     let b = get_or text (i + 1) 0 in
     cond (within 48 57 a && within 48 57 b) (10 * (a - 48) + (b - 48)) 100

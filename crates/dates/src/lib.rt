@@ -3,10 +3,10 @@
 pub mod text;
 
 ghost use Rattle.std.specs.Prelude.{◌≡◌, ◌+◌, ◌*◌, ◌≤◌};
-ghost use Rattle.dates.specs.Calendar.{isLeap, leapDay, monthLength, isDate, nextDay, yearStart, monthStart, dayNumber, daysBetween, anniversary};
+ghost use Rattle.dates.specs.Calendar.{is_leap, leap_day, month_length, is_date, next_day, year_start, month_start, day_number, days_between, anniversary};
 
 fn is_leap(year: u64) -> bool
-    ensures { result ≡ isLeap year }
+    ensures { result ≡ is_leap year }
 {
     if year % 4 != 0 {
         return false;
@@ -21,14 +21,14 @@ fn is_leap(year: u64) -> bool
 }
 
 fn leap_day(year: u64) -> u64
-    ensures { (result ≡ leapDay year) × (result ≤ 1) }
+    ensures { (result ≡ leap_day year) × (result ≤ 1) }
 {
     if is_leap(year) { 1 } else { 0 }
 }
 
 // The days of a month, 31 and 30 in turn and in turn again from August on; a month that no year has is given none.
 fn month_length(year: u64, month: u64) -> u64
-    ensures { result ≡ monthLength year month }
+    ensures { result ≡ month_length year month }
 {
     if month == 2 {
         return 28 + leap_day(year);
@@ -44,7 +44,7 @@ fn month_length(year: u64, month: u64) -> u64
 
 // Whether a number is a day of the calendar in the years 1900 to 2299.
 pub fn is_date(d: u64) -> bool
-    ensures { result ≡ isDate d }
+    ensures { result ≡ is_date d }
 {
     if d < 19000101 {
         return false;
@@ -61,7 +61,7 @@ pub fn is_date(d: u64) -> bool
 
 // The day after.
 pub fn next_day(d: u32) -> u64
-    ensures { result ≡ nextDay d }
+    ensures { result ≡ next_day d }
 {
     let number = d as u64;
     let year = number / 10000;
@@ -78,7 +78,7 @@ pub fn next_day(d: u32) -> u64
 
 // The days of a common year before a month, of which February has two less than 30.
 fn month_start(month: u64) -> u64
-    ensures { (result ≡ monthStart 1 month) × (result ≤ 365) }
+    ensures { (result ≡ month_start 1 month) × (result ≤ 365) }
 {
     let low = if month < 1 { 1 } else { month };
     let place = if 12 < low { 13 } else { low };
@@ -89,14 +89,14 @@ fn month_start(month: u64) -> u64
 // The leap days of the years before a year.
 fn leap_days(year: u64) -> u64
     requires { year ≤ 429497 }
-    ensures { (365 * year + result ≡ yearStart year) × (result ≤ 110000) }
+    ensures { (365 * year + result ≡ year_start year) × (result ≤ 110000) }
 {
     (year + 3) / 4 - (year + 99) / 100 + (year + 399) / 400
 }
 
 // A day's number in the count of all days: the leap day of its own year counts from March on.
 fn day_number(d: u32) -> u64
-    ensures { (result ≡ dayNumber d) × (result ≤ 200000000) }
+    ensures { (result ≡ day_number d) × (result ≤ 200000000) }
 {
     let number = d as u64;
     let year = number / 10000;
@@ -107,7 +107,7 @@ fn day_number(d: u32) -> u64
 
 // The days from one date to another, 0 to an earlier one.
 pub fn days_between(from: u32, to: u32) -> u64
-    ensures { (result ≡ daysBetween from to) × (result ≤ 200000000) }
+    ensures { (result ≡ days_between from to) × (result ≤ 200000000) }
 {
     let first = day_number(from);
     let last = day_number(to);

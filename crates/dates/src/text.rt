@@ -1,6 +1,6 @@
 // The text of a number of eight digits, YYYY-MM-DD, read; the number need not be a date.
 ghost use Rattle.std.specs.Prelude.{◌≡◌, ◌+◌, ◌≤◌, ◌<◌, length};
-ghost use Rattle.dates.specs.Text.{readDate, twoAt};
+ghost use Rattle.dates.specs.Text.{read_date, two_at};
 
 #[derive(Drop)]
 pub enum Reading {
@@ -11,7 +11,7 @@ pub enum Reading {
 // The number of two digits, or 100.
 fn two_at(text: &[u8], at: usize) -> u64
     requires { at + 1 < length text.now }
-    ensures { (result ≡ twoAt text.now at) × (result ≤ 100) }
+    ensures { (result ≡ two_at text.now at) × (result ≤ 100) }
 {
     let next = at + 1;
     let a = text[at];
@@ -33,7 +33,7 @@ fn two_at(text: &[u8], at: usize) -> u64
 
 // The number of a text of the form YYYY-MM-DD.
 pub fn read_date(text: &[u8]) -> Reading
-    ensures { result ≡ readDate text.now }
+    ensures { result ≡ read_date text.now }
 {
     if text.len() != 10 {
         return Reading::NotADate;

@@ -3,13 +3,13 @@ use mathlib.Core.Path.{refl}
 use mathlib.Core.Bool.{Bool}
 use borrow.Author.Tests.{eqb-true, eq-eqb}
 use Rattle.holding.specs.declared.Row.{Row}
-use Rattle.daybook.specs.Book.{head_of, accountAt, Book, holdingsIn}
+use Rattle.daybook.specs.Book.{head_of, account_at, Book, holdings_in}
 use Rattle.daybook.specs.Orders.{outcome, accepted, booked}
 use Rattle.daybook.specs.Bookings.{InOrder, OfOrder, Booking, BookNames, Bookings}
 use Rattle.daybook.specs.declared.Order.{Order, TheVariants.Add, TheVariants.Take, TheVariants.MoveTo}
 use Rattle.daybook.proofs.Descriptions.{one-description}
 use Rattle.daybook.proofs.Trades.{taken_none}
-use Rattle.daybook.proofs.Holdings.{place_at, held_at, no-holding, no_place, nothing-held}
+use Rattle.daybook.proofs.Holdings.{place_at, held_at, no_holding, no_place, nothing_held}
 use Rattle.daybook.proofs.Checked.{checked}
 use Rattle.daybook.proofs.Adding.{add-described, adding}
 use Rattle.daybook.proofs.Taking.{take-described, taking}
@@ -26,15 +26,15 @@ module _ (short : Bool) (b : Book) where
   booking o = record { at_first = checked short b o; next = ordered o }
 
 names : (b : Book) (t : Row) → BookNames b t
-unfolding accountAt head_of
+unfolding account_at head_of
 names b t = record {
-  account-at = refl;
-  holdings-in = unfold holdingsIn in refl;
+  account_at_lem = refl;
+  holdings_in_lem = unfold holdings_in in refl;
   place = λ fit. place_at b fit t;
   held = λ fit. held_at b fit t;
   no_place = λ fit. no_place b fit t;
-  none-held = λ fit. nothing-held b fit t;
-  none-taken = λ fit n. taken_none t (holdingsIn b) (no-holding b fit t n);
+  none_held = λ fit. nothing_held b fit t;
+  none_taken = λ fit n. taken_none t (holdings_in b) (no_holding b fit t n);
 }
 
 pub bookings : Bookings
@@ -42,8 +42,8 @@ unfolding accepted
 bookings = record {
   outcomes = booking;
   no_other = λ short b o answer after p. one_only short b o answer (outcome short b o) after (booked short b o) p (booking short b o);
-  is-accepted = λ short b o. (eqb-true (outcome short b o).number 0, eq-eqb (outcome short b o).number 0);
+  is_accepted = λ short b o. (eqb-true (outcome short b o).number 0, eq-eqb (outcome short b o).number 0);
   names = names;
   descriptions = one-description;
-  findings = λ m n. record { new-count = refl; refusal = refl };
+  findings = λ m n. record { new_count = refl; refusal = refl };
 }

@@ -9,14 +9,14 @@ use lib.ListN.{length, take}
 use borrow.Author.Tests.{leb-true, leb-false, ltb-true, ltb-false, eqb-true, eqb-false, not-true, not-false}
 use Rattle.lists.proofs.Tests.{either_way, same_or_not}
 use Rattle.lists.proofs.Entries.{one-or-not}
-use Rattle.dates.specs.Calendar.{isDate}
-use Rattle.holding.specs.Holding.{faultOf, Ranges}
+use Rattle.dates.specs.Calendar.{is_date}
+use Rattle.holding.specs.Holding.{fault_of, Ranges}
 use Rattle.holding.specs.declared.Row.{Row}
-use Rattle.holding.proofs.Ranges.{fault-none, none-fault}
-use Rattle.daybook.specs.Book.{alike, totalsOf, Book}
-use Rattle.daybook.specs.Bookings.{Equal, entry_at, bookAccount, EachInRange, TotalsRight, FirstEqual, NoneEqual, Fits, Headed, InOrder}
+use Rattle.holding.proofs.Ranges.{fault-none, none_fault}
+use Rattle.daybook.specs.Book.{alike, totals_of, Book}
+use Rattle.daybook.specs.Bookings.{Equal, entry_at, book_account, EachInRange, TotalsRight, FirstEqual, NoneEqual, Fits, Headed, InOrder}
 use Rattle.daybook.proofs.Descriptions.{equal-alike, alike-equal}
-use Rattle.daybook.proofs.Totals.{totals-afresh, afresh-totals}
+use Rattle.daybook.proofs.Totals.{totals_afresh, afresh_totals}
 
 -- each number below n passes a test, or there is a first that does not
 pub each-or-first : {P : Type 0} (test : ℕ → Bool) (n : ℕ) → (((k : ℕ) → k < n → test k ≡ true) → P)
@@ -41,34 +41,34 @@ none-or-first b t none first =
 
 -- a lent book, by its first fault
 module _ {P : Type 0} (short : Bool) (b : Book) where
-  pub lent-cases : (256 < b.day.count → P) → (b.day.count ≤ 256 → (length b.list < b.day.count) ⊎ (short ≡ true) → P)
-      → (Fits short b → isDate b.day.date ≡ false → P) → (Fits short b → isDate b.day.date ≡ true → 1 < b.day.letter → P)
-      → (Headed short b → (k : ℕ) → k < b.day.count → ((j : ℕ) → j < k → Ranges (bookAccount b) (entry_at b j)) → (Ranges (bookAccount b) (entry_at b k) → ⊥) → P)
+  pub lent_cases : (256 < b.day.count → P) → (b.day.count ≤ 256 → (length b.list < b.day.count) ⊎ (short ≡ true) → P)
+      → (Fits short b → is_date b.day.date ≡ false → P) → (Fits short b → is_date b.day.date ≡ true → 1 < b.day.letter → P)
+      → (Headed short b → (k : ℕ) → k < b.day.count → ((j : ℕ) → j < k → Ranges (book_account b) (entry_at b j)) → (Ranges (book_account b) (entry_at b k) → ⊥) → P)
       → (Headed short b → EachInRange b → (TotalsRight b → ⊥) → P) → (InOrder short b → P) → P
-  lent-cases many brief undated unlettered bad off in_order =
+  lent_cases many brief undated unlettered bad off in_order =
       either_way (ltb 256 b.day.count) (λ s. many (ltb-true 256 b.day.count s))
       (λ s. let few = ltb-false 256 b.day.count s in
       either_way (ltb (length b.list) b.day.count) (λ t. brief few (inl (ltb-true (length b.list) b.day.count t)))
       (λ t. either_way short (λ u. brief few (inr u))
       (λ u. fitting (record { holdings = few; entries = ltb-false (length b.list) b.day.count t; others = u }))))
     where
-      in-range : Headed short b → EachInRange b → P
-      in-range h each =
-          one-or-not b.day.totals (totalsOf (bookAccount b) (take b.day.count b.list))
-          (λ s. in_order (record { head = h; each-holding = each; totals = rw s (totals-afresh _ _) }))
-          (λ n. off h each (λ right. n (afresh-totals _ _ _ right)))
+      in_range : Headed short b → EachInRange b → P
+      in_range h each =
+          one-or-not b.day.totals (totals_of (book_account b) (take b.day.count b.list))
+          (λ s. in_order (record { head = h; each_holding = each; totals = rw s (totals_afresh _ _) }))
+          (λ n. off h each (λ right. n (afresh_totals _ _ _ right)))
 
       headed : Headed short b → P
       headed h =
-          let fault : ℕ → ℕ = λ k. faultOf (bookAccount b) (entry_at b k) in
+          let fault : ℕ → ℕ = λ k. fault_of (book_account b) (entry_at b k) in
           each-or-first (λ k. eqb (fault k) 0) b.day.count
-          (λ each. in-range h (λ k q. fault-none (bookAccount b) (entry_at b k) (eqb-true _ _ (each k q))))
-          (λ k q before s. bad h k q (λ j p. fault-none (bookAccount b) (entry_at b j) (eqb-true _ _ (before j p)))
-          (λ r. eqb-false (fault k) 0 s (none-fault (bookAccount b) (entry_at b k) r)))
+          (λ each. in_range h (λ k q. fault-none (book_account b) (entry_at b k) (eqb-true _ _ (each k q))))
+          (λ k q before s. bad h k q (λ j p. fault-none (book_account b) (entry_at b j) (eqb-true _ _ (before j p)))
+          (λ r. eqb-false (fault k) 0 s (none_fault (book_account b) (entry_at b k) r)))
 
       fitting : Fits short b → P
       fitting f =
-          either_way (isDate b.day.date)
+          either_way (is_date b.day.date)
           (λ dated. either_way (leb b.day.letter 1)
           (λ s. headed (record { sizes = f; dated = dated; lettered = leb-true b.day.letter 1 s }))
           (λ s. unlettered f dated (leb-false b.day.letter 1 s)))

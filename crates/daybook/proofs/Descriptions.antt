@@ -5,14 +5,14 @@ use mathlib.Core.List.{List}
 use Prim.Native.Nat.{ℕ}
 use lib.ListN.{get_or}
 use Rattle.lists.proofs.Tests.{either_way}
-use Rattle.lists.proofs.Entries.{same_true, eq-same}
+use Rattle.lists.proofs.Entries.{same_true, eq_same}
 use Rattle.holding.specs.declared.Row.{Row}
-use Rattle.daybook.specs.Book.{descriptionOf, alike, valued}
+use Rattle.daybook.specs.Book.{description_of, alike, valued}
 use Rattle.daybook.specs.Bookings.{Equal, OneDescription}
 
 module _ (r t : Row) where
-  from-description : descriptionOf r ≡ descriptionOf t → Equal r t
-  unfolding descriptionOf
+  from-description : description_of r ≡ description_of t → Equal r t
+  unfolding description_of
   from-description e = record {
     side = ap (λ (xs : List ℕ). get_or xs 0 0) e;
     kind = ap (λ (xs : List ℕ). get_or xs 1 0) e;
@@ -22,17 +22,17 @@ module _ (r t : Row) where
     rating = ap (λ (xs : List ℕ). get_or xs 5 0) e;
   }
 
-  to-description : Equal r t → descriptionOf r ≡ descriptionOf t
-  unfolding descriptionOf
+  to-description : Equal r t → description_of r ≡ description_of t
+  unfolding description_of
   to-description e = rw (e.side, e.kind, e.issuer, e.maturity, e.currency, e.rating)
 
   pub equal-alike : Equal r t → alike r t ≡ true
   unfolding alike
-  equal-alike e = eq-same (descriptionOf r) (descriptionOf t) (to-description e)
+  equal-alike e = eq_same (description_of r) (description_of t) (to-description e)
 
   pub alike-equal : alike r t ≡ true → Equal r t
   unfolding alike
-  alike-equal e = from-description (same_true (descriptionOf r) (descriptionOf t) e)
+  alike-equal e = from-description (same_true (description_of r) (description_of t) e)
 
   pub not_alike : (Equal r t → ⊥) → alike r t ≡ false
   not_alike n = either_way (alike r t) (λ e. absurd (n (alike-equal e))) (λ e. e)

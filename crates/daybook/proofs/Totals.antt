@@ -6,48 +6,48 @@ use native.Mathlib.Omega.{arith}
 use lib.Seq.{ext_get_or}
 use Rattle.lists.specs.Tables.{sum_of}
 use Rattle.lists.proofs.Tests.{same_or_not}
-use Rattle.lists.proofs.Tables.{length_to, getD-to}
+use Rattle.lists.proofs.Tables.{length_to, get_or-to}
 use Rattle.lists.proofs.Sums.{only_same, only-other}
 use Rattle.holding.specs.declared.{Account.Account, Row.Row}
-use Rattle.rates.specs.Rate.{periodOf}
-use Rattle.daybook.specs.Book.{marginOf, total_of, totalsOf}
-use Rattle.daybook.specs.Bookings.{AddsUp, none, in-period, in-another, Afresh}
+use Rattle.rates.specs.Rate.{period_of}
+use Rattle.daybook.specs.Book.{margin_of, total_of, totals_of}
+use Rattle.daybook.specs.Bookings.{AddsUp, none, in_period, in_another, Afresh}
 
 module _ (a : Account) where
   -- a holding counts in its own period
-  own : (r : Row) (rs : List Row) (period : ℕ) → periodOf a r.maturity ≡ period → total_of a (r ∷ rs) period ≡ marginOf a r + total_of a rs period
+  own : (r : Row) (rs : List Row) (period : ℕ) → period_of a r.maturity ≡ period → total_of a (r ∷ rs) period ≡ margin_of a r + total_of a rs period
   unfolding total_of sum_of
   own r rs period e = rw (← e, only_same)
 
   -- and in no other
-  other : (r : Row) (rs : List Row) (period : ℕ) → (periodOf a r.maturity ≡ period → ⊥) → total_of a (r ∷ rs) period ≡ total_of a rs period
+  other : (r : Row) (rs : List Row) (period : ℕ) → (period_of a r.maturity ≡ period → ⊥) → total_of a (r ∷ rs) period ≡ total_of a rs period
   unfolding total_of sum_of
-  other r rs period n = rw (only-other (periodOf a r.maturity) (marginOf a r) period n) (omega arith)
+  other r rs period n = rw (only-other (period_of a r.maturity) (margin_of a r) period n) (omega arith)
 
   adds-up : (rows : List Row) (period : ℕ) → AddsUp a period rows (total_of a rows period)
-  unfolding marginOf
+  unfolding margin_of
   adds-up [] period = unfold total_of sum_of in none
   adds-up (r ∷ rs) period =
-      same_or_not (periodOf a r.maturity) period
-      (λ e. rw (own r rs period e) (in-period e (adds-up rs period)))
-      (λ n. rw (other r rs period n) (in-another n (adds-up rs period)))
+      same_or_not (period_of a r.maturity) period
+      (λ e. rw (own r rs period e) (in_period e (adds-up rs period)))
+      (λ n. rw (other r rs period n) (in_another n (adds-up rs period)))
 
   adds-up-only : (rows : List Row) (period units : ℕ) → AddsUp a period rows units → units ≡ total_of a rows period
-  unfolding marginOf
+  unfolding margin_of
   adds-up-only rows period units none = unfold total_of sum_of in refl
-  adds-up-only rows period units (in-period {r = r} {rows = rs} {units = u} e s) = omega (arith, own r rs period e, adds-up-only rs period u s)
-  adds-up-only rows period units (in-another {r = r} {rows = rs} {units = u} n s) = adds-up-only rs period u s ∙ sym (other r rs period n)
+  adds-up-only rows period units (in_period {r = r} {rows = rs} {units = u} e s) = omega (arith, own r rs period e, adds-up-only rs period u s)
+  adds-up-only rows period units (in_another {r = r} {rows = rs} {units = u} n s) = adds-up-only rs period u s ∙ sym (other r rs period n)
 
-  pub totals-afresh : (rows : List Row) → Afresh a rows (totalsOf a rows)
-  unfolding totalsOf
-  totals-afresh rows = record {
+  pub totals_afresh : (rows : List Row) → Afresh a rows (totals_of a rows)
+  unfolding totals_of
+  totals_afresh rows = record {
     five = length_to 5 (λ k. total_of a rows (suc k));
-    each-period = λ k h. rw (getD-to 5 (λ k. total_of a rows (suc k)) k 0 h) (adds-up rows (suc k));
+    each_period = λ k h. rw (get_or-to 5 (λ k. total_of a rows (suc k)) k 0 h) (adds-up rows (suc k));
   }
 
-  pub afresh-totals : (rows : List Row) (totals : List ℕ) → Afresh a rows totals → totals ≡ totalsOf a rows
-  afresh-totals rows totals h =
-      let g = totals-afresh rows in
-      ext_get_or 0 totals (totalsOf a rows) (h.five ∙ sym g.five)
+  pub afresh_totals : (rows : List Row) (totals : List ℕ) → Afresh a rows totals → totals ≡ totals_of a rows
+  afresh_totals rows totals h =
+      let g = totals_afresh rows in
+      ext_get_or 0 totals (totals_of a rows) (h.five ∙ sym g.five)
       (λ k q. let below : k < 5 = omega (arith, h.five) in
-      adds-up-only rows (suc k) _ (h.each-period k below) ∙ sym (adds-up-only rows (suc k) _ (g.each-period k below)))
+      adds-up-only rows (suc k) _ (h.each_period k below) ∙ sym (adds-up-only rows (suc k) _ (g.each_period k below)))

@@ -55,31 +55,31 @@ module _ {A : Type 0} where
       long-before : length (take k (take n l)) ≡ k
       long-before = length-take-le k (take n l) (omega (arith, length-take-le n l h))
 
-      pub length-fewer : length fewer ≡ rest
-      length-fewer =
+      pub length_fewer : length fewer ≡ rest
+      length_fewer =
           length-append (take k (take n l)) (drop (suc k) (take n l)) ∙ omega (arith, long-before, length-drop (suc k) (take n l), length-take-le n l h)
 
-      pub fewer-long : length (front fewer l) ≡ length l
+      pub fewer_long : length (front fewer l) ≡ length l
       unfolding front
-      fewer-long = length-append fewer (drop (length fewer) l) ∙ omega (arith, length-fewer, length-drop (length fewer) l)
+      fewer_long = length-append fewer (drop (length fewer) l) ∙ omega (arith, length_fewer, length-drop (length fewer) l)
 
-      pub fewer-before : (d : A) (j : ℕ) → j < k → get_or (front fewer l) j d ≡ get_or l j d
+      pub fewer_before : (d : A) (j : ℕ) → j < k → get_or (front fewer l) j d ≡ get_or l j d
       unfolding front
-      fewer-before d j i =
-          get_or-append fewer _ d j (omega (arith, length-fewer))
+      fewer_before d j i =
+          get_or-append fewer _ d j (omega (arith, length_fewer))
           ∙ get_or-append (take k (take n l)) _ d j (omega (arith, long-before))
           ∙ get_or-take k (take n l) j d i
           ∙ get_or-take n l j d (omega arith)
 
-      pub fewer-moved : (d : A) (j : ℕ) → k ≤ j → j + 1 < n → get_or (front fewer l) j d ≡ get_or l (j + 1) d
+      pub fewer_moved : (d : A) (j : ℕ) → k ≤ j → j + 1 < n → get_or (front fewer l) j d ≡ get_or l (j + 1) d
       unfolding front
-      fewer-moved d j i m =
+      fewer_moved d j i m =
           let here : suc k + (j - length (take k (take n l))) ≡ j + 1 = omega (arith, long-before) in
-          get_or-append fewer _ d j (omega (arith, length-fewer))
+          get_or-append fewer _ d j (omega (arith, length_fewer))
           ∙ get_d_past (take k (take n l)) (drop (suc k) (take n l)) d j (omega (arith, long-before))
           ∙ get_or-drop (suc k) (take n l) _ d
           ∙ ap (λ (p : ℕ). get_or (take n l) p d) here
           ∙ get_or-take n l (j + 1) d m
 
-      pub fewer-kept : (d : A) (j : ℕ) → n ≤ j + 1 → get_or (front fewer l) j d ≡ get_or l j d
-      fewer-kept d j i = front_kept fewer l d j (omega (arith, length-fewer))
+      pub fewer_kept : (d : A) (j : ℕ) → n ≤ j + 1 → get_or (front fewer l) j d ≡ get_or l j d
+      fewer_kept d j i = front_kept fewer l d j (omega (arith, length_fewer))

@@ -2,19 +2,19 @@
 use mathlib.Core.{Bool.Bool, Bool.cond, List.List, List.[], List.◌∷◌}
 use Rattle.std.specs.Prelude.{ℕ, suc, ◌+◌, ◌-◌, ◌*◌}
 use lib.{Dec.eqb, ListN.take}
-use Rattle.lists.specs.{Choice.same, Tables.listTo, Tables.sum_of, Tables.only}
-use Rattle.holding.specs.Holding.{accountOf, holdingOf}
+use Rattle.lists.specs.{Choice.same, Tables.list_to, Tables.sum_of, Tables.only}
+use Rattle.holding.specs.Holding.{account_of, holding_of}
 use Rattle.holding.specs.declared.{Head.Head, Account.Account, Row.Row}
-use Rattle.rates.specs.Rate.{periodOf, rateOf}
+use Rattle.rates.specs.Rate.{period_of, rate_of}
 use Rattle.daybook.specs.declared.Day.{Day}
 
 -- side, kind, issuer, maturity, currency and rating
-unfoldable pub descriptionOf : Row → List ℕ
-descriptionOf r = r.side ∷ r.kind ∷ r.issuer ∷ r.maturity ∷ r.currency ∷ r.rating ∷ []
+unfoldable pub description_of : Row → List ℕ
+description_of r = r.side ∷ r.kind ∷ r.issuer ∷ r.maturity ∷ r.currency ∷ r.rating ∷ []
 
 -- two rows equal in these
 unfoldable pub alike : Row → Row → Bool
-alike r t = same (descriptionOf r) (descriptionOf t)
+alike r t = same (description_of r) (description_of t)
 
 -- a row with another value
 unfoldable pub valued : Row → ℕ → Row
@@ -34,9 +34,9 @@ place_in [] t = 0
 place_in (r ∷ rs) t = cond (alike r t) 0 (suc (place_in rs t))
 
 -- what that first one holds, nothing if none is equal
-unfoldable pub heldIn : List Row → Row → ℕ
-heldIn [] t = 0
-heldIn (r ∷ rs) t = cond (alike r t) r.value (heldIn rs t)
+unfoldable pub held_in : List Row → Row → ℕ
+held_in [] t = 0
+held_in (r ∷ rs) t = cond (alike r t) r.value (held_in rs t)
 
 -- adding value goes to the first equal holding, or else joins at the end
 unfoldable pub added : List Row → Row → List Row
@@ -49,31 +49,31 @@ taken [] t = []
 taken (r ∷ rs) t = cond (alike r t) (cond (eqb r.value t.value) rs (valued r (r.value - t.value) ∷ rs)) (r ∷ taken rs t)
 
 -- a holding's margin alone, in units: rate times value
-unfoldable pub marginOf : Account → Row → ℕ
-marginOf a r = rateOf a (holdingOf r) * r.value
+unfoldable pub margin_of : Account → Row → ℕ
+margin_of a r = rate_of a (holding_of r) * r.value
 
 -- the holdings' margins alone, added up for each of the five periods
 unfoldable pub total_of : Account → List Row → ℕ → ℕ
-total_of a rows period = sum_of rows (λ r. only (periodOf a r.maturity) (marginOf a r) period)
+total_of a rows period = sum_of rows (λ r. only (period_of a r.maturity) (margin_of a r) period)
 
-unfoldable pub totalsOf : Account → List Row → List ℕ
-totalsOf a rows = listTo 5 (λ k. total_of a rows (suc k))
+unfoldable pub totals_of : Account → List Row → List ℕ
+totals_of a rows = list_to 5 (λ k. total_of a rows (suc k))
 
 -- the head of what is stored with a book, and the account that the book is valued in
 unfoldable pub head_of : Day → Head
 head_of d = record { date = d.date; letter = d.letter }
 
-unfoldable pub accountAt : Day → Account
-accountAt d = accountOf (head_of d)
+unfoldable pub account_at : Day → Account
+account_at d = account_of (head_of d)
 
 -- a book as it is lent: what is stored with it, and the entries of its list
 pub record Book : Type 0 where
   pub day : Day
   pub list : List Row
 
-abbrev pub makeBook : Day → List Row → Book
-makeBook day list = record { day = day; list = list }
+abbrev pub make_book : Day → List Row → Book
+make_book day list = record { day = day; list = list }
 
 -- its holdings: the first entries, as many as are counted
-unfoldable pub holdingsIn : Book → List Row
-holdingsIn b = take b.day.count b.list
+unfoldable pub holdings_in : Book → List Row
+holdings_in b = take b.day.count b.list

@@ -13,41 +13,41 @@ use borrow.Author.Tests.{eqb-true, eq-eqb}
 use Rattle.lists.specs.Tables.{Each, front}
 use Rattle.lists.proofs.Tests.{by-test, either_way}
 use Rattle.lists.proofs.Entries.{each_map, each_back, at_each}
-use Rattle.holding.specs.Holding.{row_of, holdingOf, Government, Corporate, Worth, faultOf}
+use Rattle.holding.specs.Holding.{row_of, holding_of, Government, Corporate, Worth, fault_of}
 use Rattle.holding.specs.declared.{Holding.Holding, Row.Row}
 use Rattle.holding.proofs.Ranges.{side-back, kind-back, issuer-back, currency-back, rating-back}
 use Rattle.article.specs.Answer.{Answer}
 use Rattle.proposal.specs.Submission.{no_row}
 use Rattle.proposal.proofs.Clear.{number}
-use Rattle.daybook.specs.Book.{alike, valued, added, taken, Book, makeBook, holdingsIn}
-use Rattle.daybook.specs.Orders.{answer_of, holdingsAfter, outcome, accepted, booked, bookAfter}
-use Rattle.daybook.specs.Bookings.{bookAccount, InOrder, Described, DescribedFirst}
+use Rattle.daybook.specs.Book.{alike, valued, added, taken, Book, make_book, holdings_in}
+use Rattle.daybook.specs.Orders.{answer_of, holdings_after, outcome, accepted, booked, book_after}
+use Rattle.daybook.specs.Bookings.{book_account, InOrder, Described, DescribedFirst}
 use Rattle.daybook.specs.declared.{Day.Day, Reply.Reply}
 use Rattle.daybook.specs.declared.Order as daybook
 use Rattle.daybook.proofs.Bookings.{bookings}
 use Rattle.daybook.proofs.Described.{described-or-not, some-fault}
 use Rattle.daybook.proofs.Descriptions.{valued_equal}
-use Rattle.booking.specs.Seeing.{tradeOf, changed, Concluded}
-use Rattle.booking.specs.Settling.{noChange}
+use Rattle.booking.specs.Seeing.{trade_of, changed, Concluded}
+use Rattle.booking.specs.Settling.{no_change}
 use Rattle.booking.specs.declared.{Change.Change, Outcome.Outcome as Core}
 use Rattle.booking.proofs.Changed.{unchanged}
 use Rattle.desk.specs.declared.Order.{Order, TheVariants.Add, TheVariants.Take, TheVariants.MoveTo}
 use Rattle.desk.specs.declared.Outcome.{Outcome}
-use Rattle.desk.specs.Desk.{order_of, Books, worth, blank, tradedBy, put_of, changeOf, Examines}
+use Rattle.desk.specs.Desk.{order_of, Books, worth, blank, traded_by, put_of, change_of, Examines}
 use Rattle.desk.proofs.Mapped.{map-take, map-front, map-changed}
-use Rattle.desk.proofs.Apart.{apartOf, backOf, backs-apart, back-row, backs-rows, side-low}
+use Rattle.desk.proofs.Apart.{apart_of, back_of, backs_apart, back-row, backs_rows, side-low}
 
 -- a row whose issuer has a number; a record of such a row is its record
 abbrev Issued : Row → Type 0
 Issued r = Government r.issuer ⊎ Corporate r.issuer
 
-kept : (h : Holding) → Issued (row_of h) → holdingOf (row_of h) ≡ h
-unfolding row_of holdingOf
+kept : (h : Holding) → Issued (row_of h) → holding_of (row_of h) ≡ h
+unfolding row_of holding_of
 kept h known = rw (side-back h.side, kind-back h.kind, issuer-back h.issuer known, currency-back h.currency, rating-back h.rating)
 
 -- the row of what is put is the trade's with its value
-put-row : (o : Order) (v : ℕ) → row_of (put_of o v) ≡ valued (tradeOf (order_of o)) v
-unfolding row_of put_of tradedBy worth blank valued tradeOf order_of
+put-row : (o : Order) (v : ℕ) → row_of (put_of o v) ≡ valued (trade_of (order_of o)) v
+unfolding row_of put_of traded_by worth blank valued trade_of order_of
 put-row (Add h) v = refl
 put-row (Take h) v = refl
 put-row (MoveTo to) v = refl
@@ -67,8 +67,8 @@ low-taken [] t h = tt
 low-taken (r ∷ rs) t h =
     by-test (Each Low) (alike r t) (λ _. by-test (Each Low) (eqb r.value t.value) (λ _. h.1) (λ _. (h.0, h.1))) (λ _. (h.0, low-taken rs t h.1))
 
-low-after : (o : Order) (rows : List Row) → Each Low rows → Each Low (holdingsAfter (order_of o) rows)
-unfolding holdingsAfter order_of
+low-after : (o : Order) (rows : List Row) → Each Low rows → Each Low (holdings_after (order_of o) rows)
+unfolding holdings_after order_of
 low-after (Add t) rows h = low-added rows (row_of t) h (side-low t)
 low-after (Take t) rows h = low-taken rows (row_of t) h
 low-after (MoveTo to) rows h = h
@@ -78,15 +78,15 @@ unfolding valued
 cent t = record { low = omega arith; high = omega arith }
 
 -- a trade that is not refused for its description is described
-described-by : (b : Book) (answer : Answer) (t : Row) → DescribedFirst b answer b t → answer.number ≡ 0 → Described (bookAccount b) t
-described-by b answer t first zero = described-or-not (bookAccount b) t (λ d. d) (λ n. absurd (some-fault b t n (valued t 1) (valued_equal t 1) (none n)))
+described-by : (b : Book) (answer : Answer) (t : Row) → DescribedFirst b answer b t → answer.number ≡ 0 → Described (book_account b) t
+described-by b answer t first zero = described-or-not (book_account b) t (λ d. d) (λ n. absurd (some-fault b t n (valued t 1) (valued_equal t 1) (none n)))
   where
-    none : (Described (bookAccount b) t → ⊥) → faultOf (bookAccount b) (valued t 1) ≡ 0
+    none : (Described (book_account b) t → ⊥) → fault_of (book_account b) (valued t 1) ≡ 0
     none n = sym (ap number (first n (valued t 1) (valued_equal t 1) (cent t))) ∙ zero
 
 -- of an accepted order what is put is the record of its row
-put-kept : (b : Book) (o : Order) → InOrder false b → (outcome false b (order_of o)).number ≡ 0 → (v : ℕ) → holdingOf (row_of (put_of o v)) ≡ put_of o v
-unfolding row_of order_of put_of tradedBy worth blank
+put-kept : (b : Book) (o : Order) → InOrder false b → (outcome false b (order_of o)).number ≡ 0 → (v : ℕ) → holding_of (row_of (put_of o v)) ≡ put_of o v
+unfolding row_of order_of put_of traded_by worth blank
 put-kept b (Add h) i zero v =
     let d = described-by b _ (row_of h) ((bookings.outcomes false b (daybook.TheVariants.Add (row_of h))).next i).0 zero in
     kept (worth h v) d.identity.issuer
@@ -96,18 +96,18 @@ put-kept b (Take h) i zero v =
 put-kept b (MoveTo to) i zero v = kept (worth blank v) (inl (omega arith))
 
 -- so are the holdings of a book without fault
-backs-kept : (hs : List Holding) → Each (λ h. Issued (row_of h)) hs → map backOf (map row_of hs) ≡ hs
-backs-kept [] e = refl
-backs-kept (h ∷ hs) e = rw (back-row (row_of h) (side-low h), kept h e.0) (ap (λ (l : List Holding). h ∷ l) (backs-kept hs e.1))
+backs_kept : (hs : List Holding) → Each (λ h. Issued (row_of h)) hs → map back_of (map row_of hs) ≡ hs
+backs_kept [] e = refl
+backs_kept (h ∷ hs) e = rw (back-row (row_of h) (side-low h), kept h e.0) (ap (λ (l : List Holding). h ∷ l) (backs_kept hs e.1))
 
 module _ (ys : List Holding) (d : Day) (o : Order) (core : Core)
     (concluded : (list : List Row) → length list ≡ length ys → take d.count list ≡ take d.count (map row_of ys)
-    → Concluded false (makeBook d list) (order_of o) core) where
+    → Concluded false (make_book d list) (order_of o) core) where
   abbrev n : ℕ
   n = d.count
 
   abbrev b : Book
-  b = makeBook d (map row_of ys)
+  b = make_book d (map row_of ys)
 
   here : Concluded false b (order_of o) core
   here = concluded (map row_of ys) (length-map ys row_of) refl
@@ -125,18 +125,18 @@ module _ (ys : List Holding) (d : Day) (o : Order) (core : Core)
     rows = take n (map row_of ys)
 
     distinct : List Row
-    distinct = rows ++ map apartOf (drop n ys)
+    distinct = rows ++ map apart_of (drop n ys)
 
     rows_long : length rows ≡ n
     rows_long = length-take-le n (map row_of ys) (omega (arith, length-map ys row_of, within))
 
     distinct-rows : take n distinct ≡ rows
     unfolding distinct
-    distinct-rows = take_at rows (map apartOf (drop n ys)) n rows_long
+    distinct-rows = take_at rows (map apart_of (drop n ys)) n rows_long
 
     distinct-long : length distinct ≡ length ys
     unfolding distinct
-    distinct-long = length-append rows (map apartOf (drop n ys)) ∙ omega (arith, rows_long, length-map (drop n ys) apartOf, length-drop n ys, within)
+    distinct-long = length-append rows (map apart_of (drop n ys)) ∙ omega (arith, rows_long, length-map (drop n ys) apart_of, length-drop n ys, within)
 
     issuers : Each (λ h. Issued (row_of h)) (take n ys)
     issuers =
@@ -144,46 +144,46 @@ module _ (ys : List Holding) (d : Day) (o : Order) (core : Core)
         (rw (map-take row_of n ys)
         (at_each Issued no_row rows (λ k q.
         let below : k < n = omega (arith, rows_long) in
-        rw (get_or-take n (map row_of ys) k no_row below) (in_order.each-holding k below).identity.issuer)))
+        rw (get_or-take n (map row_of ys) k no_row below) (in_order.each_holding k below).identity.issuer)))
 
-    distinct-back : map backOf distinct ≡ ys
+    distinct-back : map back_of distinct ≡ ys
     unfolding distinct
     distinct-back =
-        rw (map-append backOf rows (map apartOf (drop n ys)), backs-apart (drop n ys), ← map-take row_of n ys, backs-kept (take n ys) issuers)
+        rw (map-append back_of rows (map apart_of (drop n ys)), backs_apart (drop n ys), ← map-take row_of n ys, backs_kept (take n ys) issuers)
         (take-append-drop n ys)
 
-    there : Concluded false (makeBook d distinct) (order_of o) core
+    there : Concluded false (make_book d distinct) (order_of o) core
     there = concluded distinct distinct-long distinct-rows
 
     abbrev after : List Row
-    after = holdingsAfter (order_of o) (holdingsIn b)
+    after = holdings_after (order_of o) (holdings_in b)
 
     -- the core's list of it
-    distinct-after : changed core.change (valued (tradeOf (order_of o)) core.change.value) distinct ≡ front after distinct
-    unfolding booked accepted bookAfter holdingsIn
+    distinct-after : changed core.change (valued (trade_of (order_of o)) core.change.value) distinct ≡ front after distinct
+    unfolding booked accepted book_after holdings_in
     distinct-after =
-        let number' : (outcome false (makeBook d distinct) (order_of o)).number ≡ 0 = ap number (sym there.answer ∙ here.answer) ∙ zero in
+        let number' : (outcome false (make_book d distinct) (order_of o)).number ≡ 0 = ap number (sym there.answer ∙ here.answer) ∙ zero in
         there.list ∙ rw (eq-eqb _ 0 number', distinct-rows)
 
     lows : Each Low after
-    unfolding holdingsIn
-    lows = low-after o (holdingsIn b) (rw (← map-take row_of n ys) (each_map Low row_of (take n ys) (each-low (take n ys))))
+    unfolding holdings_in
+    lows = low-after o (holdings_in b) (rw (← map-take row_of n ys) (each_map Low row_of (take n ys) (each-low (take n ys))))
       where
         each-low : (hs : List Holding) → Each (λ h. Low (row_of h)) hs
         each-low [] = tt
         each-low (h ∷ hs) = (side-low h, each-low hs)
 
-    pub list-after : changed core.change (put_of o core.change.value) ys ≡ front (map holdingOf after) ys
+    pub list-after : changed core.change (put_of o core.change.value) ys ≡ front (map holding_of after) ys
     list-after =
         let v = core.change.value in
-        let x = valued (tradeOf (order_of o)) v in
-        let put : backOf x ≡ put_of o v = ap backOf (sym (put-row o v)) ∙ back-row (row_of (put_of o v)) (side-low (put_of o v)) ∙ put-kept b o in_order zero v in
+        let x = valued (trade_of (order_of o)) v in
+        let put : back_of x ≡ put_of o v = ap back_of (sym (put-row o v)) ∙ back-row (row_of (put_of o v)) (side-low (put_of o v)) ∙ put-kept b o in_order zero v in
         ap (λ (h : Holding). changed core.change h ys) (sym put)
-        ∙ ap (changed core.change (backOf x)) (sym distinct-back)
-        ∙ sym (map-changed backOf core.change x distinct)
-        ∙ ap (map backOf) distinct-after
-        ∙ map-front backOf after distinct
-        ∙ rw (backs-rows after lows, distinct-back)
+        ∙ ap (changed core.change (back_of x)) (sym distinct-back)
+        ∙ sym (map-changed back_of core.change x distinct)
+        ∙ ap (map back_of) distinct-after
+        ∙ map-front back_of after distinct
+        ∙ rw (backs_rows after lows, distinct-back)
 
   pub rows-after : map row_of (changed core.change (put_of o core.change.value) ys) ≡ (booked false b (order_of o)).list
   rows-after = map-changed row_of core.change (put_of o core.change.value) ys ∙ rw (put-row o core.change.value) here.list
@@ -191,25 +191,25 @@ module _ (ys : List Holding) (d : Day) (o : Order) (core : Core)
 -- the list that a change left, whatever is promised of the core's
 module _ (ys : List Holding) (d : Day) (o : Order) (r : Outcome) (zs : List Holding) (examines : Examines ys d o r)
     (e : zs ≡ changed r.change r.put ys) where
-  abbrev ends : Concluded false (makeBook d (map row_of ys)) (order_of o) examines.core
+  abbrev ends : Concluded false (make_book d (map row_of ys)) (order_of o) examines.core
   ends = here ys d o examines.core examines.concluded
 
   abbrev number_is : ℕ
-  number_is = (outcome false (makeBook d (map row_of ys)) (order_of o)).number
+  number_is = (outcome false (make_book d (map row_of ys)) (order_of o)).number
 
-  change-is : (t : Bool) → eqb number_is 0 ≡ t → r.change ≡ cond t examines.core.change (noChange (length ys))
-  unfolding changeOf
+  change-is : (t : Bool) → eqb number_is 0 ≡ t → r.change ≡ cond t examines.core.change (no_change (length ys))
+  unfolding change_of
   change-is t s =
       examines.follows.change
-      ∙ ap (λ (u : Bool). cond u examines.core.change (noChange (length ys))) (ap (λ (a : Answer). eqb a.number 0) ends.answer ∙ s)
+      ∙ ap (λ (u : Bool). cond u examines.core.change (no_change (length ys))) (ap (λ (a : Answer). eqb a.number 0) ends.answer ∙ s)
 
   list-is : (c : Change) → r.change ≡ c → zs ≡ changed c (put_of o c.value) ys
   list-is c s = e ∙ ap (λ (h : Holding). changed r.change h ys) examines.follows.put ∙ ap (λ (k : Change). changed k (put_of o k.value) ys) s
 
-  answer : answer_of r.reply.finding ≡ outcome false (makeBook d (map row_of ys)) (order_of o)
+  answer : answer_of r.reply.finding ≡ outcome false (make_book d (map row_of ys)) (order_of o)
   answer = ap (λ (p : Reply). answer_of p.finding) examines.follows.reply ∙ ends.answer
 
-  day : r.reply.day ≡ (booked false (makeBook d (map row_of ys)) (order_of o)).day
+  day : r.reply.day ≡ (booked false (make_book d (map row_of ys)) (order_of o)).day
   day = ap (λ (p : Reply). p.day) examines.follows.reply ∙ ends.day
 
   pub books : Books ys d o zs r.reply
@@ -225,5 +225,5 @@ module _ (ys : List Holding) (d : Day) (o : Order) (r : Outcome) (zs : List Hold
         rows = ap (map row_of) z ∙ rows-after ys d o examines.core examines.concluded;
       })
       (λ t.
-      let z : zs ≡ ys = list-is (noChange (length ys)) (change-is false t) ∙ unchanged (put_of o 0) ys (length ys) refl in
+      let z : zs ≡ ys = list-is (no_change (length ys)) (change-is false t) ∙ unchanged (put_of o 0) ys (length ys) refl in
       record { answer = answer; day = day; list = rw t z; rows = rw t (ap (map row_of) z) })

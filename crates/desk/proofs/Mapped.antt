@@ -4,7 +4,7 @@ use mathlib.Core.List.{List, [], ◌∷◌, map, map-append}
 use Prim.Native.Nat.{ℕ, zero, suc, ◌-◌}
 use lib.ListN.{length, take, drop, set, length-map}
 use Rattle.lists.specs.Tables.{front, overwrite}
-use Rattle.booking.specs.Seeing.{movedUp, changed}
+use Rattle.booking.specs.Seeing.{moved_up, changed}
 use Rattle.booking.specs.declared.Change.{Change}
 
 module _ {A B : Type 0} (f : A → B) where
@@ -32,7 +32,7 @@ module _ {A B : Type 0} (f : A → B) where
   map-overwrite at xs old = rw (map-append f (take at old) (front xs (drop at old)), map-take at old, map-front xs (drop at old), map-drop at old)
 
   pub map-changed : (c : Change) (x : A) (xs : List A) → map f (changed c x xs) ≡ changed c (f x) (map f xs)
-  unfolding changed movedUp
+  unfolding changed moved_up
   map-changed c x xs =
       rw (
         map-set (overwrite (c.first - 1) (take (c.end - c.first) (drop c.first xs)) xs) c.at x,

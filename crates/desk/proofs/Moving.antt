@@ -7,17 +7,17 @@ use lib.ListN.{length, get_or, take, drop, set, length-append, length-drop}
 use lib.Seq.{take-suc, get_or-append-add, get_or-drop, drop-drop, length-take-le}
 use Rattle.lists.specs.Tables.{front, overwrite}
 use Rattle.lists.proofs.Overwrite.{overwrite-none, overwrite-one, overwrite-overwrite, length-overwrite}
-use Rattle.booking.specs.Seeing.{movedUp}
+use Rattle.booking.specs.Seeing.{moved_up}
 
 module _ {A : Type 0} (first : ℕ) (xs : List A) where
   -- how many moved tells the list
-  pub moved_as : (i end : ℕ) → i - first ≡ end - first → movedUp first i xs ≡ movedUp first end xs
-  unfolding movedUp
+  pub moved_as : (i end : ℕ) → i - first ≡ end - first → moved_up first i xs ≡ moved_up first end xs
+  unfolding moved_up
   moved_as i end e = rw e
 
   -- none did
-  pub moved_none : movedUp first first xs ≡ xs
-  unfolding movedUp
+  pub moved_none : moved_up first first xs ≡ xs
+  unfolding moved_up
   moved_none = let e : first - first ≡ 0 = omega arith in rw e (overwrite-none (first - 1) xs)
 
   -- one more does
@@ -47,8 +47,8 @@ module _ {A : Type 0} (first : ℕ) (xs : List A) where
         ∙ get_or-drop (i - 1) xs 1 d
         ∙ ap (λ (k : ℕ). get_or xs k d) there')
 
-    pub moved_more : set (movedUp first i xs) (i - 1) (get_or (movedUp first i xs) i d) ≡ movedUp first (suc i) xs
-    unfolding movedUp
+    pub moved_more : set (moved_up first i xs) (i - 1) (get_or (moved_up first i xs) i d) ≡ moved_up first (suc i) xs
+    unfolding moved_up
     moved_more =
         let size : length (overwrite at up xs) ≡ length xs = length-overwrite at up xs (omega (arith, last)) in
         let next : suc i - first ≡ suc (i - first) = omega arith in

@@ -19,35 +19,35 @@ use Rattle.desk.proofs.Order.TheLaws as O'
 use Rattle.desk.specs.contracts.Outcome as K
 use Rattle.desk.proofs.Outcome.TheLaws as K'
 
-abbrev pub scan-val : Scan → Val
-scan-val = LL.val S.the_type S'.the_laws
+abbrev pub scan_val : Scan → Val
+scan_val = LL.val S.the_type S'.the_laws
 
-abbrev pub scan-vals : Scan → List Val
-scan-vals s = scan-val s ∷ []
+abbrev pub scan_vals : Scan → List Val
+scan_vals s = scan_val s ∷ []
 
-abbrev pub change-val : Change → Val
-change-val = LL.val C.the_type C'.the_laws
+abbrev pub change_val : Change → Val
+change_val = LL.val C.the_type C'.the_laws
 
-abbrev pub change-vals : Change → List Val
-change-vals c = change-val c ∷ []
+abbrev pub change_vals : Change → List Val
+change_vals c = change_val c ∷ []
 
-abbrev pub day-val : Day → Val
-day-val = LL.val D.the_type D'.the_laws
+abbrev pub day_val : Day → Val
+day_val = LL.val D.the_type D'.the_laws
 
-abbrev pub day-vals : Day → List Val
-day-vals d = day-val d ∷ []
+abbrev pub day_vals : Day → List Val
+day_vals d = day_val d ∷ []
 
-abbrev pub view-val : View → Val
-view-val = LL.val Vi.the_type Vi'.the_laws
+abbrev pub view_val : View → Val
+view_val = LL.val Vi.the_type Vi'.the_laws
 
-abbrev pub view-vals : View → List Val
-view-vals v = view-val v ∷ []
+abbrev pub view_vals : View → List Val
+view_vals v = view_val v ∷ []
 
-abbrev pub order-vals : Order → List Val
-order-vals = EL.vals O.the_type O'.the_laws
+abbrev pub order_vals : Order → List Val
+order_vals = EL.vals O.the_type O'.the_laws
 
-abbrev pub outcome-val : Outcome → Val
-outcome-val = LL.val K.the_type K'.the_laws
+abbrev pub outcome_val : Outcome → Val
+outcome_val = LL.val K.the_type K'.the_laws
 
-abbrev pub outcome-vals : Outcome → List Val
-outcome-vals r = outcome-val r ∷ []
+abbrev pub outcome_vals : Outcome → List Val
+outcome_vals r = outcome_val r ∷ []

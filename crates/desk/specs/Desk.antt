@@ -3,16 +3,16 @@ use mathlib.Core.{Path.◌≡◌, Bool.cond, Bool.true, Bool.false, List.List, L
 use Rattle.std.specs.Prelude.{ℕ, ◌≤◌}
 use lib.{Dec.eqb, ListN.length, ListN.take}
 use Rattle.lists.specs.Tables.{front}
-use Rattle.dates.specs.Calendar.{isDate}
-use Rattle.holding.specs.Holding.{row_of, holdingOf}
+use Rattle.dates.specs.Calendar.{is_date}
+use Rattle.holding.specs.Holding.{row_of, holding_of}
 use Rattle.holding.specs.declared.{Holding.Holding, Row.Row, Side.TheVariants.Long, Kind.TheVariants.Bond}
 use Rattle.holding.specs.declared.{Issuer.TheVariants.Canada, Currency.TheVariants.Cad, Rating.TheVariants.SingleA}
-use Rattle.daybook.specs.Book.{Book, makeBook, holdingsIn}
-use Rattle.daybook.specs.Orders.{answer_of, holdingsAfter, outcome, accepted, booked}
+use Rattle.daybook.specs.Book.{Book, make_book, holdings_in}
+use Rattle.daybook.specs.Orders.{answer_of, holdings_after, outcome, accepted, booked}
 use Rattle.daybook.specs.declared.{Day.Day, Reply.Reply}
 use Rattle.daybook.specs.declared.Order as daybook
-use Rattle.booking.specs.Seeing.{tradeOf, Opens, OpensAgain, Seen, Known, Fits, Concluded, Concludes}
-use Rattle.booking.specs.Settling.{noChange}
+use Rattle.booking.specs.Seeing.{trade_of, Opens, OpensAgain, Seen, Known, Fits, Concluded, Concludes}
+use Rattle.booking.specs.Settling.{no_change}
 use Rattle.booking.specs.declared.{Scan.Scan, Change.Change}
 use Rattle.booking.specs.declared.Outcome as booking
 use Rattle.desk.specs.declared.Order.{Order, TheVariants.Add, TheVariants.Take, TheVariants.MoveTo}
@@ -27,16 +27,16 @@ order_of (MoveTo to) = daybook.TheVariants.MoveTo to
 -- an order to a book in the list ys leaves the list zs and gets a reply
 module _ (ys : List Holding) (d : Day) (o : Order) where
   -- the book by the numbers of its holdings
-  abbrev pub bookOf : Book
-  bookOf = makeBook d (map row_of ys)
+  abbrev pub book_of : Book
+  book_of = make_book d (map row_of ys)
 
   -- the answer; what is then stored with the book; the list to the last entry: the holdings stand first, entries past them keep what they held, and a
   -- refusal changes nothing; and the rows that the next order sees
   pub record Books (zs : List Holding) (r : Reply) : Type 0 where
-    pub answer : answer_of r.finding ≡ outcome false bookOf (order_of o)
-    pub day : r.day ≡ (booked false bookOf (order_of o)).day
-    pub list : zs ≡ cond (accepted false bookOf (order_of o)) (front (map holdingOf (holdingsAfter (order_of o) (holdingsIn bookOf))) ys) ys
-    pub rows : map row_of zs ≡ (booked false bookOf (order_of o)).list
+    pub answer : answer_of r.finding ≡ outcome false book_of (order_of o)
+    pub day : r.day ≡ (booked false book_of (order_of o)).day
+    pub list : zs ≡ cond (accepted false book_of (order_of o)) (front (map holding_of (holdings_after (order_of o) (holdings_in book_of))) ys) ys
+    pub rows : map row_of zs ≡ (booked false book_of (order_of o)).list
 
 -- a holding with another value
 unfoldable pub worth : Holding → ℕ → Holding
@@ -55,24 +55,24 @@ unfoldable pub blank : Holding
 blank = record { side = Long; kind = Bond; issuer = Canada; maturity = 0; value = 0; currency = Cad; rating = SingleA }
 
 -- the holding of an order, a move has the blank one; and with a value
-unfoldable pub tradedBy : Order → Holding
-tradedBy (Add h) = h
-tradedBy (Take h) = h
-tradedBy (MoveTo to) = blank
+unfoldable pub traded_by : Order → Holding
+traded_by (Add h) = h
+traded_by (Take h) = h
+traded_by (MoveTo to) = blank
 
 unfoldable pub put_of : Order → ℕ → Holding
-put_of o v = worth (tradedBy o) v
+put_of o v = worth (traded_by o) v
 
 -- the change of an accepted order; a refused one has none
-unfoldable pub changeOf : ℕ → booking.Outcome → Change
-changeOf room r = cond (eqb (answer_of r.reply.finding).number 0) r.change (noChange room)
+unfoldable pub change_of : ℕ → booking.Outcome → Change
+change_of room r = cond (eqb (answer_of r.reply.finding).number 0) r.change (no_change room)
 
 -- an order to a book in a list of n entries, before they are seen
 pub record Views (d : Day) (n : ℕ) (o : Order) (v : View) : Type 0 where
   pub day : v.day ≡ d
   pub room : v.room ≡ n
   pub order : v.order ≡ o
-  pub trade : v.trade ≡ tradeOf (order_of o)
+  pub trade : v.trade ≡ trade_of (order_of o)
   pub opening : Opens false n d v.opening
 
 -- and before they are seen once more
@@ -84,7 +84,7 @@ pub record ViewsAgain (v w : View) : Type 0 where
 pub record Lies (room : ℕ) (v : View) : Type 0 where
   pub within : v.opening.count ≤ room
   pub few : v.opening.count ≤ 256
-  pub valued : isDate v.opening.account.date ≡ true
+  pub valued : is_date v.opening.account.date ≡ true
 
 -- holdings that were seen
 abbrev pub SeenOf : View → List Holding → Scan → Type 0
@@ -105,7 +105,7 @@ Judgeable v seen = Known v.day v.room (order_of v.order) v.opening seen
 -- an outcome is the core's, and the holding to put is the order's with the change's value
 pub record Follows (room : ℕ) (o : Order) (core : booking.Outcome) (r : Outcome) : Type 0 where
   pub reply : r.reply ≡ core.reply
-  pub change : r.change ≡ changeOf room core
+  pub change : r.change ≡ change_of room core
   pub put : r.put ≡ put_of o r.change.value
 
 pub record Judges (v : View) (seen moved : Scan) (r : Outcome) : Type 0 where
@@ -117,6 +117,6 @@ pub record Judges (v : View) (seen moved : Scan) (r : Outcome) : Type 0 where
 pub record Examines (ys : List Holding) (d : Day) (o : Order) (r : Outcome) : Type 0 where
   pub core : booking.Outcome
   pub concluded : (list : List Row) → length list ≡ length ys → take d.count list ≡ take d.count (map row_of ys)
-      → Concluded false (makeBook d list) (order_of o) core
+      → Concluded false (make_book d list) (order_of o) core
   pub follows : Follows (length ys) o core r
   pub fits : Fits (length ys) r.change

@@ -1,7 +1,7 @@
 // Booking into a lent list of holdings: an order is judged on the list as it stands, and what it changes is written in place.
 ghost use Rattle.std.specs.Prelude.{◌≡◌, length};
 ghost use Rattle.booking.specs.Seeing.{Countable, Fits, changed};
-ghost use Rattle.desk.specs.Desk.{order_of, tradedBy, put_of, changeOf, Views, ViewsAgain, Lies, Sees, Scans, Judgeable, Judges, Examines, Books};
+ghost use Rattle.desk.specs.Desk.{order_of, traded_by, put_of, change_of, Views, ViewsAgain, Lies, Sees, Scans, Judgeable, Judges, Examines, Books};
 
 use booking::{Change, Opening, Scan};
 use daybook::{Day, Finding, Reply};
@@ -47,7 +47,7 @@ fn order_of(order: Order) -> daybook::Order
 
 // The holding of an order; a move has the blank one.
 fn traded(order: Order) -> Holding
-    ensures { result ≡ tradedBy order }
+    ensures { result ≡ traded_by order }
 {
     match order {
         Order::Add(h) => return h,
@@ -77,7 +77,7 @@ fn put_of(order: Order, value: u64) -> Holding
 
 // The change of an accepted order; a refused one has none.
 fn change_of(room: usize, out: booking::Outcome) -> Change
-    ensures { result ≡ changeOf room out }
+    ensures { result ≡ change_of room out }
 {
     let change = out.change;
     let reply = out.reply;

@@ -10,30 +10,30 @@ use lib.ListN.{length, get_or, take, drop, replicate}
 use Rattle.lists.specs.Tables.{ascii, front}
 use Rattle.lists.specs.Choice.{same, first_of}
 use Rattle.words.specs.Words.{decode, encode}
-use Rattle.holding.specs.Holding.{headFault, accountOf, numbersOf, faultOf, holdingOf, row_of}
+use Rattle.holding.specs.Holding.{head_fault, account_of, numbers_of, fault_of, holding_of, row_of}
 use Rattle.holding.specs.declared.Head.{Head}
 use Rattle.holding.specs.declared.Row.{Row}
-use Rattle.rates.specs.Rate.{rateOf}
-use Rattle.article.specs.Answer.{makeAnswer}
-use Rattle.article.specs.Pair.{legOf, pair_of}
+use Rattle.rates.specs.Rate.{rate_of}
+use Rattle.article.specs.Answer.{make_answer}
+use Rattle.article.specs.Pair.{leg_of, pair_of}
 use Rattle.pairing.specs.declared.Line.{Line}
-use Rattle.proposal.specs.Submission.{Submission, bookOf, priced, remainder, margin, unitsOf, remaindersOf, ranked, centsOf}
+use Rattle.proposal.specs.Submission.{Submission, book_of, priced, remainder, margin, units_of, remainders_of, ranked, cents_of}
 use Rattle.proposal.specs.Outcome.{outcome}
 use Rattle.codes.specs.Codes.{place_of}
-use Rattle.csv.specs.Grammar.{isText, isQuotable}
+use Rattle.csv.specs.Grammar.{is_text, is_quotable}
 use Rattle.csv.specs.Reading.{formed}
-use Rattle.layout.specs.Layout.{byPlace, value_of, letters, Meaning, good, refused, parse}
+use Rattle.layout.specs.Layout.{by_place, value_of, letters, Meaning, good, refused, parse}
 use Rattle.layout.specs.declared.Sort.{Sort}
 use Rattle.layout.specs.declared.Value.{Value}
 use Rattle.layout.specs.declared.Value.TheVariants.{Of, Refused}
-use Rattle.columns.specs.Columns.{Columns, makeColumns, submission, column, filled}
-use Rattle.lent.specs.Boundary.{makeLent, answered, outcomeOf}
+use Rattle.columns.specs.Columns.{Columns, make_columns, submission, column, filled}
+use Rattle.lent.specs.Boundary.{make_lent, answered, outcome_of}
 use Rattle.lei.specs.Lei as lei
-use Rattle.lei.specs.Lei.{leiOf, leiText}
-use Rattle.reader.specs.File.{submissionOf, submissionIn, leisIn, fileFault, atRecord}
-use Rattle.received.specs.Reading.{readingAnswer, filling, heading}
-use Rattle.received.specs.Naming.{namingAnswer, naming}
-use Rattle.report.specs.Report.{answerNumbers}
+use Rattle.lei.specs.Lei.{lei_of, lei_text}
+use Rattle.reader.specs.File.{submission_of, submission_in, leis_in, file_fault, at_record}
+use Rattle.received.specs.Reading.{reading_answer, filling, heading}
+use Rattle.received.specs.Naming.{naming_answer, naming}
+use Rattle.report.specs.Report.{answer_numbers}
 use Rattle.printing.specs.Printed.{printed}
 
 -- a case: its name, what is computed, and what is stated of it
@@ -54,35 +54,35 @@ failing (c ∷ cs) = cond (same c.computed c.stated) (failing cs) (c.name ∷ fa
 abbrev pub head : ℕ → ℕ → Head
 head date letter = record { date = date; letter = letter }
 
-abbrev pub new-year : ℕ
-new-year = 20250101
+abbrev pub new_year : ℕ
+new_year = 20250101
 
-abbrev pub participant-on : ℕ → Head
-participant-on date = head date 0
+abbrev pub participant_head : ℕ → Head
+participant_head date = head date 0
 
-abbrev pub client-on : ℕ → Head
-client-on date = head date 1
+abbrev pub client_head : ℕ → Head
+client_head date = head date 1
 
 abbrev pub participant : Head
-participant = participant-on new-year
+participant = participant_head new_year
 
 abbrev pub client : Head
-client = client-on new-year
+client = client_head new_year
 
 -- a row by itself under a head: its first fault, or 0 and its rate
 unfoldable pub alone : Head → Row → List ℕ
 alone h r =
-    let a = accountOf h in
-    cond (eqb (faultOf a r) 0) (0 ∷ rateOf a (holdingOf r) ∷ []) (faultOf a r ∷ [])
+    let a = account_of h in
+    cond (eqb (fault_of a r) 0) (0 ∷ rate_of a (holding_of r) ∷ []) (fault_of a r ∷ [])
 
 -- a row as the long and a row as the short: the first fault of either, or 13, or 0 with the pair's rate and the saving rate
 unfoldable pub together : Head → Row → Row → List ℕ
 together h l s =
-    let a = accountOf h in
-    let found = pair_of (legOf a (holdingOf l)) (legOf a (holdingOf s)) in
+    let a = account_of h in
+    let found = pair_of (leg_of a (holding_of l)) (leg_of a (holding_of s)) in
     first_of
-    ((not (eqb (faultOf a l) 0), faultOf a l ∷ [])
-    ∷ (not (eqb (faultOf a s) 0), faultOf a s ∷ [])
+    ((not (eqb (fault_of a l) 0), fault_of a l ∷ [])
+    ∷ (not (eqb (fault_of a s) 0), fault_of a s ∷ [])
     ∷ (not (eqb found.number 0), found.number ∷ [])
     ∷ [])
     (0 ∷ found.first ∷ found.second ∷ [])
@@ -93,13 +93,13 @@ unfoldable pub judged : Head → Bool → Bool → List Row → List ℕ → Lis
 judged h one two rows prices lines =
     let s : Submission = record { head = h; rows = rows; prices = prices; lines = lines } in
     let a = outcome one two s in
-    answerNumbers a ++ cond (eqb a.number 0) (remaindersOf (priced s) lines ++ ranked (priced s) lines) []
+    answer_numbers a ++ cond (eqb a.number 0) (remainders_of (priced s) lines ++ ranked (priced s) lines) []
 
 -- what lines make of a book, accepted or not: units and cents, and of holding 0 the remainder and its units
 unfoldable pub worked : List Row → List Line → List ℕ
 worked rows lines =
-    let b = bookOf (accountOf participant) rows [] in
-    unitsOf b lines ∷ centsOf (unitsOf b lines) ∷ remainder b lines 0 ∷ margin b lines 0 ∷ []
+    let b = book_of (account_of participant) rows [] in
+    units_of b lines ∷ cents_of (units_of b lines) ∷ remainder b lines 0 ∷ margin b lines 0 ∷ []
 
 -- long, short, amount
 abbrev pub line : ℕ → ℕ → ℕ → Line
@@ -122,58 +122,58 @@ abbrev pub rate : String → Row → ℕ → Case
 rate name r n = record { name = name; computed = alone participant r; stated = 0 ∷ n ∷ [] }
 
 -- the rates of several rows
-abbrev pub rates-by : Head → String → List Row → List ℕ → Case
-rates-by h name rows expected = record { name = name; computed = flat_map (alone h) rows; stated = flat_map (λ n. 0 ∷ n ∷ []) expected }
+abbrev pub rates_by : Head → String → List Row → List ℕ → Case
+rates_by h name rows expected = record { name = name; computed = flat_map (alone h) rows; stated = flat_map (λ n. 0 ∷ n ∷ []) expected }
 
-abbrev pub rates-on : ℕ → String → List Row → List ℕ → Case
-rates-on date = rates-by (participant-on date)
+abbrev pub rates_on : ℕ → String → List Row → List ℕ → Case
+rates_on date = rates_by (participant_head date)
 
 abbrev pub rates : String → List Row → List ℕ → Case
-rates = rates-on new-year
+rates = rates_on new_year
 
 abbrev pub fault : String → Row → ℕ → Case
 fault name r n = record { name = name; computed = alone participant r; stated = n ∷ [] }
 
 -- the faults of several rows
-abbrev pub faults-on : ℕ → String → List Row → List ℕ → Case
-faults-on date name rows expected = record { name = name; computed = flat_map (alone (participant-on date)) rows; stated = expected }
+abbrev pub faults_on : ℕ → String → List Row → List ℕ → Case
+faults_on date name rows expected = record { name = name; computed = flat_map (alone (participant_head date)) rows; stated = expected }
 
 abbrev pub faults : String → List Row → List ℕ → Case
-faults = faults-on new-year
+faults = faults_on new_year
 
 -- the records of several rows have their numbers
 abbrev pub kept : String → List Row → Case
-kept name rows = record { name = name; computed = flat_map (λ r. numbersOf (row_of (holdingOf r))) rows; stated = flat_map numbersOf rows }
+kept name rows = record { name = name; computed = flat_map (λ r. numbers_of (row_of (holding_of r))) rows; stated = flat_map numbers_of rows }
 
 -- the faults of several heads, 0 for none; and of several valuation dates
 abbrev pub heads : String → List Head → List ℕ → Case
-heads name hs expected = record { name = name; computed = map headFault hs; stated = expected }
+heads name hs expected = record { name = name; computed = map head_fault hs; stated = expected }
 
 abbrev pub dates : String → List ℕ → List ℕ → Case
-dates name ds expected = heads name (map participant-on ds) expected
+dates name ds expected = heads name (map participant_head ds) expected
 
 abbrev pub pair : String → Row → Row → ℕ → ℕ → Case
 pair name l s n saving = record { name = name; computed = together participant l s; stated = 0 ∷ n ∷ saving ∷ [] }
 
-abbrev pub no-pair : String → Row → Row → ℕ → Case
-no-pair name l s n = record { name = name; computed = together participant l s; stated = n ∷ [] }
+abbrev pub no_pair : String → Row → Row → ℕ → Case
+no_pair name l s n = record { name = name; computed = together participant l s; stated = n ∷ [] }
 
 -- several pairs of one rate and one saving rate, and several that are not allowed: by themselves, and as a line of no amount and of one above 100 cents
-abbrev pub pairs-by : Head → String → List (Row × Row) → ℕ → ℕ → Case
-pairs-by h name rows n saving = record {
+abbrev pub pairs_by : Head → String → List (Row × Row) → ℕ → ℕ → Case
+pairs_by h name rows n saving = record {
   name = name;
   computed = flat_map (λ p. together h p.0 p.1) rows;
   stated = flat_map (λ p. 0 ∷ n ∷ saving ∷ []) rows;
 }
 
-abbrev pub pairs-on : ℕ → String → List (Row × Row) → ℕ → ℕ → Case
-pairs-on date = pairs-by (participant-on date)
+abbrev pub pairs_on : ℕ → String → List (Row × Row) → ℕ → ℕ → Case
+pairs_on date = pairs_by (participant_head date)
 
 abbrev pub pairs : String → List (Row × Row) → ℕ → ℕ → Case
-pairs = pairs-on new-year
+pairs = pairs_on new_year
 
-abbrev pub no-pairs-by : Head → String → List (Row × Row) → Case
-no-pairs-by h name rows =
+abbrev pub no_pairs_by : Head → String → List (Row × Row) → Case
+no_pairs_by h name rows =
     let lined : Row × Row → ℕ → List ℕ = λ p amount. judged h false false (p.0 ∷ p.1 ∷ []) (0 ∷ 0 ∷ []) (line 0 1 amount ∷ []) in
     record {
       name = name;
@@ -181,33 +181,33 @@ no-pairs-by h name rows =
       stated = flat_map (λ _. 13 ∷ 13 ∷ 0 ∷ 0 ∷ 13 ∷ 0 ∷ 0 ∷ []) rows;
     }
 
-abbrev pub no-pairs-on : ℕ → String → List (Row × Row) → Case
-no-pairs-on date = no-pairs-by (participant-on date)
+abbrev pub no_pairs_on : ℕ → String → List (Row × Row) → Case
+no_pairs_on date = no_pairs_by (participant_head date)
 
 abbrev pub no_pairs : String → List (Row × Row) → Case
-no_pairs = no-pairs-on new-year
+no_pairs = no_pairs_on new_year
 
-abbrev pub proposal-by : Head → String → List Row → List ℕ → List Line → List ℕ → Case
-proposal-by h name rows prices lines expected = record { name = name; computed = judged h false false rows prices lines; stated = expected }
+abbrev pub proposal_by : Head → String → List Row → List ℕ → List Line → List ℕ → Case
+proposal_by h name rows prices lines expected = record { name = name; computed = judged h false false rows prices lines; stated = expected }
 
 -- several proposals, each a book, its prices and its lines
-abbrev pub proposals-by : Head → String → List (List Row × List ℕ × List Line) → List ℕ → Case
-proposals-by h name ps expected = record { name = name; computed = flat_map (λ p. judged h false false p.0 p.1 p.2) ps; stated = expected }
+abbrev pub proposals_by : Head → String → List (List Row × List ℕ × List Line) → List ℕ → Case
+proposals_by h name ps expected = record { name = name; computed = flat_map (λ p. judged h false false p.0 p.1 p.2) ps; stated = expected }
 
-abbrev pub proposal-on : ℕ → String → List Row → List ℕ → List Line → List ℕ → Case
-proposal-on date = proposal-by (participant-on date)
+abbrev pub proposal_on : ℕ → String → List Row → List ℕ → List Line → List ℕ → Case
+proposal_on date = proposal_by (participant_head date)
 
 abbrev pub proposal : String → List Row → List ℕ → List Line → List ℕ → Case
-proposal = proposal-on new-year
+proposal = proposal_on new_year
 
 abbrev pub lent_by : Head → String → Bool → Bool → List Row → List Line → List ℕ → Case
 lent_by h name one two rows lines expected = record { name = name; computed = judged h one two rows [] lines; stated = expected }
 
-abbrev pub lent-on : ℕ → String → Bool → Bool → List Row → List Line → List ℕ → Case
-lent-on date = lent_by (participant-on date)
+abbrev pub lent_on : ℕ → String → Bool → Bool → List Row → List Line → List ℕ → Case
+lent_on date = lent_by (participant_head date)
 
 abbrev pub lent : String → Bool → Bool → List Row → List Line → List ℕ → Case
-lent = lent-on new-year
+lent = lent_on new_year
 
 abbrev pub figures : String → List Row → List Line → List ℕ → Case
 figures name rows lines expected = record { name = name; computed = worked rows lines; stated = expected }
@@ -216,14 +216,14 @@ abbrev pub prints : String → List ℕ → String → Case
 prints name text expected = record { name = name; computed = printed text; stated = ascii expected }
 
 -- the refusal of a record among those that are parsed, with its place
-abbrev pub record-at : String → List Meaning → ℕ → List ℕ → Case
-record-at name parsed n expected = record { name = name; computed = answerNumbers (first_of (atRecord parsed n) (makeAnswer 0 0 0)); stated = expected }
+abbrev pub record_case : String → List Meaning → ℕ → List ℕ → Case
+record_case name parsed n expected = record { name = name; computed = answer_numbers (first_of (at_record parsed n) (make_answer 0 0 0)); stated = expected }
 
 -- the valuation date and the letter of what parsed records submit
 abbrev pub submitted : String → List Meaning → ℕ → ℕ → Case
 submitted name parsed date letter = record {
   name = name;
-  computed = (submissionOf parsed).head.date ∷ (submissionOf parsed).head.letter ∷ [];
+  computed = (submission_of parsed).head.date ∷ (submission_of parsed).head.letter ∷ [];
   stated = date ∷ letter ∷ [];
 }
 
@@ -242,24 +242,24 @@ remainders name texts expected = record { name = name; computed = map (λ text. 
 abbrev pub keys : String → List String → List (ℕ × ℕ) → Case
 keys name texts expected = record {
   name = name;
-  computed = flat_map (λ text. (leiOf (ascii text)).0 ∷ (leiOf (ascii text)).1 ∷ []) texts;
+  computed = flat_map (λ text. (lei_of (ascii text)).0 ∷ (lei_of (ascii text)).1 ∷ []) texts;
   stated = flat_map (λ k. k.0 ∷ k.1 ∷ []) expected;
 }
 
 abbrev pub writes : String → List (ℕ × ℕ) → List String → Case
-writes name numbers texts = record { name = name; computed = flat_map leiText numbers; stated = flat_map ascii texts }
+writes name numbers texts = record { name = name; computed = flat_map lei_text numbers; stated = flat_map ascii texts }
 
 -- the issuer and the rating of each holding that parsed records submit, and that a text does; and the LEIs of its corporations
-abbrev issuersIn : Submission → List ℕ
-issuersIn s = flat_map (λ r. r.issuer ∷ r.rating ∷ []) s.rows
+abbrev issuers_in : Submission → List ℕ
+issuers_in s = flat_map (λ r. r.issuer ∷ r.rating ∷ []) s.rows
 
-abbrev pub parsedIssuers : String → List Meaning → List ℕ → Case
-parsedIssuers name parsed expected = record { name = name; computed = issuersIn (submissionOf parsed); stated = expected }
+abbrev pub parsed_issuers : String → List Meaning → List ℕ → Case
+parsed_issuers name parsed expected = record { name = name; computed = issuers_in (submission_of parsed); stated = expected }
 
 abbrev pub issued : String → List ℕ → List ℕ → List String → Case
 issued name text expected texts = record {
   name = name;
-  computed = answerNumbers (fileFault text) ++ issuersIn (submissionIn text) ++ flat_map leiText (leisIn text);
+  computed = answer_numbers (file_fault text) ++ issuers_in (submission_in text) ++ flat_map lei_text (leis_in text);
   stated = (0 ∷ 0 ∷ 0 ∷ []) ++ expected ++ flat_map ascii texts;
 }
 
@@ -268,35 +268,35 @@ abbrev pub lists : String → List (List (List ℕ)) → List ℕ → Case
 lists name texts expected = record { name = name; computed = map length texts; stated = expected }
 
 -- the number of a refused record, none of a good one; of records of several fields, and of a letter with so many empty fields after it
-abbrev refusedAs : Meaning → List ℕ
-refusedAs (refused n) = n ∷ []
-refusedAs (good letter vs) = []
+abbrev refused_as : Meaning → List ℕ
+refused_as (refused n) = n ∷ []
+refused_as (good letter vs) = []
 
 -- the number and the values of a good record, and the number of a refused one
-abbrev meaningNumbers : Meaning → List ℕ
-meaningNumbers (refused n) = n ∷ []
-meaningNumbers (good letter vs) = letter ∷ vs
+abbrev meaning_numbers : Meaning → List ℕ
+meaning_numbers (refused n) = n ∷ []
+meaning_numbers (good letter vs) = letter ∷ vs
 
 abbrev pub meanings : String → List (List String) → List ℕ → Case
-meanings name rs expected = record { name = name; computed = flat_map (λ r. meaningNumbers (parse (formed (map ascii r)))) rs; stated = expected }
+meanings name rs expected = record { name = name; computed = flat_map (λ r. meaning_numbers (parse (formed (map ascii r)))) rs; stated = expected }
 
 abbrev pub records : String → List (List (List ℕ)) → ℕ → Case
-records name rs n = record { name = name; computed = flat_map (λ r. refusedAs (parse (formed r))) rs; stated = map (λ _. n) rs }
+records name rs n = record { name = name; computed = flat_map (λ r. refused_as (parse (formed r))) rs; stated = map (λ _. n) rs }
 
 -- the one refusal of an H with each of several issuers, ratings or other fields
-abbrev pub holdingRecords : String → List (List String) → ℕ → Case
-holdingRecords name texts n = records name (map (λ fields. map ascii ("H" ∷ fields)) texts) n
+abbrev pub holding_records : String → List (List String) → ℕ → Case
+holding_records name texts n = records name (map (λ fields. map ascii ("H" ∷ fields)) texts) n
 
 abbrev pub fields : String → List String → List ℕ → ℕ → Case
 fields name letters counts n = records name (flat_map (λ text. map (λ more. ascii text ∷ replicate more []) counts) letters) n
 
 abbrev pub letter : String → List String → List ℕ → Case
-letter name texts expected = record { name = name; computed = flat_map (λ text. valued (byPlace (place_of (ascii text) letters))) texts; stated = expected }
+letter name texts expected = record { name = name; computed = flat_map (λ text. valued (by_place (place_of (ascii text) letters))) texts; stated = expected }
 
 abbrev pub byte : String → ℕ → ℕ → List ℕ → Case
 byte name text quotable bytes = record {
   name = name;
-  computed = flat_map (λ b. flag (isText b) ∷ flag (isQuotable b) ∷ []) bytes;
+  computed = flat_map (λ b. flag (is_text b) ∷ flag (is_quotable b) ∷ []) bytes;
   stated = flat_map (λ b. text ∷ quotable ∷ []) bytes;
 }
 
@@ -312,25 +312,25 @@ zeros n = replicate n 0
 
 -- columns of so many zero bytes each: seven of holdings, the prices, three of lines
 abbrev blank : List ℕ → Columns
-blank z = makeColumns (map zeros (take 7 z)) (zeros (get_or z 7 0)) (map zeros (take 3 (drop 8 z)))
+blank z = make_columns (map zeros (take 7 z)) (zeros (get_or z 7 0)) (map zeros (take 3 (drop 8 z)))
 
 -- the one number that the check gives to each of several lengths of what a host lends: of eleven columns, the two lists and the answer
-abbrev pub lengths-by : Head → String → List (List ℕ) → ℕ → Case
-lengths-by h name zs n =
-    let found : List ℕ → ℕ = λ z. (outcomeOf h (blank z) (makeLent (zeros (get_or z 11 0)) (zeros (get_or z 12 0)) (zeros (get_or z 13 0)))).number in
+abbrev pub lengths_by : Head → String → List (List ℕ) → ℕ → Case
+lengths_by h name zs n =
+    let found : List ℕ → ℕ = λ z. (outcome_of h (blank z) (make_lent (zeros (get_or z 11 0)) (zeros (get_or z 12 0)) (zeros (get_or z 13 0)))).number in
     record { name = name; computed = map found zs; stated = map (λ _. n) zs }
 
-abbrev pub lengths-on : ℕ → String → List (List ℕ) → ℕ → Case
-lengths-on date = lengths-by (participant-on date)
+abbrev pub lengths_on : ℕ → String → List (List ℕ) → ℕ → Case
+lengths_on date = lengths_by (participant_head date)
 
 abbrev pub lengths : String → List (List ℕ) → ℕ → Case
-lengths = lengths-on new-year
+lengths = lengths_on new_year
 
 -- columns of two entries, 0 and 11, and the numbers of each column in turn
 abbrev old : Columns
 old =
     let two = encode (0 ∷ 11 ∷ []) in
-    makeColumns (replicate 7 two) two (replicate 3 two)
+    make_columns (replicate 7 two) two (replicate 3 two)
 
 abbrev held : Columns → List ℕ
 held c = flat_map decode (c.holdings ++ (c.price ∷ c.lines))
@@ -347,8 +347,8 @@ columns name rows prices lines expected =
 abbrev pub exported : Head → String → List Row → List ℕ → List Line → List ℕ → Case
 exported h name rows prices lines expected =
     let list = zeros (8 * length rows) in
-    let c = filled (record { head = h; rows = rows; prices = prices; lines = lines }) (makeColumns (replicate 7 list) list (replicate 3 (zeros (8 * length lines)))) in
-    record { name = name; computed = answerNumbers (outcomeOf h c (makeLent list list (zeros 16))); stated = expected }
+    let c = filled (record { head = h; rows = rows; prices = prices; lines = lines }) (make_columns (replicate 7 list) list (replicate 3 (zeros (8 * length lines)))) in
+    record { name = name; computed = answer_numbers (outcome_of h c (make_lent list list (zeros 16))); stated = expected }
 
 -- what a text leaves in a head's list and in such columns, with an answer slice of so many bytes
 abbrev pub received : String → List ℕ → List ℕ → ℕ → List ℕ → Case
@@ -362,50 +362,50 @@ received name text list slice expected = record {
 abbrev pub names : String → List ℕ → ℕ → ℕ → List ℕ → List ℕ → Case
 names name text list slice expected bytes = record {
   name = name;
-  computed = answerNumbers (namingAnswer text (replicate list 9) (zeros slice)) ++ front (naming text (replicate list 9) (zeros slice)) (replicate list 9);
+  computed = answer_numbers (naming_answer text (replicate list 9) (zeros slice)) ++ front (naming text (replicate list 9) (zeros slice)) (replicate list 9);
   stated = expected ++ bytes;
 }
 
 -- an answer slice after 16 at long 1 and short 2 was put into it
 abbrev pub slice : String → List ℕ → List ℕ → Case
-slice name old expected = record { name = name; computed = answered (makeAnswer 16 1 2) old; stated = expected }
+slice name old expected = record { name = name; computed = answered (make_answer 16 1 2) old; stated = expected }
 
 -- what the reader answers to a text and to what is lent: columns of so many bytes, each of several, a head's list and an answer slice
 abbrev pub answers : String → List (List ℕ) → List ℕ → ℕ → ℕ → List ℕ → Case
 answers name sizes text list slice expected = record {
   name = name;
-  computed = flat_map (λ z. answerNumbers (readingAnswer text (zeros list) (blank z) (zeros slice))) sizes;
+  computed = flat_map (λ z. answer_numbers (reading_answer text (zeros list) (blank z) (zeros slice))) sizes;
   stated = flat_map (λ _. expected) sizes;
 }
 
 -- a D with its date and its letter, a participant's, and that of document 01's cases; an H of a currency and a rating, one of a currency, one in CAD, and a
 -- corporation's in CAD by its rating; and a P, by the other fields that are filled: the empty ones follow, and CRLF
-abbrev pub D-by : String → String → List ℕ
-D-by date letter = ascii "D," ++ ascii date ++ ascii "," ++ ascii letter ++ ascii ",,,,,,\r\n"
+abbrev pub D_by : String → String → List ℕ
+D_by date letter = ascii "D," ++ ascii date ++ ascii "," ++ ascii letter ++ ascii ",,,,,,\r\n"
 
-abbrev pub D-of : String → List ℕ
-D-of date = D-by date "P"
+abbrev pub D_of : String → List ℕ
+D_of date = D_by date "P"
 
 abbrev pub D : List ℕ
-D = D-of "2025-01-01"
+D = D_of "2025-01-01"
 
-abbrev pub emptyFields : List ℕ
-emptyFields = ascii ",,,,,"
+abbrev pub empty_fields : List ℕ
+empty_fields = ascii ",,,,,"
 
-abbrev pub H-by : String → String → String → List ℕ
-H-by currency rating filled = ascii "H," ++ ascii filled ++ ascii "," ++ ascii currency ++ ascii "," ++ ascii rating ++ ascii "\r\n"
+abbrev pub H_by : String → String → String → List ℕ
+H_by currency rating filled = ascii "H," ++ ascii filled ++ ascii "," ++ ascii currency ++ ascii "," ++ ascii rating ++ ascii "\r\n"
 
-abbrev pub H-in : String → String → List ℕ
-H-in currency filled = H-by currency "" filled
+abbrev pub H_in : String → String → List ℕ
+H_in currency filled = H_by currency "" filled
 
 abbrev pub H : String → List ℕ
-H filled = H-in "CAD" filled
+H filled = H_in "CAD" filled
 
-abbrev pub H-rated : String → String → List ℕ
-H-rated rating filled = H-by "CAD" rating filled
+abbrev pub H_rated : String → String → List ℕ
+H_rated rating filled = H_by "CAD" rating filled
 
 abbrev pub P : String → List ℕ
-P filled = ascii "P," ++ ascii filled ++ emptyFields ++ ascii "\r\n"
+P filled = ascii "P," ++ ascii filled ++ empty_fields ++ ascii "\r\n"
 
 -- a record without its CRLF
 abbrev pub unended : List ℕ → List ℕ
@@ -485,13 +485,13 @@ none = 2
 abbrev pub file : List Row
 file = row L C CA 20300624 1000000 ∷ row S B CA 20300624 600000 ∷ row S R ON 20300624 300000 ∷ []
 
-abbrev pub file-lines : ℕ → List Line
-file-lines amount = line 0 1 amount ∷ line 0 2 300000 ∷ []
+abbrev pub file_lines : ℕ → List Line
+file_lines amount = line 0 1 amount ∷ line 0 2 300000 ∷ []
 
 -- the days of terms within a year, each from a valuation date to a maturity: four times as many are a Canada bond's rate
 abbrev pub days : String → List (ℕ × ℕ) → List ℕ → Case
 days name terms expected = record {
   name = name;
-  computed = flat_map (λ t. alone (participant-on t.0) (row L B CA t.1 100)) terms;
+  computed = flat_map (λ t. alone (participant_head t.0) (row L B CA t.1 100)) terms;
   stated = flat_map (λ n. 0 ∷ 4 * n ∷ []) expected;
 }

@@ -6,174 +6,174 @@ use Prim.Native.String.{String}
 use native.Mathlib.Omega.{arith}
 use lib.ListN.{length}
 use Rattle.lists.specs.Choice.{within, first_of, some, count, same}
-use Rattle.lists.specs.Tables.{Each, listTo, turns, in_turn, front, sum_to, sum_of, only}
+use Rattle.lists.specs.Tables.{Each, list_to, turns, in_turn, front, sum_to, sum_of, only}
 use Rattle.lists.specs.Order.{insert, ordered}
-use Rattle.lists.proofs.Entries.{each-so, same_true}
-use Rattle.words.specs.Words.{number, littleEndian, word_at, entries, decode, encode}
-use Rattle.dates.specs.Calendar.{isLeap, leapDay, monthLengths, monthLength, isReal, isDate, yearStart, monthStart, dayNumber, daysBetween, isLeapDay, anniversary}
-use Rattle.dates.specs.Text.{digitsOf, dateText, textNumber, readDate}
+use Rattle.lists.proofs.Entries.{each_so, same_true}
+use Rattle.words.specs.Words.{number, little_endian, word_at, entries, decode, encode}
+use Rattle.dates.specs.Calendar.{is_leap, leap_day, month_lengths, month_length, is_real, is_date, year_start, month_start, day_number, days_between, is_leap_day, anniversary}
+use Rattle.dates.specs.Text.{digits_of, date_text, text_number, read_date}
 use Rattle.holding.specs.Holding as row
-use Rattle.holding.specs.Holding.{headNumbers, headFaults, headFault, letterOf, accountOf, outOfTerm, identityFaults, termFaults, worthFaults, moneyFaults, rowFaults, faultOf, holdingOf}
-use Rattle.holding.specs.Holding.{isCorporation, isIssuer, isRated, side_of, kind_of, issuerOf, currencyOf, ratingOf, row_of}
-use Rattle.rates.specs.Rate.{longerThan, at_least, periodOf, percents, flatRate, bondRate, stripRate, kindRate, rateAt, rateOf}
-use Rattle.article.specs.Pair.{legOf, isLong, isShort, isBond, isStrip, isCanada, isProvince, isUs, isGb, inCad, inUsd, inGbp, kindsPair, sameClass, mixedClass}
-use Rattle.article.specs.Pair.{provincesPair, classRule}
-use Rattle.article.specs.Pair.{isParticipant, areParticipants, isCorporate, bondRating, sameCorporation, corporateRule, cadRule}
-use Rattle.article.specs.Pair.{domesticRule, oneBond, sameGovernment, foreignRule, bothCad, sameForeign, ruleOf, ruleRate, allowed, pairRateOf, savingRateOf, pair_of}
+use Rattle.holding.specs.Holding.{head_numbers, head_faults, head_fault, letter_of, account_of, out_of_term, identity_faults, term_faults, worth_faults, money_faults, row_faults, fault_of, holding_of}
+use Rattle.holding.specs.Holding.{is_corporation, is_issuer, is_rated, side_of, kind_of, issuer_of, currency_of, rating_of, row_of}
+use Rattle.rates.specs.Rate.{longer_than, at_least, period_of, percents, flat_rate, bond_rate, strip_rate, kind_rate, rate_at, rate_of}
+use Rattle.article.specs.Pair.{leg_of, is_long, is_short, is_bond, is_strip, is_canada, is_province, is_us, is_gb, in_cad, in_usd, in_gbp, kinds_pair, same_class, mixed_class}
+use Rattle.article.specs.Pair.{provinces_pair, class_rule}
+use Rattle.article.specs.Pair.{is_participant, are_participants, is_corporate, bond_rating, same_corporation, corporate_rule, cad_rule}
+use Rattle.article.specs.Pair.{domestic_rule, one_bond, same_government, foreign_rule, both_cad, same_foreign, rule_of, rule_rate, allowed, pair_rate_of, saving_rate_of, pair_of}
 use Rattle.pairing.specs.Pairing as theory
-use Rattle.pairing.specs.Pairing.{used, saving, pairUnits, pricedTotal}
-use Rattle.ranking.specs.Ranking.{ranksBefore, rankingOf}
-use Rattle.proposal.specs.Submission.{lineNumbers, bookOf, termsOf, priced, remainder, margin, unitsOf, remaindersOf, ranked, centsOf}
-use Rattle.proposal.specs.Outcome.{at_place, holdingFaults, pairFaults, lineFaults, atHolding, bookFaults, atLine, linesFaults, uncovered, atPair, atLong, uncoveredPairs}
-use Rattle.proposal.specs.Outcome.{totalsDiffer, totalsFaults, sizeFaults, faults, accepted, outcome}
-use Rattle.numerals.specs.Numerals.{lead, digits, valueFrom, numeralOf}
-use Rattle.codes.specs.Codes.{placeFrom, place_of}
-use Rattle.csv.specs.Grammar.{isText, isQuotable}
-use Rattle.csv.specs.Reading.{part, textFrom, textEnd, closeFrom, closeAt, followedBy, followed, begins, opens, enclosed}
-use Rattle.csv.specs.Reading.{field_at, fieldsFrom, recordAt, recordsFrom, recordsAt, recordsOf}
+use Rattle.pairing.specs.Pairing.{used, saving, pair_units, priced_total}
+use Rattle.ranking.specs.Ranking.{ranks_before, ranking_of}
+use Rattle.proposal.specs.Submission.{line_numbers, book_of, terms_of, priced, remainder, margin, units_of, remainders_of, ranked, cents_of}
+use Rattle.proposal.specs.Outcome.{at_place, holding_faults, pair_faults, line_faults, at_holding, book_faults, at_line, lines_faults, uncovered, at_pair, at_long, uncovered_pairs}
+use Rattle.proposal.specs.Outcome.{totals_differ, totals_faults, size_faults, faults, accepted, outcome}
+use Rattle.numerals.specs.Numerals.{lead, digits, value_from, numeral_of}
+use Rattle.codes.specs.Codes.{place_from, place_of}
+use Rattle.csv.specs.Grammar.{is_text, is_quotable}
+use Rattle.csv.specs.Reading.{part, text_from, text_end, close_from, close_at, followed_by, followed, begins, opens, enclosed}
+use Rattle.csv.specs.Reading.{field_at, fields_from, record_at, records_from, records_at, records_of}
 use Rattle.lei.specs.Lei as lei
-use Rattle.lei.specs.Lei.{isDigit, isCapital, isCharacter, inForm, half_of, leiOf, judgedOf, characterOf, characters, leiText}
-use Rattle.lei.specs.Numbering.{sameLei, firstPlace, enter}
-use Rattle.layout.specs.Layout.{value_of, values_of, misrated, parsedOf, parse}
-use Rattle.reader.specs.File.{parsedIn, valuesBy, issuerNumber, knownAfter, numberedFrom, leisFrom, holdingsOf, leisOf, submissionOf}
-use Rattle.reader.specs.File.{atRecord, fileFaults, fileFault, answerTo, readAnswer}
-use Rattle.columns.specs.Columns.{countIn, numbersAt, rowsIn, linesIn, submission, holdingSizes, lineSizes, lists_of, column, filledFrom, filled}
-use Rattle.sizes.specs.Sizes.{entriesOf, unequal, differ, tooShort}
-use Rattle.verdict.specs.Judges.{outcomeIn}
-use Rattle.lent.specs.Boundary.{answered, writtenLists, two, outcomeOf}
-use Rattle.report.specs.Report.{afterComma, line_of, answerNumbers, refusalLine, marginLine, remainderLine, printedLines, bookLine, printedOf}
-use Rattle.received.specs.Reading.{heldLists, readingAnswer, filling, heading}
-use Rattle.received.specs.Naming.{leiTexts as namedTexts, leisTooShort, namingAnswer, naming}
-use Rattle.printing.specs.Printed.{fileAnswer, printed}
+use Rattle.lei.specs.Lei.{is_digit, is_capital, is_character, in_form, half_of, lei_of, judged_of, character_of, characters, lei_text}
+use Rattle.lei.specs.Numbering.{same_lei, first_place, enter}
+use Rattle.layout.specs.Layout.{value_of, values_of, misrated, parsed_of, parse}
+use Rattle.reader.specs.File.{parsed_in, values_by, issuer_number, known_after, numbered_from, leis_from, holdings_of, leis_of, submission_of}
+use Rattle.reader.specs.File.{at_record, file_faults, file_fault, answer_to, read_answer}
+use Rattle.columns.specs.Columns.{count_in, numbers_at, rows_in, lines_in, submission, holding_sizes, line_sizes, lists_of, column, filled_from, filled}
+use Rattle.sizes.specs.Sizes.{entries_of, unequal, differ, too_short}
+use Rattle.verdict.specs.Judges.{outcome_in}
+use Rattle.lent.specs.Boundary.{answered, written_lists, two, outcome_of}
+use Rattle.report.specs.Report.{after_comma, line_of, answer_numbers, refusal_line, margin_line, remainder_line, printed_lines, book_line, printed_of}
+use Rattle.received.specs.Reading.{held_lists, reading_answer, filling, heading}
+use Rattle.received.specs.Naming.{lei_texts as namedTexts, leis_too_short, naming_answer, naming}
+use Rattle.printing.specs.Printed.{file_answer, printed}
 use Rattle.edges.proofs.Cases.{Case, Agrees, failing, alone, together, judged, worked}
-use Rattle.edges.proofs.Starred.{starred, starredFile}
-use Rattle.edges.proofs.Others.{single, thirdPrice, firstPrice, firstAmount, tooLong, acceptedFiles, rankedFile, files, recordPlaces, holdingNumerals, lineNumerals, recordFaults}
-use Rattle.edges.proofs.Others.{lending, reading, readingShort, tooMany, texts, fileProposals, shortcuts, proposals, lineRefusals, refusals}
-use Rattle.edges.proofs.Foreign.{governments, longBonds, longStrips, notParagraph4, twoCurrencies, foreignProvinces, foreignDebt, bothParagraphs, paragraph2Alone}
-use Rattle.edges.proofs.Foreign.{foreignBooks, foreignFile, sterlingFile, unpairedFiles, eighthField, sevenFields}
-use Rattle.edges.proofs.Dated.{actualDays, wholeYears, anniversaries, twentyYears, periodEnds, otherEnds, maturities, valuations, dateTexts, valuationRecord, datedFiles}
-use Rattle.edges.proofs.Dated.{datedFigures, headAnswers, headList, headKept}
-use Rattle.edges.proofs.Corporate.{groupFive, hedges, longerHedges, capped, belowCap, hedgeEnds, ratedLower, sameKinds, twoCorporations, corporationAndCanada}
-use Rattle.edges.proofs.Corporate.{corporationAndProvince, corporationAbroad, corporationInUsd, corporationInGbp, corporatePeriods, ratingFaults, ratingPlaces}
-use Rattle.edges.proofs.Corporate.{threeParagraphs, withoutParagraph3, hedgedBooks, hedgePrices, corporateUnpaired, leis, leiTexts, recordValues, misratedRecords}
-use Rattle.edges.proofs.Corporate.{firstAppearance, mostCorporations, numberedFile, alikeInHalf, noCorporation, corporateColumns, smallCorporateFile}
-use Rattle.edges.proofs.Corporate.{twoIssuersFile, ratedLowerFile, corporateFile, ninthField, beforeOrder, smallLetters, nineFields, namedLeis, namedLonger}
-use Rattle.edges.proofs.Corporate.{namedShort, namedOthers}
-use Rattle.edges.proofs.Clients.{accountLetters, beforeHoldings, beforeLines, afterSizes, clientRates, usInUsd, usInGbp, canadaInUsd, canadaInGbp, gbInUsd}
-use Rattle.edges.proofs.Clients.{gbInGbp, corporations, participantBonds, clientBonds, participantStrips, clientStrips, participantMixed, clientMixed}
-use Rattle.edges.proofs.Clients.{clientPeriods, participantDenied, clientDenied, otherDenied, booksInUsd, booksOfCompany, exportedBooks, booksInCad}
-use Rattle.edges.proofs.Clients.{clientLeast, clientNotLeast, dearerPrices, participantLeast, atClientPrices, lowestUncovered, accountTexts, accountRecord}
-use Rattle.edges.proofs.Clients.{accountOrder, headTwo, headTwoKept, clientWorked, clientFile, clientLine, participantFile, clientHedge, clientCorporation}
-use Rattle.edges.proofs.Provinces.{ontario, withinProvince, twoProvinces, nextProvince, acrossProvinces, canadaAndProvince, clientProvinces, provincesApart}
-use Rattle.edges.proofs.Provinces.{leastWithin, leastAcross, provinceFiles, apartFile}
+use Rattle.edges.proofs.Starred.{starred, starred_file}
+use Rattle.edges.proofs.Others.{single, third_price, first_price, first_amount, too_long, accepted_files, ranked_file, files, record_places, holding_numerals, line_numerals, record_faults}
+use Rattle.edges.proofs.Others.{lending, reading, reading_short, too_many, texts, file_proposals, shortcuts, proposals, line_refusals, refusals}
+use Rattle.edges.proofs.Foreign.{governments, long_bonds, long_strips, not_paragraph4, two_currencies, foreign_provinces, foreign_debt, both_paragraphs, paragraph2_alone}
+use Rattle.edges.proofs.Foreign.{foreign_books, foreign_file, sterling_file, unpaired_files, eighth_field, seven_fields}
+use Rattle.edges.proofs.Dated.{actual_days, whole_years, anniversaries, twenty_years, period_ends, other_ends, maturities, valuations, date_texts, valuation_record, dated_files}
+use Rattle.edges.proofs.Dated.{dated_figures, head_answers, head_list, head_kept}
+use Rattle.edges.proofs.Corporate.{group_five, hedges, longer_hedges, capped, below_cap, hedge_ends, rated_lower, same_kinds, two_corporations, corporation_and_canada}
+use Rattle.edges.proofs.Corporate.{corporation_and_province, corporation_abroad, corporation_in_usd, corporation_in_gbp, corporate_periods, rating_faults, rating_places}
+use Rattle.edges.proofs.Corporate.{three_paragraphs, without_paragraph3, hedged_books, hedge_prices, corporate_unpaired, leis, lei_texts, record_values, misrated_records}
+use Rattle.edges.proofs.Corporate.{first_appearance, most_corporations, numbered_file, alike_in_half, no_corporation, corporate_columns, small_corporate_file}
+use Rattle.edges.proofs.Corporate.{two_issuers_file, rated_lower_file, corporate_file, ninth_field, before_order, small_letters, nine_fields, named_leis, named_longer}
+use Rattle.edges.proofs.Corporate.{named_short, named_others}
+use Rattle.edges.proofs.Clients.{account_letters, before_holdings, before_lines, after_sizes, client_rates, us_in_usd, us_in_gbp, canada_in_usd, canada_in_gbp, gb_in_usd}
+use Rattle.edges.proofs.Clients.{gb_in_gbp, corporations, participant_bonds, client_bonds, participant_strips, client_strips, participant_mixed, client_mixed}
+use Rattle.edges.proofs.Clients.{client_periods, participant_denied, client_denied, other_denied, books_in_usd, books_of_company, exported_books, books_in_cad}
+use Rattle.edges.proofs.Clients.{client_least, client_not_least, dearer_prices, participant_least, at_client_prices, lowest_uncovered, account_texts, account_record}
+use Rattle.edges.proofs.Clients.{account_order, head_two, head_two_kept, client_worked, client_file, client_line, participant_file, client_hedge, client_corporation}
+use Rattle.edges.proofs.Provinces.{ontario, within_province, two_provinces, next_province, across_provinces, canada_and_province, client_provinces, provinces_apart}
+use Rattle.edges.proofs.Provinces.{least_within, least_across, province_files, apart_file}
 
 -- the table: document 01's cases, the starred first, then those of document 02 a), of b), of d), of e) and of g). Most groups are as small as the prover computes
 -- when it names a case that fails; of the others it names the group
 abbrev pub provinces : List (List Case)
 provinces =
-    ontario ∷ withinProvince ∷ twoProvinces ∷ nextProvince ∷ acrossProvinces ∷ canadaAndProvince ∷ clientProvinces ∷ provincesApart ∷ leastWithin ∷ leastAcross
-    ∷ provinceFiles ∷ apartFile ∷ []
+    ontario ∷ within_province ∷ two_provinces ∷ next_province ∷ across_provinces ∷ canada_and_province ∷ client_provinces ∷ provinces_apart ∷ least_within ∷ least_across
+    ∷ province_files ∷ apart_file ∷ []
 
-abbrev pub clientTexts : List (List Case)
-clientTexts =
-    accountTexts ∷ accountRecord ∷ accountOrder ∷ headTwo ∷ headTwoKept ∷ clientWorked ∷ clientFile ∷ clientLine ∷ participantFile ∷ clientHedge
-    ∷ clientCorporation ∷ provinces
+abbrev pub client_texts : List (List Case)
+client_texts =
+    account_texts ∷ account_record ∷ account_order ∷ head_two ∷ head_two_kept ∷ client_worked ∷ client_file ∷ client_line ∷ participant_file ∷ client_hedge
+    ∷ client_corporation ∷ provinces
 
-abbrev pub clientBooks : List (List Case)
-clientBooks =
-    booksInUsd ∷ booksOfCompany ∷ exportedBooks ∷ booksInCad ∷ clientLeast ∷ clientNotLeast ∷ dearerPrices ∷ participantLeast ∷ atClientPrices ∷ lowestUncovered
-    ∷ clientTexts
+abbrev pub client_books : List (List Case)
+client_books =
+    books_in_usd ∷ books_of_company ∷ exported_books ∷ books_in_cad ∷ client_least ∷ client_not_least ∷ dearer_prices ∷ participant_least ∷ at_client_prices ∷ lowest_uncovered
+    ∷ client_texts
 
-abbrev pub paragraph2Pairs : List (List Case)
-paragraph2Pairs =
-    participantBonds ∷ clientBonds ∷ participantStrips ∷ clientStrips ∷ participantMixed ∷ clientMixed ∷ clientPeriods ∷ participantDenied ∷ clientDenied
-    ∷ otherDenied ∷ clientBooks
+abbrev pub paragraph2_pairs : List (List Case)
+paragraph2_pairs =
+    participant_bonds ∷ client_bonds ∷ participant_strips ∷ client_strips ∷ participant_mixed ∷ client_mixed ∷ client_periods ∷ participant_denied ∷ client_denied
+    ∷ other_denied ∷ client_books
 
 abbrev pub accounts : List (List Case)
 accounts =
-    accountLetters ∷ beforeHoldings ∷ beforeLines ∷ afterSizes ∷ clientRates ∷ usInUsd ∷ usInGbp ∷ canadaInUsd ∷ canadaInGbp ∷ gbInUsd ∷ gbInGbp ∷ corporations
-    ∷ paragraph2Pairs
+    account_letters ∷ before_holdings ∷ before_lines ∷ after_sizes ∷ client_rates ∷ us_in_usd ∷ us_in_gbp ∷ canada_in_usd ∷ canada_in_gbp ∷ gb_in_usd ∷ gb_in_gbp ∷ corporations
+    ∷ paragraph2_pairs
 
-abbrev pub corporateTexts : List (List Case)
-corporateTexts =
-    smallCorporateFile ∷ twoIssuersFile ∷ ratedLowerFile ∷ corporateFile ∷ ninthField ∷ beforeOrder ∷ smallLetters ∷ nineFields ∷ namedLeis
-    ∷ namedLonger ∷ namedShort ∷ namedOthers ∷ accounts
+abbrev pub corporate_texts : List (List Case)
+corporate_texts =
+    small_corporate_file ∷ two_issuers_file ∷ rated_lower_file ∷ corporate_file ∷ ninth_field ∷ before_order ∷ small_letters ∷ nine_fields ∷ named_leis
+    ∷ named_longer ∷ named_short ∷ named_others ∷ accounts
 
 abbrev pub identifiers : List (List Case)
 identifiers =
-    leis ∷ leiTexts ∷ recordValues ∷ misratedRecords ∷ firstAppearance ∷ mostCorporations ∷ numberedFile ∷ alikeInHalf ∷ noCorporation
-    ∷ corporateColumns ∷ corporateTexts
+    leis ∷ lei_texts ∷ record_values ∷ misrated_records ∷ first_appearance ∷ most_corporations ∷ numbered_file ∷ alike_in_half ∷ no_corporation
+    ∷ corporate_columns ∷ corporate_texts
 
-abbrev pub corporateBooks : List (List Case)
-corporateBooks =
-    ratingFaults ∷ ratingPlaces ∷ threeParagraphs ∷ withoutParagraph3 ∷ hedgedBooks ∷ hedgePrices ∷ corporateUnpaired ∷ identifiers
+abbrev pub corporate_books : List (List Case)
+corporate_books =
+    rating_faults ∷ rating_places ∷ three_paragraphs ∷ without_paragraph3 ∷ hedged_books ∷ hedge_prices ∷ corporate_unpaired ∷ identifiers
 
-abbrev pub corporatePairs : List (List Case)
-corporatePairs =
-    groupFive ∷ hedges ∷ longerHedges ∷ capped ∷ belowCap ∷ hedgeEnds ∷ ratedLower ∷ sameKinds ∷ twoCorporations ∷ corporationAndCanada
-    ∷ corporationAndProvince ∷ corporationAbroad ∷ corporationInUsd ∷ corporationInGbp ∷ corporatePeriods ∷ corporateBooks
+abbrev pub corporate_pairs : List (List Case)
+corporate_pairs =
+    group_five ∷ hedges ∷ longer_hedges ∷ capped ∷ below_cap ∷ hedge_ends ∷ rated_lower ∷ same_kinds ∷ two_corporations ∷ corporation_and_canada
+    ∷ corporation_and_province ∷ corporation_abroad ∷ corporation_in_usd ∷ corporation_in_gbp ∷ corporate_periods ∷ corporate_books
 
 abbrev pub dates : List (List Case)
 dates =
-    actualDays ∷ wholeYears ∷ anniversaries ∷ twentyYears ∷ periodEnds ∷ otherEnds ∷ maturities ∷ valuations ∷ dateTexts ∷ valuationRecord ∷ datedFiles
-    ∷ datedFigures ∷ headAnswers ∷ headList ∷ headKept ∷ corporatePairs
+    actual_days ∷ whole_years ∷ anniversaries ∷ twenty_years ∷ period_ends ∷ other_ends ∷ maturities ∷ valuations ∷ date_texts ∷ valuation_record ∷ dated_files
+    ∷ dated_figures ∷ head_answers ∷ head_list ∷ head_kept ∷ corporate_pairs
 
 abbrev pub currencies : List (List Case)
 currencies =
-    governments ∷ longBonds ∷ longStrips ∷ notParagraph4 ∷ twoCurrencies ∷ foreignProvinces ∷ foreignDebt ∷ bothParagraphs ∷ paragraph2Alone
-    ∷ foreignBooks ∷ foreignFile ∷ sterlingFile ∷ unpairedFiles ∷ eighthField ∷ sevenFields ∷ dates
+    governments ∷ long_bonds ∷ long_strips ∷ not_paragraph4 ∷ two_currencies ∷ foreign_provinces ∷ foreign_debt ∷ both_paragraphs ∷ paragraph2_alone
+    ∷ foreign_books ∷ foreign_file ∷ sterling_file ∷ unpaired_files ∷ eighth_field ∷ seven_fields ∷ dates
 
 abbrev pub table : List (List Case)
 table =
-    starred ∷ starredFile ∷ single ∷ thirdPrice ∷ firstPrice ∷ firstAmount ∷ tooLong ∷ acceptedFiles ∷ rankedFile ∷ files ∷ recordPlaces ∷ holdingNumerals
-    ∷ lineNumerals ∷ recordFaults ∷ lending ∷ reading ∷ readingShort ∷ tooMany ∷ texts ∷ fileProposals ∷ shortcuts ∷ proposals ∷ lineRefusals
+    starred ∷ starred_file ∷ single ∷ third_price ∷ first_price ∷ first_amount ∷ too_long ∷ accepted_files ∷ ranked_file ∷ files ∷ record_places ∷ holding_numerals
+    ∷ line_numerals ∷ record_faults ∷ lending ∷ reading ∷ reading_short ∷ too_many ∷ texts ∷ file_proposals ∷ shortcuts ∷ proposals ∷ line_refusals
     ∷ refusals ∷ currencies
 
 -- no case of any group fails; where this is refused, the message names those that do
 abbrev NoneFails : List (List Case) → Type 0
 NoneFails groups = Each (λ cs. failing cs ≡ []) groups
 
-none-fails : NoneFails table
+none_fails : NoneFails table
 unfolding
-    starred starredFile single thirdPrice firstPrice firstAmount tooLong acceptedFiles rankedFile files recordPlaces holdingNumerals lineNumerals recordFaults
-    lending reading readingShort tooMany texts fileProposals shortcuts proposals lineRefusals refusals governments longBonds longStrips notParagraph4
-    twoCurrencies foreignProvinces foreignDebt bothParagraphs paragraph2Alone foreignBooks foreignFile sterlingFile unpairedFiles eighthField sevenFields
-    actualDays wholeYears anniversaries twentyYears periodEnds otherEnds maturities valuations dateTexts valuationRecord datedFiles datedFigures headAnswers
-    headList headKept failing alone together judged worked within first_of some count same insert ordered sum_to sum_of only listTo turns in_turn front holdingSizes
-    lineSizes lists_of writtenLists two entriesOf unequal differ tooShort outcomeIn outcomeOf countIn numbersAt rowsIn linesIn submission column filledFrom
-    filled row.numbersOf lineNumbers answered readAnswer heldLists readingAnswer filling heading isLeap leapDay monthLengths monthLength isReal isDate yearStart
-    monthStart dayNumber daysBetween isLeapDay anniversary digitsOf dateText textNumber readDate headNumbers headFaults headFault letterOf accountOf outOfTerm
-    identityFaults termFaults worthFaults moneyFaults rowFaults faultOf holdingOf side_of kind_of issuerOf currencyOf row_of longerThan at_least periodOf percents
-    flatRate bondRate stripRate kindRate rateAt rateOf legOf isLong isShort isBond isStrip isCanada isProvince isUs isGb inCad inUsd inGbp kindsPair sameClass
-    mixedClass classRule domesticRule oneBond sameGovernment foreignRule bothCad sameForeign ruleOf ruleRate allowed pairRateOf savingRateOf pair_of used
-    theory.savingRate saving pairUnits pricedTotal ranksBefore rankingOf bookOf termsOf priced remainder margin unitsOf remaindersOf ranked centsOf at_place
-    holdingFaults pairFaults lineFaults atHolding bookFaults atLine linesFaults uncovered atPair atLong uncoveredPairs totalsDiffer totalsFaults sizeFaults
-    faults accepted outcome lead digits valueFrom numeralOf placeFrom place_of isText isQuotable part textFrom textEnd closeFrom closeAt followedBy followed
-    begins opens enclosed field_at fieldsFrom recordAt recordsFrom recordsAt recordsOf value_of values_of parsedOf parse parsedIn valuesBy submissionOf atRecord
-    fileFaults fileFault afterComma line_of answerNumbers refusalLine marginLine remainderLine printedLines bookLine printedOf fileAnswer printed flat_map number
-    littleEndian word_at entries decode encode isCorporation isIssuer isRated ratingOf isParticipant areParticipants isCorporate bondRating sameCorporation
-    corporateRule cadRule isDigit isCapital isCharacter inForm lei.value_of lei.digitsOf lei.number lei.remainder half_of leiOf judgedOf characterOf characters
-    leiText sameLei firstPlace enter misrated issuerNumber knownAfter numberedFrom leisFrom holdingsOf leisOf answerTo namedTexts leisTooShort namingAnswer
-    naming groupFive hedges longerHedges capped belowCap hedgeEnds ratedLower sameKinds twoCorporations corporationAndCanada corporationAndProvince
-    corporationAbroad corporationInUsd corporationInGbp corporatePeriods ratingFaults ratingPlaces threeParagraphs withoutParagraph3 hedgedBooks hedgePrices
-    corporateUnpaired leis leiTexts recordValues misratedRecords firstAppearance mostCorporations numberedFile alikeInHalf noCorporation corporateColumns
-    smallCorporateFile twoIssuersFile ratedLowerFile corporateFile ninthField beforeOrder smallLetters nineFields namedLeis namedLonger namedShort namedOthers
-    accountLetters beforeHoldings beforeLines afterSizes clientRates usInUsd usInGbp canadaInUsd canadaInGbp gbInUsd gbInGbp corporations participantBonds
-    clientBonds participantStrips clientStrips participantMixed clientMixed clientPeriods participantDenied clientDenied otherDenied booksInUsd booksOfCompany
-    exportedBooks booksInCad clientLeast clientNotLeast dearerPrices participantLeast atClientPrices lowestUncovered accountTexts accountRecord accountOrder
-    headTwo headTwoKept clientWorked clientFile clientLine participantFile clientHedge clientCorporation provincesPair
-    ontario withinProvince twoProvinces nextProvince acrossProvinces canadaAndProvince clientProvinces provincesApart leastWithin leastAcross provinceFiles
-    apartFile
-none-fails =
+    starred starred_file single third_price first_price first_amount too_long accepted_files ranked_file files record_places holding_numerals line_numerals record_faults
+    lending reading reading_short too_many texts file_proposals shortcuts proposals line_refusals refusals governments long_bonds long_strips not_paragraph4
+    two_currencies foreign_provinces foreign_debt both_paragraphs paragraph2_alone foreign_books foreign_file sterling_file unpaired_files eighth_field seven_fields
+    actual_days whole_years anniversaries twenty_years period_ends other_ends maturities valuations date_texts valuation_record dated_files dated_figures head_answers
+    head_list head_kept failing alone together judged worked within first_of some count same insert ordered sum_to sum_of only list_to turns in_turn front holding_sizes
+    line_sizes lists_of written_lists two entries_of unequal differ too_short outcome_in outcome_of count_in numbers_at rows_in lines_in submission column filled_from
+    filled row.numbers_of line_numbers answered read_answer held_lists reading_answer filling heading is_leap leap_day month_lengths month_length is_real is_date year_start
+    month_start day_number days_between is_leap_day anniversary digits_of date_text text_number read_date head_numbers head_faults head_fault letter_of account_of out_of_term
+    identity_faults term_faults worth_faults money_faults row_faults fault_of holding_of side_of kind_of issuer_of currency_of row_of longer_than at_least period_of percents
+    flat_rate bond_rate strip_rate kind_rate rate_at rate_of leg_of is_long is_short is_bond is_strip is_canada is_province is_us is_gb in_cad in_usd in_gbp kinds_pair same_class
+    mixed_class class_rule domestic_rule one_bond same_government foreign_rule both_cad same_foreign rule_of rule_rate allowed pair_rate_of saving_rate_of pair_of used
+    theory.saving_rate saving pair_units priced_total ranks_before ranking_of book_of terms_of priced remainder margin units_of remainders_of ranked cents_of at_place
+    holding_faults pair_faults line_faults at_holding book_faults at_line lines_faults uncovered at_pair at_long uncovered_pairs totals_differ totals_faults size_faults
+    faults accepted outcome lead digits value_from numeral_of place_from place_of is_text is_quotable part text_from text_end close_from close_at followed_by followed
+    begins opens enclosed field_at fields_from record_at records_from records_at records_of value_of values_of parsed_of parse parsed_in values_by submission_of at_record
+    file_faults file_fault after_comma line_of answer_numbers refusal_line margin_line remainder_line printed_lines book_line printed_of file_answer printed flat_map number
+    little_endian word_at entries decode encode is_corporation is_issuer is_rated rating_of is_participant are_participants is_corporate bond_rating same_corporation
+    corporate_rule cad_rule is_digit is_capital is_character in_form lei.value_of lei.digits_of lei.number lei.remainder half_of lei_of judged_of character_of characters
+    lei_text same_lei first_place enter misrated issuer_number known_after numbered_from leis_from holdings_of leis_of answer_to namedTexts leis_too_short naming_answer
+    naming group_five hedges longer_hedges capped below_cap hedge_ends rated_lower same_kinds two_corporations corporation_and_canada corporation_and_province
+    corporation_abroad corporation_in_usd corporation_in_gbp corporate_periods rating_faults rating_places three_paragraphs without_paragraph3 hedged_books hedge_prices
+    corporate_unpaired leis lei_texts record_values misrated_records first_appearance most_corporations numbered_file alike_in_half no_corporation corporate_columns
+    small_corporate_file two_issuers_file rated_lower_file corporate_file ninth_field before_order small_letters nine_fields named_leis named_longer named_short named_others
+    account_letters before_holdings before_lines after_sizes client_rates us_in_usd us_in_gbp canada_in_usd canada_in_gbp gb_in_usd gb_in_gbp corporations participant_bonds
+    client_bonds participant_strips client_strips participant_mixed client_mixed client_periods participant_denied client_denied other_denied books_in_usd books_of_company
+    exported_books books_in_cad client_least client_not_least dearer_prices participant_least at_client_prices lowest_uncovered account_texts account_record account_order
+    head_two head_two_kept client_worked client_file client_line participant_file client_hedge client_corporation provinces_pair
+    ontario within_province two_provinces next_province across_provinces canada_and_province client_provinces provinces_apart least_within least_across province_files
+    apart_file
+none_fails =
     let j : NoneFails provinces = (refl, (refl, (refl, (refl, (refl, (refl, (refl, (refl, (refl, (refl, (refl, (refl, tt)))))))))))) in
-    let i : NoneFails clientTexts = (refl, (refl, (refl, (refl, (refl, (refl, (refl, (refl, (refl, (refl, (refl, j))))))))))) in
-    let h : NoneFails clientBooks = (refl, (refl, (refl, (refl, (refl, (refl, (refl, (refl, (refl, (refl, i)))))))))) in
-    let g₂ : NoneFails paragraph2Pairs = (refl, (refl, (refl, (refl, (refl, (refl, (refl, (refl, (refl, (refl, h)))))))))) in
+    let i : NoneFails client_texts = (refl, (refl, (refl, (refl, (refl, (refl, (refl, (refl, (refl, (refl, (refl, j))))))))))) in
+    let h : NoneFails client_books = (refl, (refl, (refl, (refl, (refl, (refl, (refl, (refl, (refl, (refl, i)))))))))) in
+    let g₂ : NoneFails paragraph2_pairs = (refl, (refl, (refl, (refl, (refl, (refl, (refl, (refl, (refl, (refl, h)))))))))) in
     let g : NoneFails accounts = (refl, (refl, (refl, (refl, (refl, (refl, (refl, (refl, (refl, (refl, (refl, (refl, g₂)))))))))))) in
-    let f : NoneFails corporateTexts = (refl, (refl, (refl, (refl, (refl, (refl, (refl, (refl, (refl, (refl, (refl, (refl, g)))))))))))) in
+    let f : NoneFails corporate_texts = (refl, (refl, (refl, (refl, (refl, (refl, (refl, (refl, (refl, (refl, (refl, (refl, g)))))))))))) in
     let e : NoneFails identifiers = (refl, (refl, (refl, (refl, (refl, (refl, (refl, (refl, (refl, (refl, f)))))))))) in
-    let d : NoneFails corporateBooks = (refl, (refl, (refl, (refl, (refl, (refl, (refl, e))))))) in
-    let c : NoneFails corporatePairs = (refl, (refl, (refl, (refl, (refl, (refl, (refl, (refl, (refl, (refl, (refl, (refl, (refl, (refl, (refl, d))))))))))))))) in
+    let d : NoneFails corporate_books = (refl, (refl, (refl, (refl, (refl, (refl, (refl, e))))))) in
+    let c : NoneFails corporate_pairs = (refl, (refl, (refl, (refl, (refl, (refl, (refl, (refl, (refl, (refl, (refl, (refl, (refl, (refl, (refl, d))))))))))))))) in
     let b : NoneFails dates = (refl, (refl, (refl, (refl, (refl, (refl, (refl, (refl, (refl, (refl, (refl, (refl, (refl, (refl, (refl, c))))))))))))))) in
     let a : NoneFails currencies = (refl, (refl, (refl, (refl, (refl, (refl, (refl, (refl, (refl, (refl, (refl, (refl, (refl, (refl, (refl, b))))))))))))))) in
     (refl, (refl, (refl, (refl, (refl, (refl, (refl, (refl, (refl, (refl, (refl, (refl, (refl, (refl, (refl, (refl, (refl, (refl, (refl, (refl, (refl, (refl, (refl, (refl, a))))))))))))))))))))))))
@@ -189,4 +189,4 @@ none_each (c ∷ cs) e = by (none_each cs) (same c.computed c.stated) refl e
     by rest false h f = absurd (omega (arith, ap (λ (l : List String). length l) f))
 
 pub edges : Each (Each Agrees) table
-edges = each-so (λ cs. failing cs ≡ []) (Each Agrees) none_each table none-fails
+edges = each_so (λ cs. failing cs ≡ []) (Each Agrees) none_each table none_fails

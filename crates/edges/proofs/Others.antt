@@ -8,16 +8,16 @@ use Rattle.lists.specs.Tables.{ascii}
 use Rattle.holding.specs.declared.Row.{Row}
 use Rattle.layout.specs.declared.Sort.TheVariants.{Side, Kind, Issuer, Currency}
 use Rattle.layout.specs.Layout.{Meaning, good, letters, accounts, sides, kinds, issuers, currencies, ratings}
-use Rattle.edges.proofs.Cases.{Case, rate, fault, faults, pair, no-pair, proposal, lent, figures, prints, record-at, code, lists, fields}
-use Rattle.edges.proofs.Cases.{letter, byte, decodes, encodes, lengths, columns, slice, answers, emptyFields, D, H, P, unended}
-use Rattle.edges.proofs.Cases.{new-year, line, row, of, rated, L, S, B, C, R, CA, ON, QC, CAD, file, file-lines}
+use Rattle.edges.proofs.Cases.{Case, rate, fault, faults, pair, no_pair, proposal, lent, figures, prints, record_case, code, lists, fields}
+use Rattle.edges.proofs.Cases.{letter, byte, decodes, encodes, lengths, columns, slice, answers, empty_fields, D, H, P, unended}
+use Rattle.edges.proofs.Cases.{new_year, line, row, of, rated, L, S, B, C, R, CA, ON, QC, CAD, file, file_lines}
 
 -- the book of "Largest saving first", and prices that cover it
 abbrev four : List Row
 four = row L C ON 20300624 1000 ∷ row L B ON 20300624 1000 ∷ row S C ON 20300624 1000 ∷ row S B ON 20300624 1000 ∷ []
 
-abbrev four-prices : List ℕ
-four-prices = 8760 ∷ 2920 ∷ 8760 ∷ 2920 ∷ []
+abbrev four_prices : List ℕ
+four_prices = 8760 ∷ 2920 ∷ 8760 ∷ 2920 ∷ []
 
 -- a coupon and a bond of 1 day, by their values
 abbrev pub two : ℕ → ℕ → List Row
@@ -29,7 +29,7 @@ bonds = row L B CA 20250102 2 ∷ row S B CA 20250102 2 ∷ []
 
 -- a D, an H and a P as parsed
 abbrev valuation : Meaning
-valuation = good 0 (new-year ∷ 0 ∷ [])
+valuation = good 0 (new_year ∷ 0 ∷ [])
 
 abbrev holding : Meaning
 holding = good 1 (L ∷ B ∷ CA ∷ 20250102 ∷ 1 ∷ 0 ∷ CAD ∷ 2 ∷ 0 ∷ 0 ∷ [])
@@ -43,8 +43,8 @@ abbrev right : List ℕ
 right = replicate 8 16 ++ replicate 3 8 ++ replicate 3 16
 
 -- for one holding and two lines
-abbrev moreLines : List ℕ
-moreLines = replicate 8 8 ++ replicate 3 16 ++ (8 ∷ 8 ∷ 16 ∷ [])
+abbrev more_lines : List ℕ
+more_lines = replicate 8 8 ++ replicate 3 16 ++ (8 ∷ 8 ∷ 16 ∷ [])
 
 -- the largest number, and rows that have it from one number on
 abbrev pub most : ℕ
@@ -93,13 +93,13 @@ single =
     -- the first and the last province
     ∷ pair "AB coupon with SK residual" (row L C 1 20300624 100) (row S R 10 20300624 100) 0 17520
     -- the legs the wrong way round; a row with a fault is in no pair
-    ∷ no-pair "the legs the wrong way round" (row S C ON 20300624 1000) (row L C ON 20300624 1000) 13
-    ∷ no-pair "a pair with a row at fault" (row L C ON 20300624 1000) (row S C 13 20300624 1000) 6
+    ∷ no_pair "the legs the wrong way round" (row S C ON 20300624 1000) (row L C ON 20300624 1000) 13
+    ∷ no_pair "a pair with a row at fault" (row L C ON 20300624 1000) (row S C 13 20300624 1000) 6
     ∷ []
 
 -- the file with its third price 6,569: 16 at 0, 2; from its bytes
-unfoldable pub thirdPrice : List Case
-thirdPrice =
+unfoldable pub third_price : List Case
+third_price =
     prints
     "third price 6,569"
     (D ++ H "L,C,CA,2030-06-24,1000000,0" ++ H "S,B,CA,2030-06-24,600000,5840" ++ H "S,R,ON,2030-06-24,300000,6569" ++ P "0,1,600000" ++ P "0,2,300000")
@@ -107,8 +107,8 @@ thirdPrice =
     ∷ []
 
 -- with its first price 1: 17
-unfoldable pub firstPrice : List Case
-firstPrice =
+unfoldable pub first_price : List Case
+first_price =
     prints
     "first price 1"
     (D ++ H "L,C,CA,2030-06-24,1000000,1" ++ H "S,B,CA,2030-06-24,600000,5840" ++ H "S,R,ON,2030-06-24,300000,6570" ++ P "0,1,600000" ++ P "0,2,300000")
@@ -116,8 +116,8 @@ firstPrice =
     ∷ []
 
 -- with its first amount 600,001: 15
-unfoldable pub firstAmount : List Case
-firstAmount =
+unfoldable pub first_amount : List Case
+first_amount =
     prints
     "first amount 600,001"
     (D ++ H "L,C,CA,2030-06-24,1000000,0" ++ H "S,B,CA,2030-06-24,600000,5840" ++ H "S,R,ON,2030-06-24,300000,6570" ++ P "0,1,600001" ++ P "0,2,300000")
@@ -125,22 +125,22 @@ firstAmount =
     ∷ []
 
 -- 18 longer than 65,536 bytes, whatever it holds
-unfoldable pub tooLong : List Case
-tooLong =
+unfoldable pub too_long : List Case
+too_long =
     prints "65,537 commas" (replicate 65537 0x2C) "X,18,0,0\r\n"
     ∷ []
 
 -- from the bytes of a file to the bytes that are printed: files that are accepted
-unfoldable pub acceptedFiles : List Case
-acceptedFiles =
+unfoldable pub accepted_files : List Case
+accepted_files =
     -- the last CRLF is optional, and a quoted field is its text
     prints "quotes, and no CRLF at the end"
-    (D ++ H "\"L\",C,CA,2025-01-02,1,0" ++ H "S,\"B\",CA,2025-01-02,1,8" ++ ascii "P,0,1,1,\"\"" ++ drop 1 emptyFields) "M,2,1\r\nR,0,0,0\r\nR,1,0,0\r\n"
+    (D ++ H "\"L\",C,CA,2025-01-02,1,0" ++ H "S,\"B\",CA,2025-01-02,1,8" ++ ascii "P,0,1,1,\"\"" ++ drop 1 empty_fields) "M,2,1\r\nR,0,0,0\r\nR,1,0,0\r\n"
     ∷ []
 
 -- R goes by the ranking
-unfoldable pub rankedFile : List Case
-rankedFile =
+unfoldable pub ranked_file : List Case
+ranked_file =
     prints "R in ranking order" (D ++ H "L,B,CA,2025-01-02,1,0" ++ H "L,B,CA,2025-01-02,3,0") "M,16,1\r\nR,1,3,12\r\nR,0,1,4\r\n"
     ∷ []
 
@@ -157,8 +157,8 @@ files =
     ∷ []
 
 -- each refusal of a record at its place
-unfoldable pub recordPlaces : List Case
-recordPlaces =
+unfoldable pub record_places : List Case
+record_places =
     -- 19 a bare line feed; 21 a leading zero; 22 H after P, each at its record
     prints "a bare line feed" (D ++ H "L,B,CA,2025-01-02,1,0" ++ unended (H "L,B,CA,2025-01-02,1,0") ++ ascii "\n") "X,19,2,0\r\n"
     ∷ prints "a leading zero" (D ++ H "L,B,CA,2025-01-02,1,0" ++ H "L,B,CA,2025-01-02,01,0") "X,21,2,0\r\n"
@@ -166,8 +166,8 @@ recordPlaces =
     ∷ []
 
 -- how long a numeral of an H may be
-unfoldable pub holdingNumerals : List Case
-holdingNumerals =
+unfoldable pub holding_numerals : List Case
+holding_numerals =
     prints "a value of 13 digits" (D ++ H "L,B,CA,2025-01-02,1000000000000,0") "X,21,1,0\r\n"
     ∷ prints "a value of 12 digits" (D ++ H "L,B,CA,2025-01-02,999999999999,0") "X,8,0,0\r\n"
     ∷ prints "a price of seven digits" (D ++ H "L,B,CA,2025-01-02,1,1000000") "X,21,1,0\r\n"
@@ -175,8 +175,8 @@ holdingNumerals =
     ∷ []
 
 -- and one of a P
-unfoldable pub lineNumerals : List Case
-lineNumerals =
+unfoldable pub line_numerals : List Case
+line_numerals =
     prints "an amount of 13 digits" (D ++ P "0,0,1000000000000") "X,21,1,0\r\n"
     ∷ prints "an amount of 12 digits, with no H before" (D ++ P "0,0,999999999999") "X,11,0,0\r\n"
     ∷ prints "a long of seven digits" (D ++ P "1000000,0,1") "X,21,1,0\r\n"
@@ -185,13 +185,13 @@ lineNumerals =
     ∷ []
 
 -- one record at fault: 19, 20, 21 each at its record and before the next
-unfoldable pub recordFaults : List Case
-recordFaults =
+unfoldable pub record_faults : List Case
+record_faults =
     prints "an unknown letter" (D ++ ascii "Q" ++ drop 1 (H "L,B,CA,2025-01-02,1,0")) "X,21,1,0\r\n"
     ∷ prints "ten fields, at record 2" (D ++ H "L,B,CA,2025-01-02,1,0" ++ H "L,B,CA,2025-01-02,1,0,") "X,20,2,0\r\n"
-    ∷ prints "a fifth field that is filled" (D ++ ascii "P,0,0,1,0" ++ drop 1 emptyFields ++ ascii "\r\n") "X,21,1,0\r\n"
-    ∷ prints "a sixth field that is filled" (D ++ ascii "P,0,0,1,,0" ++ drop 2 emptyFields ++ ascii "\r\n") "X,21,1,0\r\n"
-    ∷ prints "a seventh field that is filled" (D ++ ascii "P,0,0,1,,,0" ++ drop 3 emptyFields ++ ascii "\r\n") "X,21,1,0\r\n"
+    ∷ prints "a fifth field that is filled" (D ++ ascii "P,0,0,1,0" ++ drop 1 empty_fields ++ ascii "\r\n") "X,21,1,0\r\n"
+    ∷ prints "a sixth field that is filled" (D ++ ascii "P,0,0,1,,0" ++ drop 2 empty_fields ++ ascii "\r\n") "X,21,1,0\r\n"
+    ∷ prints "a seventh field that is filled" (D ++ ascii "P,0,0,1,,,0" ++ drop 3 empty_fields ++ ascii "\r\n") "X,21,1,0\r\n"
     ∷ prints "a record is finished before the next" (D ++ H "L,B,CA,2025-01-02,01,0" ++ unended (H "L,B,CA,2025-01-02,1,0") ++ ascii "\n") "X,21,1,0\r\n"
     ∷ prints "19 before 20" (D ++ unended (H "L,B,CA,2025-01-02,1,0,,") ++ ascii "\n") "X,19,1,0\r\n"
     ∷ prints "20 before 21" (D ++ ascii "Q" ++ drop 1 (H "L,B,CA,2025-01-02,1")) "X,20,1,0\r\n"
@@ -201,7 +201,7 @@ recordFaults =
 -- what columns hold; the answer slice
 unfoldable pub lending : List Case
 lending =
-    lengths "all lengths right, lists of 21 bytes, or more lines than holdings" (right ∷ (take 11 right ++ replicate 3 21) ∷ moreLines ∷ []) 24
+    lengths "all lengths right, lists of 21 bytes, or more lines than holdings" (right ∷ (take 11 right ++ replicate 3 21) ∷ more_lines ∷ []) 24
     ∷ lengths "nothing but the answer" ((replicate 13 0 ++ (16 ∷ [])) ∷ []) 0
     ∷ lengths "1 before 2" (set (set right 7 8) 13 15 ∷ []) 1
     ∷ lengths "one side, kind, issuer, maturity, value, currency, rating or price" (map (λ j. set right j 8) (0 ∷ 1 ∷ 2 ∷ 3 ∷ 4 ∷ 5 ∷ 6 ∷ 7 ∷ [])) 1
@@ -222,13 +222,13 @@ lending =
 unfoldable pub reading : List Case
 reading =
     answers "read: two holdings, one line" (right ∷ []) (D ++ H "L,B,CA,2025-01-02,1,0" ++ H "L,B,CA,2025-01-02,1,0" ++ P "0,0,1") 16 16 (0 ∷ 2 ∷ 1 ∷ [])
-    ∷ answers "read: one holding, two lines" (moreLines ∷ []) (D ++ H "L,B,CA,2025-01-02,1,0" ++ P "0,0,1" ++ P "0,0,1") 16 16 (0 ∷ 1 ∷ 2 ∷ [])
+    ∷ answers "read: one holding, two lines" (more_lines ∷ []) (D ++ H "L,B,CA,2025-01-02,1,0" ++ P "0,0,1" ++ P "0,0,1") 16 16 (0 ∷ 1 ∷ 2 ∷ [])
     ∷ answers "read: D alone into empty columns" ([] ∷ []) D 16 16 (0 ∷ 0 ∷ 0 ∷ [])
     ∷ []
 
 -- or 2 after all records
-unfoldable pub readingShort : List Case
-readingShort =
+unfoldable pub reading_short : List Case
+reading_short =
     answers "read, and one column too short" (map (λ j. set right j 15) (0 ∷ 1 ∷ 2 ∷ 3 ∷ 4 ∷ 5 ∷ 6 ∷ 7 ∷ []) ++ map (λ j. set right j 7) (8 ∷ 9 ∷ 10 ∷ []))
     (D ++ H "L,B,CA,2025-01-02,1,0" ++ H "L,B,CA,2025-01-02,1,0" ++ P "0,0,1") 16 16 (2 ∷ 0 ∷ 0 ∷ [])
     ∷ answers "read, and an answer of 15 bytes" (right ∷ []) (D ++ H "L,B,CA,2025-01-02,1,0") 16 15 (2 ∷ 0 ∷ 0 ∷ [])
@@ -236,14 +236,14 @@ readingShort =
     ∷ []
 
 -- one record too many: the reader's 3 and 9 name no place, and 22 comes before 3
-unfoldable pub tooMany : List Case
-tooMany =
-    record-at "a 257th holding in a file" (valuation ∷ replicate 257 holding) 257 (3 ∷ 0 ∷ 0 ∷ [])
-    ∷ record-at "a 513th line in a file" (valuation ∷ holding ∷ replicate 513 pairing) 514 (9 ∷ 0 ∷ 0 ∷ [])
-    ∷ record-at "a 257th holding after a line" (valuation ∷ replicate 256 holding ++ (pairing ∷ holding ∷ [])) 258 (22 ∷ 258 ∷ 0 ∷ [])
-    ∷ record-at "a D after 256 holdings" (valuation ∷ replicate 256 holding ++ (valuation ∷ [])) 257 (22 ∷ 257 ∷ 0 ∷ [])
-    ∷ record-at "the 256th holding" (valuation ∷ replicate 256 holding) 256 (0 ∷ 0 ∷ 0 ∷ [])
-    ∷ record-at "the 512th line" (valuation ∷ replicate 512 pairing) 512 (0 ∷ 0 ∷ 0 ∷ [])
+unfoldable pub too_many : List Case
+too_many =
+    record_case "a 257th holding in a file" (valuation ∷ replicate 257 holding) 257 (3 ∷ 0 ∷ 0 ∷ [])
+    ∷ record_case "a 513th line in a file" (valuation ∷ holding ∷ replicate 513 pairing) 514 (9 ∷ 0 ∷ 0 ∷ [])
+    ∷ record_case "a 257th holding after a line" (valuation ∷ replicate 256 holding ++ (pairing ∷ holding ∷ [])) 258 (22 ∷ 258 ∷ 0 ∷ [])
+    ∷ record_case "a D after 256 holdings" (valuation ∷ replicate 256 holding ++ (valuation ∷ [])) 257 (22 ∷ 257 ∷ 0 ∷ [])
+    ∷ record_case "the 256th holding" (valuation ∷ replicate 256 holding) 256 (0 ∷ 0 ∷ 0 ∷ [])
+    ∷ record_case "the 512th line" (valuation ∷ replicate 512 pairing) 512 (0 ∷ 0 ∷ 0 ∷ [])
     ∷ []
 
 -- the letters and codes of the file, each with its number, and texts that are none; TEXTDATA at its ends; numbers as bytes
@@ -272,12 +272,12 @@ texts =
     ∷ []
 
 -- books and proposals from their numbers: the file's, and the empty book
-unfoldable pub fileProposals : List Case
-fileProposals =
+unfoldable pub file_proposals : List Case
+file_proposals =
     -- the file with another price or amount
-    proposal "third price 6,569, from the numbers" file (0 ∷ 5840 ∷ 6569 ∷ []) (file-lines 600000) (16 ∷ 0 ∷ 2 ∷ [])
-    ∷ proposal "first price 1, from the numbers" file (1 ∷ 5840 ∷ 6570 ∷ []) (file-lines 600000) (17 ∷ 0 ∷ 0 ∷ [])
-    ∷ proposal "first amount 600,001, from the numbers" file (0 ∷ 5840 ∷ 6570 ∷ []) (file-lines 600001) (15 ∷ 0 ∷ 0 ∷ [])
+    proposal "third price 6,569, from the numbers" file (0 ∷ 5840 ∷ 6569 ∷ []) (file_lines 600000) (16 ∷ 0 ∷ 2 ∷ [])
+    ∷ proposal "first price 1, from the numbers" file (1 ∷ 5840 ∷ 6570 ∷ []) (file_lines 600000) (17 ∷ 0 ∷ 0 ∷ [])
+    ∷ proposal "first amount 600,001, from the numbers" file (0 ∷ 5840 ∷ 6570 ∷ []) (file_lines 600001) (15 ∷ 0 ∷ 0 ∷ [])
     -- the empty book, and a line on it
     ∷ proposal "the empty book" [] [] [] (0 ∷ 0 ∷ 0 ∷ [])
     ∷ proposal "a line on the empty book" [] [] (line 0 0 1 ∷ []) (11 ∷ 0 ∷ 0 ∷ [])
@@ -287,10 +287,10 @@ fileProposals =
 unfoldable pub shortcuts : List Case
 shortcuts =
     -- "Largest saving first": each coupon with the other side's bond gives 40 cents; coupon with coupon, which gives 80, is refused
-    proposal "largest saving first: each coupon with the other side's bond" four four-prices (line 0 3 1000 ∷ line 1 2 1000 ∷ [])
+    proposal "largest saving first: each coupon with the other side's bond" four four_prices (line 0 3 1000 ∷ line 1 2 1000 ∷ [])
     (0 ∷ 5840000 ∷ 40 ∷ 0 ∷ 0 ∷ 0 ∷ 0 ∷ 0 ∷ 1 ∷ 2 ∷ 3 ∷ [])
     ∷ figures "largest saving first: coupon with coupon gives 80 cents" four (line 0 2 1000 ∷ []) (11680000 ∷ 80 ∷ 0 ∷ 0 ∷ [])
-    ∷ proposal "largest saving first: coupon with coupon is refused" four four-prices (line 0 2 1000 ∷ []) (17 ∷ 0 ∷ 0 ∷ [])
+    ∷ proposal "largest saving first: coupon with coupon is refused" four four_prices (line 0 2 1000 ∷ []) (17 ∷ 0 ∷ 0 ∷ [])
     -- "Testing cover on the proposed lines only": the line is covered, the pairs of 0 and 3 and of 1 and 2 in no line are not; the lowest long comes first
     ∷ proposal "cover on the proposed lines only, and the lowest long first" four (8760 ∷ 0 ∷ 8760 ∷ 0 ∷ []) (line 0 2 1000 ∷ []) (16 ∷ 0 ∷ 3 ∷ [])
     -- "Pairing across 4,015 days because the rates agree": across 11 years
@@ -316,8 +316,8 @@ proposals =
     ∷ []
 
 -- the refusals of lines, each with its place
-unfoldable pub lineRefusals : List Case
-lineRefusals =
+unfoldable pub line_refusals : List Case
+line_refusals =
     -- each refusal of a line, and its place
     proposal "11 at line 1" (two 2 2) (8 ∷ 0 ∷ []) (line 0 1 1 ∷ line 0 2 1 ∷ []) (11 ∷ 1 ∷ 0 ∷ [])
     ∷ proposal "12 at line 1" (two 2 2) (8 ∷ 0 ∷ []) (line 0 1 1 ∷ line 1 0 1 ∷ []) (12 ∷ 1 ∷ 0 ∷ [])

@@ -8,33 +8,33 @@ use lib.Dec.{leb, ltb, eqb}
 use lib.ListN.{length}
 use borrow.Author.Tests.{eqb-true, ltb-false, not-false}
 use Rattle.lists.specs.Choice.{within}
-use Rattle.lists.proofs.Tests.{neither, within-true}
-use Rattle.lists.proofs.Firsts.{None, Numbered, append-none, none_first, numbered-append, numbered-in-turn}
-use Rattle.holding.specs.Holding.{valueLimit}
+use Rattle.lists.proofs.Tests.{neither, within_true}
+use Rattle.lists.proofs.Firsts.{None, Numbered, append-none, none_first, numbered-append, numbered-in_turn}
+use Rattle.holding.specs.Holding.{value_limit}
 use Rattle.holding.specs.declared.Row.{Row}
 use Rattle.proposal.specs.{Outcome.at_place}
 use Rattle.proposal.proofs.{Places.at_none, Places.listed_at, Clear.number}
-use Rattle.daybook.specs.Book.{heldIn, accountAt, Book, holdingsIn}
-use Rattle.daybook.specs.Orders.{descriptionFaults, sumFaults, joins, joinFaults, takingFaults, dateFaults, atMatured, maturedFaults, orderFaults, outcome, accepted}
+use Rattle.daybook.specs.Book.{held_in, account_at, Book, holdings_in}
+use Rattle.daybook.specs.Orders.{description_faults, sum_faults, joins, join_faults, taking_faults, date_faults, at_matured, matured_faults, order_faults, outcome, accepted}
 use Rattle.daybook.specs.declared.Day.{Day}
 use Rattle.daybook.specs.declared.Order.{Order, TheVariants.Add, TheVariants.Take, TheVariants.MoveTo}
-use Rattle.daybook.proofs.{Described.description-listed, Checked.from-order, Checked.accepted-in-order}
+use Rattle.daybook.proofs.{Described.description-listed, Checked.from-order, Checked.accepted-in_order}
 
 -- every refusal has a number, from 1
-order-numbered : (room : ℕ) (d : Day) (rows : List Row) (o : Order) → Numbered number (orderFaults room d rows o)
-unfolding orderFaults sumFaults joinFaults takingFaults dateFaults maturedFaults atMatured
+order-numbered : (room : ℕ) (d : Day) (rows : List Row) (o : Order) → Numbered number (order_faults room d rows o)
+unfolding order_faults sum_faults join_faults taking_faults date_faults matured_faults at_matured
 order-numbered room d rows (Add t) =
     listed_at 0 _
-    (numbered-append _ (descriptionFaults (accountAt d) t ++ sumFaults (heldIn rows t) t.value) (joinFaults room rows t)
-    (numbered-append _ (descriptionFaults (accountAt d) t) (sumFaults (heldIn rows t) t.value) (description-listed (accountAt d) t) (omega arith, tt))
+    (numbered-append _ (description_faults (account_at d) t ++ sum_faults (held_in rows t) t.value) (join_faults room rows t)
+    (numbered-append _ (description_faults (account_at d) t) (sum_faults (held_in rows t) t.value) (description-listed (account_at d) t) (omega arith, tt))
     (omega arith, (omega arith, tt)))
 order-numbered room d rows (Take t) =
     listed_at 0 _
-    (numbered-append _ (descriptionFaults (accountAt d) t) (takingFaults (heldIn rows t) t.value) (description-listed (accountAt d) t) (omega arith, tt))
+    (numbered-append _ (description_faults (account_at d) t) (taking_faults (held_in rows t) t.value) (description-listed (account_at d) t) (omega arith, tt))
 order-numbered room d rows (MoveTo to) =
-    numbered-append number (at_place 0 (dateFaults d.date to)) (maturedFaults rows to)
-    (listed_at 0 (dateFaults d.date to) (omega arith, (omega arith, tt)))
-    (numbered-in-turn number (atMatured rows to) (λ k. listed_at k _ (omega arith, tt)) _)
+    numbered-append number (at_place 0 (date_faults d.date to)) (matured_faults rows to)
+    (listed_at 0 (date_faults d.date to) (omega arith, (omega arith, tt)))
+    (numbered-in_turn number (at_matured rows to) (λ k. listed_at k _ (omega arith, tt)) _)
 
 module _ (short : Bool) (b : Book) (o : Order) where
   abbrev room : ℕ
@@ -44,42 +44,42 @@ module _ (short : Bool) (b : Book) (o : Order) where
   pub record Passes : Type 0 where
     pub few : b.day.count ≤ 256
     pub fits : b.day.count ≤ room
-    pub order : None (orderFaults room b.day (holdingsIn b) o)
+    pub order : None (order_faults room b.day (holdings_in b) o)
 
-  pub accepted-passes : accepted short b o ≡ true → Passes
+  pub accepted_passes : accepted short b o ≡ true → Passes
   unfolding accepted
-  accepted-passes e =
+  accepted_passes e =
       let found = eqb-true (outcome short b o).number 0 e in
-      let i = accepted-in-order short b o found in
-      let refusals = orderFaults room b.day (holdingsIn b) o in
+      let i = accepted-in_order short b o found in
+      let refusals = order_faults room b.day (holdings_in b) o in
       record {
         few = i.head.sizes.holdings;
         fits = i.head.sizes.entries;
-        order = (none_first number refusals _ (order-numbered room b.day (holdingsIn b) o) (sym (ap number (from-order short b o i)) ∙ found)).0;
+        order = (none_first number refusals _ (order-numbered room b.day (holdings_in b) o) (sym (ap number (from-order short b o i)) ∙ found)).0;
       }
 
 module _ (room : ℕ) (d : Day) (rows : List Row) (t : Row) where
   -- an adding adds something, and joins only where there is room
   pub record Adding : Type 0 where
     pub some : 1 ≤ t.value
-    pub no-3 : (joins rows t && leb 256 (length rows)) ≡ false
-    pub no-2 : (joins rows t && leb room (length rows)) ≡ false
+    pub no_3 : (joins rows t && leb 256 (length rows)) ≡ false
+    pub no_2 : (joins rows t && leb room (length rows)) ≡ false
 
-  pub none-adding : None (orderFaults room d rows (Add t)) → Adding
-  unfolding orderFaults sumFaults joinFaults
-  none-adding h =
-      let (first, last) = append-none (descriptionFaults (accountAt d) t ++ sumFaults (heldIn rows t) t.value) (joinFaults room rows t) (at_none 0 _ h) in
-      let (_, sum) = append-none (descriptionFaults (accountAt d) t) (sumFaults (heldIn rows t) t.value) first in
-      let inside = (neither (not (within 1 valueLimit t.value)) (not (within 1 valueLimit (heldIn rows t + t.value))) sum.0).0 in
+  pub none_adding : None (order_faults room d rows (Add t)) → Adding
+  unfolding order_faults sum_faults join_faults
+  none_adding h =
+      let (first, last) = append-none (description_faults (account_at d) t ++ sum_faults (held_in rows t) t.value) (join_faults room rows t) (at_none 0 _ h) in
+      let (_, sum) = append-none (description_faults (account_at d) t) (sum_faults (held_in rows t) t.value) first in
+      let inside = (neither (not (within 1 value_limit t.value)) (not (within 1 value_limit (held_in rows t + t.value))) sum.0).0 in
       record {
-        some = (within-true 1 valueLimit t.value (not-false (within 1 valueLimit t.value) inside)).0;
-        no-3 = last.0;
-        no-2 = last.1.0;
+        some = (within_true 1 value_limit t.value (not-false (within 1 value_limit t.value) inside)).0;
+        no_3 = last.0;
+        no_2 = last.1.0;
       }
 
   -- a taking takes no more than is held
-  pub none-taking : None (orderFaults room d rows (Take t)) → t.value ≤ heldIn rows t
-  unfolding orderFaults takingFaults
-  none-taking h =
-      let (_, last) = append-none (descriptionFaults (accountAt d) t) (takingFaults (heldIn rows t) t.value) (at_none 0 _ h) in
-      ltb-false (heldIn rows t) t.value (neither (eqb t.value 0) (ltb (heldIn rows t) t.value) last.0).1
+  pub none_taking : None (order_faults room d rows (Take t)) → t.value ≤ held_in rows t
+  unfolding order_faults taking_faults
+  none_taking h =
+      let (_, last) = append-none (description_faults (account_at d) t) (taking_faults (held_in rows t) t.value) (at_none 0 _ h) in
+      ltb-false (held_in rows t) t.value (neither (eqb t.value 0) (ltb (held_in rows t) t.value) last.0).1

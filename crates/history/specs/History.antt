@@ -5,9 +5,9 @@ use mathlib.Core.{Path.◌≡◌, Bool.Bool, Bool.cond, List.List, List.[], List
 use Rattle.std.specs.Prelude.{ℕ, ◌≤◌, length}
 use Rattle.lists.specs.Choice.{same}
 use Rattle.holding.specs.declared.Row.{Row}
-use Rattle.ledger.specs.{Trades.Trade, Trades.adding, Trades.taking, Trades.Entry, Trades.makeEntry, Balance.Balance}
-use Rattle.daybook.specs.Book.{descriptionOf, totalsOf, accountAt, Book, holdingsIn}
-use Rattle.daybook.specs.Orders.{outcome, accepted, bookAfter, booked}
+use Rattle.ledger.specs.{Trades.Trade, Trades.adding, Trades.taking, Trades.Entry, Trades.make_entry, Balance.Balance}
+use Rattle.daybook.specs.Book.{description_of, totals_of, account_at, Book, holdings_in}
+use Rattle.daybook.specs.Orders.{outcome, accepted, book_after, booked}
 use Rattle.daybook.specs.declared.Order.{Order, TheVariants.Add, TheVariants.Take, TheVariants.MoveTo}
 
 -- a call: an order, and whether 2 holds of another list that is lent with it
@@ -20,12 +20,12 @@ abbrev pub Description : Type 0
 Description = List ℕ
 
 unfoldable pub entry_of : Row → Entry Description
-entry_of r = makeEntry (descriptionOf r) r.value
+entry_of r = make_entry (description_of r) r.value
 
 -- the trade of an order before earlier trades; a move is none
 unfoldable pub noted : Order → List (Trade Description) → List (Trade Description)
-noted (Add t) earlier = adding (descriptionOf t) t.value ∷ earlier
-noted (Take t) earlier = taking (descriptionOf t) t.value ∷ earlier
+noted (Add t) earlier = adding (description_of t) t.value ∷ earlier
+noted (Take t) earlier = taking (description_of t) t.value ∷ earlier
 noted (MoveTo to) earlier = earlier
 
 module _ (b : Book) where
@@ -47,15 +47,15 @@ module _ (b : Book) where
   -- what holds after any calls from an empty book
   pub record Kept (calls : List Call) : Type 0 where
     -- the stored totals equal those of the holdings worked out afresh, on the stored date and for the stored letter, which stays
-    pub totals : (after calls).day.totals ≡ totalsOf (accountAt (after calls).day) (holdingsIn (after calls))
+    pub totals : (after calls).day.totals ≡ totals_of (account_at (after calls).day) (holdings_in (after calls))
     pub letter : (after calls).day.letter ≡ b.day.letter
     -- the holdings are as many as are counted, 256 at most, in a list that keeps its length
-    pub count : length (holdingsIn (after calls)) ≡ (after calls).day.count
+    pub count : length (holdings_in (after calls)) ≡ (after calls).day.count
     pub few : (after calls).day.count ≤ 256
     pub room : length (after calls).list ≡ length b.list
     -- they are what the accepted trades leave, and no other list of holdings is
-    pub list : Balance same (trades calls) (map entry_of (holdingsIn (after calls)))
-    pub only : (rows : List Row) → Balance same (trades calls) (map entry_of rows) → rows ≡ holdingsIn (after calls)
+    pub list : Balance same (trades calls) (map entry_of (holdings_in (after calls)))
+    pub only : (rows : List Row) → Balance same (trades calls) (map entry_of rows) → rows ≡ holdings_in (after calls)
 
   -- what one call more does to the book and to the trades
   pub record Continued (calls : List Call) (c : Call) : Type 0 where
@@ -63,11 +63,11 @@ module _ (b : Book) where
     pub refused : ((outcome c.short (after calls) c.order).number ≡ 0 → ⊥)
         → (after (c ∷ calls) ≡ after calls) × (trades (c ∷ calls) ≡ trades calls)
     -- accepted: the book is what its order leaves, and the latest trade is its own; a move is none
-    pub changed : (outcome c.short (after calls) c.order).number ≡ 0 → after (c ∷ calls) ≡ bookAfter (after calls) c.order
+    pub changed : (outcome c.short (after calls) c.order).number ≡ 0 → after (c ∷ calls) ≡ book_after (after calls) c.order
     pub added : (t : Row) → c.order ≡ Add t → (outcome c.short (after calls) c.order).number ≡ 0
-        → trades (c ∷ calls) ≡ adding (descriptionOf t) t.value ∷ trades calls
+        → trades (c ∷ calls) ≡ adding (description_of t) t.value ∷ trades calls
     pub taken : (t : Row) → c.order ≡ Take t → (outcome c.short (after calls) c.order).number ≡ 0
-        → trades (c ∷ calls) ≡ taking (descriptionOf t) t.value ∷ trades calls
+        → trades (c ∷ calls) ≡ taking (description_of t) t.value ∷ trades calls
     pub moved : (to : ℕ) → c.order ≡ MoveTo to → trades (c ∷ calls) ≡ trades calls
     -- the date is that of the latest move
     pub date : (to : ℕ) → c.order ≡ MoveTo to → (outcome c.short (after calls) c.order).number ≡ 0 → (after (c ∷ calls)).day.date ≡ to

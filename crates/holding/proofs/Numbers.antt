@@ -1,27 +1,27 @@
 -- A record has the numbers of its cases. Assumes nothing.
 use mathlib.Core.Path.{refl, ap, ◌∙◌}
-use Rattle.holding.specs.Holding.{sideNumber, kindNumber, issuerNumber, currencyNumber, ratingNumber, isCorporation, row_of, Numbers}
+use Rattle.holding.specs.Holding.{side_number, kind_number, issuer_number, currency_number, rating_number, is_corporation, row_of, Numbers}
 use Rattle.holding.specs.declared.Holding.{Holding}
 
 pub numbers : (h : Holding) → Numbers h
-unfolding row_of isCorporation
+unfolding row_of is_corporation
 numbers h = record {
-  of-long = ap sideNumber;
-  of-short = ap sideNumber;
-  of-bond = ap kindNumber;
-  of-coupon = ap kindNumber;
-  of-residual = ap kindNumber;
-  of-canada = ap issuerNumber;
-  of-province = λ p w e. ap issuerNumber e ∙ rw w;
-  of-us = ap issuerNumber;
-  of-gb = ap issuerNumber;
-  of-corporation = λ c w e. ap issuerNumber e ∙ rw w;
-  of-cad = ap currencyNumber;
-  of-usd = ap currencyNumber;
-  of-gbp = ap currencyNumber;
-  of-single-a = ap ratingNumber;
-  of-lower = ap ratingNumber;
-  of-no-rating = ap ratingNumber;
+  of_long = ap side_number;
+  of_short = ap side_number;
+  of-bond = ap kind_number;
+  of_coupon = ap kind_number;
+  of_residual = ap kind_number;
+  of_canada = ap issuer_number;
+  of-province = λ p w e. ap issuer_number e ∙ rw w;
+  of-us = ap issuer_number;
+  of-gb = ap issuer_number;
+  of-corporation = λ c w e. ap issuer_number e ∙ rw w;
+  of_cad = ap currency_number;
+  of_usd = ap currency_number;
+  of_gbp = ap currency_number;
+  of_single_a = ap rating_number;
+  of_lower = ap rating_number;
+  of_no_rating = ap rating_number;
   maturity = refl;
   value = refl;
 }

@@ -1,9 +1,9 @@
 // A holding and the account that it is valued in: raw numbers, their ranges, and the records that numbers within them make.
 ghost use Rattle.std.specs.Prelude.{◌≡◌};
 ghost use Rattle.lists.specs.Choice.{first_of};
-ghost use Rattle.holding.specs.Holding.{headFault, letterOf, letterNumber, headedOf, identityFaults, termFaults, worthFaults, moneyFaults, faultOf, Builds};
-ghost use Rattle.holding.specs.Holding.{side_of, kind_of, isCorporation, isIssuer, issuerOf, currencyOf, isRated, ratingOf};
-ghost use Rattle.holding.specs.Holding.{sideNumber, kindNumber, issuerNumber, currencyNumber, ratingNumber, row_of};
+ghost use Rattle.holding.specs.Holding.{head_fault, letter_of, letter_number, headed_of, identity_faults, term_faults, worth_faults, money_faults, fault_of, Builds};
+ghost use Rattle.holding.specs.Holding.{side_of, kind_of, is_corporation, is_issuer, issuer_of, currency_of, is_rated, rating_of};
+ghost use Rattle.holding.specs.Holding.{side_number, kind_number, issuer_number, currency_number, rating_number, row_of};
 
 #[derive(Drop)]
 pub enum Side {
@@ -102,7 +102,7 @@ pub enum Built {
 
 // The first fault of a head: 24 for a valuation date that is none, 26 for a letter that is neither, or 0.
 pub fn head_fault(head: Head) -> u64
-    ensures { result ≡ headFault head }
+    ensures { result ≡ head_fault head }
 {
     if !dates::is_date(head.date) {
         return 24;
@@ -114,7 +114,7 @@ pub fn head_fault(head: Head) -> u64
 }
 
 fn letter_of(letter: u64) -> AccountKind
-    ensures { result ≡ letterOf letter }
+    ensures { result ≡ letter_of letter }
 {
     match letter {
         0 => AccountKind::Participant,
@@ -124,7 +124,7 @@ fn letter_of(letter: u64) -> AccountKind
 
 // The number of a letter.
 pub fn letter_number(letter: AccountKind) -> u64
-    ensures { result ≡ letterNumber letter }
+    ensures { result ≡ letter_number letter }
 {
     match letter {
         AccountKind::Participant => 0,
@@ -134,7 +134,7 @@ pub fn letter_number(letter: AccountKind) -> u64
 
 // The account of a head, or that it has a fault.
 pub fn account_of(head: Head) -> Headed
-    ensures { result ≡ headedOf head }
+    ensures { result ≡ headed_of head }
 {
     if head_fault(head) != 0 {
         return Headed::NoAccount;
@@ -148,7 +148,7 @@ pub fn account_of(head: Head) -> Headed
 
 // Whether a number is a corporation's.
 fn is_corporation(issuer: u64) -> bool
-    ensures { result ≡ isCorporation issuer }
+    ensures { result ≡ is_corporation issuer }
 {
     match issuer {
         100..=355 => true,
@@ -158,7 +158,7 @@ fn is_corporation(issuer: u64) -> bool
 
 // Whether a number is an issuer's: a government's or a corporation's.
 fn is_issuer(issuer: u64) -> bool
-    ensures { result ≡ isIssuer issuer }
+    ensures { result ≡ is_issuer issuer }
 {
     match issuer {
         0..=12 => true,
@@ -168,7 +168,7 @@ fn is_issuer(issuer: u64) -> bool
 
 // The number of the first fault of what a row is, 4 to 6, or 0 for none.
 pub fn identity_fault(row: Row) -> u64
-    ensures { result ≡ first_of (identityFaults row) 0 }
+    ensures { result ≡ first_of (identity_faults row) 0 }
 {
     if row.side > 1 {
         return 4;
@@ -184,7 +184,7 @@ pub fn identity_fault(row: Row) -> u64
 
 // The first fault of its term: 24 for a maturity that is no date, 7 for one by the valuation date or past its 100th anniversary, or 0.
 pub fn term_fault(account: Account, row: Row) -> u64
-    ensures { result ≡ first_of (termFaults account row) 0 }
+    ensures { result ≡ first_of (term_faults account row) 0 }
 {
     if !dates::is_date(row.maturity) {
         return 24;
@@ -200,7 +200,7 @@ pub fn term_fault(account: Account, row: Row) -> u64
 
 // The fault of its worth, 8, or 0.
 pub fn worth_fault(row: Row) -> u64
-    ensures { result ≡ first_of (worthFaults row) 0 }
+    ensures { result ≡ first_of (worth_faults row) 0 }
 {
     if row.value < 1 {
         return 8;
@@ -213,7 +213,7 @@ pub fn worth_fault(row: Row) -> u64
 
 // Whether a rating is one that an issuer has: of a corporation 0 or 1, of any other 2.
 fn is_rated(issuer: u64, rating: u64) -> bool
-    ensures { result ≡ isRated issuer rating }
+    ensures { result ≡ is_rated issuer rating }
 {
     if is_corporation(issuer) {
         return rating <= 1;
@@ -223,7 +223,7 @@ fn is_rated(issuer: u64, rating: u64) -> bool
 
 // The first fault of its money, 23, or of its rating, 25, or 0.
 pub fn money_fault(row: Row) -> u64
-    ensures { result ≡ first_of (moneyFaults row) 0 }
+    ensures { result ≡ first_of (money_faults row) 0 }
 {
     if row.currency > 2 {
         return 23;
@@ -236,7 +236,7 @@ pub fn money_fault(row: Row) -> u64
 
 // The number of a row's first fault, 4 to 6, 24, 7, 8, 23 or 25, or 0 for none.
 pub fn fault(account: Account, row: Row) -> u64
-    ensures { result ≡ faultOf account row }
+    ensures { result ≡ fault_of account row }
 {
     let number = identity_fault(row);
     if number != 0 {
@@ -275,7 +275,7 @@ pub fn kind_of(kind: u64) -> Kind
 
 // Of a number that no issuer has, a province of that number.
 pub fn issuer_of(issuer: u64) -> Issuer
-    ensures { result ≡ issuerOf issuer }
+    ensures { result ≡ issuer_of issuer }
 {
     match issuer {
         0 => Issuer::Canada,
@@ -287,7 +287,7 @@ pub fn issuer_of(issuer: u64) -> Issuer
 }
 
 pub fn currency_of(currency: u64) -> Currency
-    ensures { result ≡ currencyOf currency }
+    ensures { result ≡ currency_of currency }
 {
     match currency {
         0 => Currency::Cad,
@@ -297,7 +297,7 @@ pub fn currency_of(currency: u64) -> Currency
 }
 
 pub fn rating_of(rating: u64) -> Rating
-    ensures { result ≡ ratingOf rating }
+    ensures { result ≡ rating_of rating }
 {
     match rating {
         0 => Rating::SingleA,
@@ -334,7 +334,7 @@ pub fn holding_of(account: Account, row: Row) -> Built
 const NO_ISSUER: u64 = 18446744073709551615;
 
 fn side_number(side: Side) -> u64
-    ensures { result ≡ sideNumber side }
+    ensures { result ≡ side_number side }
 {
     match side {
         Side::Long => 0,
@@ -343,7 +343,7 @@ fn side_number(side: Side) -> u64
 }
 
 fn kind_number(kind: Kind) -> u64
-    ensures { result ≡ kindNumber kind }
+    ensures { result ≡ kind_number kind }
 {
     match kind {
         Kind::Bond => 0,
@@ -353,7 +353,7 @@ fn kind_number(kind: Kind) -> u64
 }
 
 fn issuer_number(issuer: Issuer) -> u64
-    ensures { result ≡ issuerNumber issuer }
+    ensures { result ≡ issuer_number issuer }
 {
     match issuer {
         Issuer::Canada => 0,
@@ -371,7 +371,7 @@ fn issuer_number(issuer: Issuer) -> u64
 }
 
 fn currency_number(currency: Currency) -> u64
-    ensures { result ≡ currencyNumber currency }
+    ensures { result ≡ currency_number currency }
 {
     match currency {
         Currency::Cad => 0,
@@ -381,7 +381,7 @@ fn currency_number(currency: Currency) -> u64
 }
 
 fn rating_number(rating: Rating) -> u64
-    ensures { result ≡ ratingNumber rating }
+    ensures { result ≡ rating_number rating }
 {
     match rating {
         Rating::SingleA => 0,

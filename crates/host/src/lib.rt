@@ -1,8 +1,8 @@
 // The reader and the check for the desk's Rust host: columns and lent lists as byte slices.
 ghost use Rattle.std.specs.Prelude.{[], ◌∷◌};
-ghost use Rattle.holding.specs.Holding.{headBy};
-ghost use Rattle.columns.specs.Columns.{makeColumns};
-ghost use Rattle.lent.specs.Boundary.{makeLent, Checks};
+ghost use Rattle.holding.specs.Holding.{head_by};
+ghost use Rattle.columns.specs.Columns.{make_columns};
+ghost use Rattle.lent.specs.Boundary.{make_lent, Checks};
 ghost use Rattle.received.specs.Reading.{Reads};
 ghost use Rattle.received.specs.Naming.{Names};
 
@@ -30,13 +30,13 @@ pub extern "C" fn margin_check(
     ranking: &mut [u8],
     answer: &mut [u8],
 ) -> u64
-    ensures { Checks (headBy (date ∷ letter ∷ []))
-        (makeColumns
+    ensures { Checks (head_by (date ∷ letter ∷ []))
+        (make_columns
         (side.now ∷ kind.now ∷ issuer.now ∷ maturity.now ∷ value.now ∷ currency.now ∷ rating.now ∷ [])
         price.now
         (long.now ∷ short.now ∷ amount.now ∷ []))
-        (makeLent remainder.old ranking.old answer.old)
-        (makeLent remainder.new ranking.new answer.new) result }
+        (make_lent remainder.old ranking.old answer.old)
+        (make_lent remainder.new ranking.new answer.new) result }
 {
     let head = Head { date, letter };
     if side.len() <= 32 {
@@ -140,11 +140,11 @@ pub extern "C" fn margin_read(
     answer: &mut [u8],
 ) -> u64
     ensures { Reads text.now head.old head.new
-        (makeColumns
+        (make_columns
         (side.old ∷ kind.old ∷ issuer.old ∷ maturity.old ∷ value.old ∷ currency.old ∷ rating.old ∷ [])
         price.old
         (long.old ∷ short.old ∷ amount.old ∷ []))
-        (makeColumns
+        (make_columns
         (side.new ∷ kind.new ∷ issuer.new ∷ maturity.new ∷ value.new ∷ currency.new ∷ rating.new ∷ [])
         price.new
         (long.new ∷ short.new ∷ amount.new ∷ []))

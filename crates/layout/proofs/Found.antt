@@ -11,13 +11,13 @@ use lib.Seq.{drop-cons, get_or-drop, take-suc-set, take_all}
 use borrow.Author.Tests.{eq-eqb, ne_eqb}
 use Rattle.lists.proofs.Tables.{length_to}
 use Rattle.lists.proofs.Tests.{same_or_not}
-use Rattle.csv.specs.Reading.{fieldCount, textsIn, HandsBack}
-use Rattle.layout.specs.Layout.{value_of, sortsBy, Values, values, wrong, andValue, values_of, sooner, Found}
+use Rattle.csv.specs.Reading.{field_count, texts_in, HandsBack}
+use Rattle.layout.specs.Layout.{value_of, sorts_by, Values, values, wrong, and_value, values_of, sooner, Found}
 use Rattle.layout.specs.declared.Sort.{Sort}
 use Rattle.layout.specs.declared.Sort.TheVariants.{Empty}
 use Rattle.layout.specs.declared.Value.{Value}
 use Rattle.layout.specs.declared.Value.TheVariants.{Of, Refused}
-use Rattle.layout.proofs.Letters.{length-sorts, value-late}
+use Rattle.layout.proofs.Letters.{length_sorts, value_late}
 
 -- what was found, before what is found of the texts to come
 abbrev pub ahead : Values → Values → Values
@@ -35,20 +35,20 @@ ahead-end (values us) = rw append-nil
 ahead-end (wrong first) = refl
 
 -- a value behind good ones, and behind a refusal
-good-good : (us : List ℕ) (v : ℕ) (vs : Values) → ahead (values us) (andValue (Of v) vs) ≡ ahead (values (us ++ (v ∷ []))) vs
+good-good : (us : List ℕ) (v : ℕ) (vs : Values) → ahead (values us) (and_value (Of v) vs) ≡ ahead (values (us ++ (v ∷ []))) vs
 good-good us v (values vs) = rw (append_assoc us (v ∷ []) vs)
 good-good us v (wrong number) = refl
 
-wrong-good : (first v : ℕ) (vs : Values) → ahead (wrong first) (andValue (Of v) vs) ≡ ahead (wrong first) vs
+wrong-good : (first v : ℕ) (vs : Values) → ahead (wrong first) (and_value (Of v) vs) ≡ ahead (wrong first) vs
 wrong-good first v (values vs) = refl
 wrong-good first v (wrong number) = refl
 
 -- a refusal behind good values, and behind another
-good-wrong : (us : List ℕ) (n : ℕ) (vs : Values) → ahead (values us) (andValue (Refused n) vs) ≡ ahead (wrong n) vs
+good-wrong : (us : List ℕ) (n : ℕ) (vs : Values) → ahead (values us) (and_value (Refused n) vs) ≡ ahead (wrong n) vs
 good-wrong us n (values vs) = refl
 good-wrong us n (wrong number) = refl
 
-wrong-wrong : (first n : ℕ) (vs : Values) → ahead (wrong first) (andValue (Refused n) vs) ≡ ahead (wrong (min first n)) vs
+wrong-wrong : (first n : ℕ) (vs : Values) → ahead (wrong first) (and_value (Refused n) vs) ≡ ahead (wrong (min first n)) vs
 wrong-wrong first n (values vs) = refl
 wrong-wrong first n (wrong number) =
     let lesser : min first (min n number) ≡ min (min first n) number = omega arith in
@@ -59,37 +59,37 @@ unfoldable pub so_far : List ℕ → ℕ → ℕ → Values
 so_far found refusal j = cond (eqb refusal 0) (values (take j found)) (wrong refusal)
 
 module _ (found : List ℕ) (j : ℕ) where
-  far-good : (refusal : ℕ) → refusal ≡ 0 → so_far found refusal j ≡ values (take j found)
+  far_good : (refusal : ℕ) → refusal ≡ 0 → so_far found refusal j ≡ values (take j found)
   unfolding so_far
-  far-good refusal e = rw (eq-eqb refusal 0 e)
+  far_good refusal e = rw (eq-eqb refusal 0 e)
 
-  far-wrong : (refusal : ℕ) → (refusal ≡ 0 → ⊥) → so_far found refusal j ≡ wrong refusal
+  far_wrong : (refusal : ℕ) → (refusal ≡ 0 → ⊥) → so_far found refusal j ≡ wrong refusal
   unfolding so_far
-  far-wrong refusal n = rw (ne_eqb refusal 0 n)
+  far_wrong refusal n = rw (ne_eqb refusal 0 n)
 
 -- the values of the texts after a letter: the first j are found, or a refusal among them
 pub record Finding (letter : ℕ) (ts : List (List ℕ)) (found : List ℕ) (refusal j : ℕ) : Type 0 where
-  pub few : j ≤ fieldCount - 1
-  pub texts : length ts ≡ fieldCount - 1
-  pub room : length found ≡ fieldCount + 1
-  pub rest : values_of (sortsBy letter) ts ≡ ahead (so_far found refusal j) (values_of (drop j (sortsBy letter)) (drop j ts))
+  pub few : j ≤ field_count - 1
+  pub texts : length ts ≡ field_count - 1
+  pub room : length found ≡ field_count + 1
+  pub rest : values_of (sorts_by letter) ts ≡ ahead (so_far found refusal j) (values_of (drop j (sorts_by letter)) (drop j ts))
 
-pub finding-none : (letter : ℕ) (ts : List (List ℕ)) (found : List ℕ) → length ts ≡ fieldCount - 1 → length found ≡ fieldCount + 1 → Finding letter ts found 0 0
+pub finding_none : (letter : ℕ) (ts : List (List ℕ)) (found : List ℕ) → length ts ≡ field_count - 1 → length found ≡ field_count + 1 → Finding letter ts found 0 0
 unfolding so_far
-finding-none letter ts found h l = record { few = omega arith; texts = h; room = l; rest = ahead_none (values_of (sortsBy letter) ts) }
+finding_none letter ts found h l = record { few = omega arith; texts = h; room = l; rest = ahead_none (values_of (sorts_by letter) ts) }
 
 module _ {letter : ℕ} {ts : List (List ℕ)} {found : List ℕ} {refusal j : ℕ} (f : Finding letter ts found refusal j) where
-  module _ (h : j < fieldCount - 1) where
+  module _ (h : j < field_count - 1) where
     -- the values of the texts after that at j
     abbrev later : Values
-    later = values_of (drop (suc j) (sortsBy letter)) (drop (suc j) ts)
+    later = values_of (drop (suc j) (sorts_by letter)) (drop (suc j) ts)
 
-    turn : values_of (sortsBy letter) ts ≡ ahead (so_far found refusal j) (andValue (value_of (get_or (sortsBy letter) j Empty) (get_or ts j [])) later)
+    turn : values_of (sorts_by letter) ts ≡ ahead (so_far found refusal j) (and_value (value_of (get_or (sorts_by letter) j Empty) (get_or ts j [])) later)
     unfolding values_of
-    turn = rw (drop-cons (sortsBy letter) j Empty (omega (arith, length-sorts letter)), drop-cons ts j [] (omega (arith, f.texts))) at f.rest
+    turn = rw (drop-cons (sorts_by letter) j Empty (omega (arith, length_sorts letter)), drop-cons ts j [] (omega (arith, f.texts))) at f.rest
 
-    pub finding-more : (v : ℕ) → value_of (get_or (sortsBy letter) j Empty) (get_or ts j []) ≡ Of v → Finding letter ts (set found j v) refusal (j + 1)
-    finding-more v e = record {
+    pub finding_more : (v : ℕ) → value_of (get_or (sorts_by letter) j Empty) (get_or ts j []) ≡ Of v → Finding letter ts (set found j v) refusal (j + 1)
+    finding_more v e = record {
       few = omega arith;
       texts = f.texts;
       room = length-set found j v ∙ f.room;
@@ -99,39 +99,39 @@ module _ {letter : ℕ} {ts : List (List ℕ)} {found : List ℕ} {refusal j : �
         more : take (suc j) (set found j v) ≡ take j found ++ (v ∷ [])
         more = take-suc-set found j v (omega (arith, f.room))
 
-        step : ahead (so_far found refusal j) (andValue (Of v) later) ≡ ahead (so_far (set found j v) refusal (suc j)) later
+        step : ahead (so_far found refusal j) (and_value (Of v) later) ≡ ahead (so_far (set found j v) refusal (suc j)) later
         step =
             same_or_not refusal 0
-            (λ z. rw (far-good found j refusal z, far-good (set found j v) (suc j) refusal z, more) (good-good (take j found) v later))
-            (λ n. rw (far-wrong found j refusal n, far-wrong (set found j v) (suc j) refusal n) (wrong-good refusal v later))
+            (λ z. rw (far_good found j refusal z, far_good (set found j v) (suc j) refusal z, more) (good-good (take j found) v later))
+            (λ n. rw (far_wrong found j refusal n, far_wrong (set found j v) (suc j) refusal n) (wrong-good refusal v later))
 
-    pub finding-wrong : (n : ℕ) → value_of (get_or (sortsBy letter) j Empty) (get_or ts j []) ≡ Refused n → Finding letter ts found (sooner refusal n) (j + 1)
+    pub finding_wrong : (n : ℕ) → value_of (get_or (sorts_by letter) j Empty) (get_or ts j []) ≡ Refused n → Finding letter ts found (sooner refusal n) (j + 1)
     unfolding sooner
-    finding-wrong n e = record { few = omega arith; texts = f.texts; room = f.room; rest = rw (add-one j) (rw e at turn ∙ step) }
+    finding_wrong n e = record { few = omega arith; texts = f.texts; room = f.room; rest = rw (add-one j) (rw e at turn ∙ step) }
       where
         late : 21 ≤ n
-        late = rw e at (value-late (get_or (sortsBy letter) j Empty) (get_or ts j []))
+        late = rw e at (value_late (get_or (sorts_by letter) j Empty) (get_or ts j []))
 
-        step : ahead (so_far found refusal j) (andValue (Refused n) later) ≡ ahead (so_far found (sooner refusal n) (suc j)) later
+        step : ahead (so_far found refusal j) (and_value (Refused n) later) ≡ ahead (so_far found (sooner refusal n) (suc j)) later
         step =
             same_or_not refusal 0
-            (λ z. rw (far-good found j refusal z, eq-eqb refusal 0 z, far-wrong found (suc j) n (λ o. omega (arith, late))) (good-wrong (take j found) n later))
+            (λ z. rw (far_good found j refusal z, eq-eqb refusal 0 z, far_wrong found (suc j) n (λ o. omega (arith, late))) (good-wrong (take j found) n later))
             (λ w.
-            rw (far-wrong found j refusal w, ne_eqb refusal 0 w, far-wrong found (suc j) (min refusal n) (λ o. omega (arith, late))) (wrong-wrong refusal n later))
+            rw (far_wrong found j refusal w, ne_eqb refusal 0 w, far_wrong found (suc j) (min refusal n) (λ o. omega (arith, late))) (wrong-wrong refusal n later))
 
-  pub finding-all : fieldCount - 1 ≤ j → Found (values_of (sortsBy letter) ts) found refusal
+  pub finding_all : field_count - 1 ≤ j → Found (values_of (sorts_by letter) ts) found refusal
   unfolding values_of
-  finding-all h =
-      let sorts : length (sortsBy letter) ≤ j = omega (arith, length-sorts letter) in
+  finding_all h =
+      let sorts : length (sorts_by letter) ≤ j = omega (arith, length_sorts letter) in
       let texts : length ts ≤ j = omega (arith, f.texts) in
-      let end : j ≡ fieldCount - 1 = omega (arith, f.few) in
+      let end : j ≡ field_count - 1 = omega (arith, f.few) in
       rw (all sorts texts)
       (same_or_not {P = Found (so_far found refusal j) found refusal} refusal 0
-      (λ z. rw (far-good found j refusal z) (z, rw end))
-      (λ n. rw (far-wrong found j refusal n) refl))
+      (λ z. rw (far_good found j refusal z) (z, rw end))
+      (λ n. rw (far_wrong found j refusal n) refl))
     where
-      all : length (sortsBy letter) ≤ j → length ts ≤ j → values_of (sortsBy letter) ts ≡ so_far found refusal j
-      all sorts texts = f.rest ∙ rw (drop_of_length-le (sortsBy letter) sorts, drop_of_length-le ts texts) (ahead-end (so_far found refusal j))
+      all : length (sorts_by letter) ≤ j → length ts ≤ j → values_of (sorts_by letter) ts ≡ so_far found refusal j
+      all sorts texts = f.rest ∙ rw (drop_of_length-le (sorts_by letter) sorts, drop_of_length-le ts texts) (ahead-end (so_far found refusal j))
 
 -- two numbers behind the first n entries of a list
 pub behind : (n : ℕ) (xs : List ℕ) (a b : ℕ) → length xs ≡ n + 2 → set (set xs n a) (n + 1) b ≡ take n xs ++ (a ∷ b ∷ [])
@@ -144,13 +144,13 @@ behind n xs a b e =
 
 -- the texts by the places of a record's fields
 module _ (text starts ends : List ℕ) where
-  pub texts-after : length (drop 1 (textsIn text fieldCount starts ends)) ≡ fieldCount - 1
-  unfolding textsIn
+  pub texts-after : length (drop 1 (texts_in text field_count starts ends)) ≡ field_count - 1
+  unfolding texts_in
   texts-after = simp (length-drop, length-take, length_to)
 
   -- the value of the one at j after the letter
-  pub value_after : (letter j : ℕ) {x : Value} {sort : Sort} {field : List ℕ} → x ≡ value_of sort field → sort ≡ get_or (sortsBy letter) j Empty
-      → HandsBack text fieldCount starts ends (j + 1) field → value_of (get_or (sortsBy letter) j Empty) (get_or (drop 1 (textsIn text fieldCount starts ends)) j []) ≡ x
+  pub value_after : (letter j : ℕ) {x : Value} {sort : Sort} {field : List ℕ} → x ≡ value_of sort field → sort ≡ get_or (sorts_by letter) j Empty
+      → HandsBack text field_count starts ends (j + 1) field → value_of (get_or (sorts_by letter) j Empty) (get_or (drop 1 (texts_in text field_count starts ends)) j []) ≡ x
   value_after letter j e p q =
       let next : 1 + j ≡ j + 1 = omega arith in
-      rw (get_or-drop 1 (textsIn text fieldCount starts ends) j [], next, ← q.by-places, ← p) (sym e)
+      rw (get_or-drop 1 (texts_in text field_count starts ends) j [], next, ← q.by_places, ← p) (sym e)

@@ -12,12 +12,12 @@ use Rattle.lists.proofs.Entries.{each-by, each_at}
 use Rattle.codes.specs.Codes.{place_of}
 use Rattle.codes.specs.declared.Place.{Place}
 use Rattle.codes.specs.declared.Place.TheVariants.{At, Nowhere}
-use Rattle.codes.proofs.Places.{place-absent, distinct-exactly}
-use Rattle.lei.specs.Lei.{judgedOf}
+use Rattle.codes.proofs.Places.{place_absent, distinct-exactly}
+use Rattle.lei.specs.Lei.{judged_of}
 use Rattle.lei.specs.declared.Judged.{Judged}
 use Rattle.lei.specs.declared.Judged.TheVariants.{Lei, WrongForm, WrongRemainder}
 use Rattle.lei.proofs.Forms.{judging}
-use Rattle.layout.specs.Layout.{issuers, IsValue, byIssuer, value_of}
+use Rattle.layout.specs.Layout.{issuers, IsValue, by_issuer, value_of}
 use Rattle.layout.specs.declared.Sort.TheVariants.{Issuer}
 use Rattle.layout.specs.declared.Value.TheVariants.{Of}
 
@@ -26,18 +26,18 @@ no_code : (t : List ℕ) → length t ≡ 20 → place_of t issuers ≡ Nowhere
 no_code t h =
     let Two : List ℕ → Type 0 = λ u. length u ≡ 2 in
     let two = each-by Two (λ u. eqb (length u) 2) (λ u. eqb-true (length u) 2) issuers refl in
-    place-absent t issuers (λ k l e. omega (arith, each_at Two [] issuers two k l, ap (length {A = ℕ}) e))
+    place_absent t issuers (λ k l e. omega (arith, each_at Two [] issuers two k l, ap (length {A = ℕ}) e))
 
 pub issuer-exactly : (t : List ℕ) (v : ℕ) → (value_of Issuer t ≡ Of v) ↔ IsValue Issuer t v
 unfolding value_of same
 issuer-exactly t v = (
-  by (place_of t issuers) (judgedOf t) refl refl,
+  by (place_of t issuers) (judged_of t) refl refl,
   ⊎_elim
       (λ named. rw ((distinct-exactly t issuers refl v).1 named))
       (λ (is, e). rw (no_code t is.form.long, (judging t).lei.1 is, e)),
 )
   where
-    by : (p : Place) (j : Judged) → place_of t issuers ≡ p → judgedOf t ≡ j → byIssuer p j ≡ Of v → IsValue Issuer t v
+    by : (p : Place) (j : Judged) → place_of t issuers ≡ p → judged_of t ≡ j → by_issuer p j ≡ Of v → IsValue Issuer t v
     by (At n) j e f h =
         let same : n ≡ v = cc in
         inl ((distinct-exactly t issuers refl v).0 (e ∙ ap At same))

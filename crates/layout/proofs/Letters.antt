@@ -8,22 +8,22 @@ use lib.ListN.{length, get_or, replicate, length-append, length-replicate, get_o
 use borrow.Author.Tests.{ltb-true}
 use Rattle.lists.proofs.Entries.{each-by, each_read}
 use Rattle.lists.proofs.Tests.{by-test}
-use Rattle.csv.specs.Reading.{fieldCount, Read, formed, broken}
+use Rattle.csv.specs.Reading.{field_count, Read, formed, broken}
 use Rattle.codes.specs.Codes.{place_of}
 use Rattle.codes.specs.declared.Place.{Place}
 use Rattle.codes.specs.declared.Place.TheVariants.{At, Nowhere}
 use Rattle.codes.proofs.Places.{place-exactly}
-use Rattle.numerals.specs.Numerals.{numeralOf}
+use Rattle.numerals.specs.Numerals.{numeral_of}
 use Rattle.numerals.specs.declared.Numeral.{Numeral}
 use Rattle.numerals.specs.declared.Numeral.TheVariants.{Number, NotANumeral}
-use Rattle.dates.specs.Text.{readDate}
+use Rattle.dates.specs.Text.{read_date}
 use Rattle.dates.specs.declared.text.Reading.{Reading}
 use Rattle.dates.specs.declared.text.Reading.TheVariants.{Number as Dated, NotADate}
-use Rattle.lei.specs.Lei.{judgedOf}
+use Rattle.lei.specs.Lei.{judged_of}
 use Rattle.lei.specs.declared.Judged.{Judged}
 use Rattle.lei.specs.declared.Judged.TheVariants.{Lei, WrongForm, WrongRemainder}
-use Rattle.layout.specs.Layout.{accounts, sides, kinds, issuers, currencies, ratings, byPlace, byNumeral, byDate, byIssuer, value_of, padded, layouts, letters, sortsBy}
-use Rattle.layout.specs.Layout.{Values, values, wrong, andValue, values_of, Meaning, good, refused, issuerIn, ratingIn, misrated, leiNumbers, meant, afterLetter, parsedOf, parse}
+use Rattle.layout.specs.Layout.{accounts, sides, kinds, issuers, currencies, ratings, by_place, by_numeral, by_date, by_issuer, value_of, padded, layouts, letters, sorts_by}
+use Rattle.layout.specs.Layout.{Values, values, wrong, and_value, values_of, Meaning, good, refused, issuer_in, rating_in, misrated, lei_numbers, meant, after_letter, parsed_of, parse}
 use Rattle.layout.specs.declared.Sort.{Sort}
 use Rattle.layout.specs.declared.Sort.TheVariants.{Account, Side, Kind, Issuer, Currency, Rating, Date, Six, Twelve, Empty}
 use Rattle.layout.specs.declared.Value.{Value}
@@ -32,7 +32,7 @@ use Rattle.layout.specs.declared.Value.TheVariants.{Of, Refused}
 module _ {A : Type 0} (x : A) where
   -- what pads a list is what is read past its end
   pub padded-read : (xs : List A) (j : ℕ) → get_or (padded x xs) j x ≡ get_or xs j x
-  padded-read xs j = from xs j (fieldCount - suc (length xs))
+  padded-read xs j = from xs j (field_count - suc (length xs))
     where
       from : (xs : List A) (j n : ℕ) → get_or (xs ++ replicate n x) j x ≡ get_or xs j x
       from [] j zero = refl
@@ -41,32 +41,32 @@ module _ {A : Type 0} (x : A) where
       from (y ∷ ys) zero n = refl
       from (y ∷ ys) (suc j) n = from ys j n
 
-  pub padded-past : (xs : List A) (j : ℕ) → length xs ≤ j → get_or (padded x xs) j x ≡ x
-  padded-past xs j h = padded-read xs j ∙ get_or-eq_default xs x h
+  pub padded_past : (xs : List A) (j : ℕ) → length xs ≤ j → get_or (padded x xs) j x ≡ x
+  padded_past xs j h = padded-read xs j ∙ get_or-eq_default xs x h
 
-  pub length-padded : (xs : List A) → length xs < fieldCount → length (padded x xs) ≡ fieldCount - 1
+  pub length-padded : (xs : List A) → length xs < field_count → length (padded x xs) ≡ field_count - 1
   length-padded xs h =
-      length-append xs (replicate (fieldCount - suc (length xs)) x) ∙ omega (arith, length-replicate (fieldCount - suc (length xs)) x)
+      length-append xs (replicate (field_count - suc (length xs)) x) ∙ omega (arith, length-replicate (field_count - suc (length xs)) x)
 
 -- the sorts that are listed of a letter
 abbrev pub listed : ℕ → List Sort
 listed k = (get_or layouts k ([], [])).1
 
 -- one sort for each field after the letter
-pub length-sorts : (k : ℕ) → length (sortsBy k) ≡ fieldCount - 1
-length-sorts k =
+pub length_sorts : (k : ℕ) → length (sorts_by k) ≡ field_count - 1
+length_sorts k =
     length-padded Empty (listed k)
-    (each_read Fits ([], []) (omega arith) layouts (each-by Fits (λ l. ltb (length l.1) fieldCount) (λ l e. ltb-true (length l.1) fieldCount e) layouts refl) k)
+    (each_read Fits ([], []) (omega arith) layouts (each-by Fits (λ l. ltb (length l.1) field_count) (λ l e. ltb-true (length l.1) field_count e) layouts refl) k)
   where
     Fits : List ℕ × List Sort → Type 0
-    Fits l = length l.1 < fieldCount
+    Fits l = length l.1 < field_count
 
 -- past those that are listed all is empty
-pub past-listed : (k j : ℕ) → length (listed k) ≤ j → Empty ≡ get_or (sortsBy k) j Empty
-past-listed k j h = sym (padded-past Empty (listed k) j h)
+pub past_listed : (k j : ℕ) → length (listed k) ≤ j → Empty ≡ get_or (sorts_by k) j Empty
+past_listed k j h = sym (padded_past Empty (listed k) j h)
 
-pub past-letters : (k j : ℕ) → length layouts ≤ k → Empty ≡ get_or (sortsBy k) j Empty
-past-letters k j h = past-listed k j (rw (get_or-eq_default layouts ([], []) h) (omega arith))
+pub past_letters : (k j : ℕ) → length layouts ≤ k → Empty ≡ get_or (sorts_by k) j Empty
+past_letters k j h = past_listed k j (rw (get_or-eq_default layouts ([], []) h) (omega arith))
 
 -- a known letter is one of them
 pub letter-known : (text : List ℕ) (k : ℕ) → place_of text letters ≡ At k → k < length letters
@@ -77,43 +77,43 @@ abbrev pub Late : Value → Type 0
 Late (Of v) = Unit {0}
 Late (Refused number) = 21 ≤ number
 
-place-late : (p : Place) → Late (byPlace p)
-place-late (At n) = tt
-place-late Nowhere = omega arith
+place_late : (p : Place) → Late (by_place p)
+place_late (At n) = tt
+place_late Nowhere = omega arith
 
-numeral-late : (n : Numeral) → Late (byNumeral n)
-numeral-late (Number x) = tt
-numeral-late NotANumeral = omega arith
+numeral_late : (n : Numeral) → Late (by_numeral n)
+numeral_late (Number x) = tt
+numeral_late NotANumeral = omega arith
 
-date-late : (r : Reading) → Late (byDate r)
-date-late (Dated n) = tt
-date-late NotADate = omega arith
+date_late : (r : Reading) → Late (by_date r)
+date_late (Dated n) = tt
+date_late NotADate = omega arith
 
-issuer-late : (p : Place) (j : Judged) → Late (byIssuer p j)
-issuer-late (At n) j = tt
-issuer-late Nowhere Lei = tt
-issuer-late Nowhere WrongForm = omega arith
-issuer-late Nowhere WrongRemainder = omega arith
+issuer_late : (p : Place) (j : Judged) → Late (by_issuer p j)
+issuer_late (At n) j = tt
+issuer_late Nowhere Lei = tt
+issuer_late Nowhere WrongForm = omega arith
+issuer_late Nowhere WrongRemainder = omega arith
 
-pub value-late : (s : Sort) (t : List ℕ) → Late (value_of s t)
+pub value_late : (s : Sort) (t : List ℕ) → Late (value_of s t)
 unfolding value_of
-value-late Account t = place-late (place_of t accounts)
-value-late Side t = place-late (place_of t sides)
-value-late Kind t = place-late (place_of t kinds)
-value-late Issuer t = issuer-late (place_of t issuers) (judgedOf t)
-value-late Currency t = place-late (place_of t currencies)
-value-late Rating t = place-late (place_of t ratings)
-value-late Date t = date-late (readDate t)
-value-late Six t = numeral-late (numeralOf 6 t)
-value-late Twelve t = numeral-late (numeralOf 12 t)
-value-late Empty t = by-test Late (eqb (length t) 0) (λ _. tt) (λ _. omega arith)
+value_late Account t = place_late (place_of t accounts)
+value_late Side t = place_late (place_of t sides)
+value_late Kind t = place_late (place_of t kinds)
+value_late Issuer t = issuer_late (place_of t issuers) (judged_of t)
+value_late Currency t = place_late (place_of t currencies)
+value_late Rating t = place_late (place_of t ratings)
+value_late Date t = date_late (read_date t)
+value_late Six t = numeral_late (numeral_of 6 t)
+value_late Twelve t = numeral_late (numeral_of 12 t)
+value_late Empty t = by-test Late (eqb (length t) 0) (λ _. tt) (λ _. omega arith)
 
 -- of good values there is one for each sort, and wrong ones are refused with 21 or more
 abbrev pub Sized : ℕ → Values → Type 0
 Sized n (values vs) = length vs ≡ n
 Sized n (wrong number) = 21 ≤ number
 
-and-sized : (v : Value) (n : ℕ) (vs : Values) → Late v → Sized n vs → Sized (suc n) (andValue v vs)
+and-sized : (v : Value) (n : ℕ) (vs : Values) → Late v → Sized n vs → Sized (suc n) (and_value v vs)
 and-sized (Of v) n (values vs) l h = omega (arith, h)
 and-sized (Of v) n (wrong number) l h = h
 and-sized (Refused first) n (values vs) l h = l
@@ -124,38 +124,38 @@ unfolding values_of
 values-sized [] [] = refl
 values-sized [] (t ∷ ts) = omega arith
 values-sized (s ∷ ss) [] = omega arith
-values-sized (s ∷ ss) (t ∷ ts) = and-sized (value_of s t) (length ss) (values_of ss ts) (value-late s t) (values-sized ss ts)
+values-sized (s ∷ ss) (t ∷ ts) = and-sized (value_of s t) (length ss) (values_of ss ts) (value_late s t) (values-sized ss ts)
 
 -- a good record has a known letter, a value for each field after it, and two for the LEI; a refusal is 19 or more
 abbrev Known : Meaning → Type 0
-Known (good k vs) = (k < length letters) × (length vs ≡ fieldCount + 1)
+Known (good k vs) = (k < length letters) × (length vs ≡ field_count + 1)
 Known (refused number) = 19 ≤ number
 
-meant-known : (k : ℕ) (texts : List (List ℕ)) (vs : Values) → k < length letters → Sized (fieldCount - 1) vs → Known (meant k texts vs)
+meant-known : (k : ℕ) (texts : List (List ℕ)) (vs : Values) → k < length letters → Sized (field_count - 1) vs → Known (meant k texts vs)
 meant-known k texts (values vs) h l =
-    by-test Known (misrated k (issuerIn vs) (ratingIn vs)) (λ _. omega arith) (λ _. (h, omega (arith, l, length-append vs (leiNumbers (get_or texts 2 [])))))
+    by-test Known (misrated k (issuer_in vs) (rating_in vs)) (λ _. omega arith) (λ _. (h, omega (arith, l, length-append vs (lei_numbers (get_or texts 2 [])))))
 meant-known k texts (wrong number) h l = omega (arith, l)
 
-after-known : (p : Place) (texts : List (List ℕ)) → ((k : ℕ) → p ≡ At k → k < length letters) → Known (afterLetter p texts)
-after-known (At k) texts h = meant-known k texts (values_of (sortsBy k) texts) (h k refl) (rw (length-sorts k) at (values-sized (sortsBy k) texts))
+after-known : (p : Place) (texts : List (List ℕ)) → ((k : ℕ) → p ≡ At k → k < length letters) → Known (after_letter p texts)
+after-known (At k) texts h = meant-known k texts (values_of (sorts_by k) texts) (h k refl) (rw (length_sorts k) at (values-sized (sorts_by k) texts))
 after-known Nowhere texts h = omega arith
 
-parsed-known : (texts : List (List ℕ)) → Known (parsedOf texts)
-unfolding parsedOf
-parsed-known [] = omega arith
-parsed-known (letter ∷ texts) = after-known (place_of letter letters) texts (letter-known letter)
+parsed_known : (texts : List (List ℕ)) → Known (parsed_of texts)
+unfolding parsed_of
+parsed_known [] = omega arith
+parsed_known (letter ∷ texts) = after-known (place_of letter letters) texts (letter-known letter)
 
 parse-known : (r : Read) → Known (parse r)
 unfolding parse
 parse-known broken = omega arith
-parse-known (formed texts) = by-test Known (eqb (length texts) fieldCount) (λ e. parsed-known texts) (λ e. omega arith)
+parse-known (formed texts) = by-test Known (eqb (length texts) field_count) (λ e. parsed_known texts) (λ e. omega arith)
 
 module _ (r : Read) where
   module _ {k : ℕ} {vs : List ℕ} (e : parse r ≡ good k vs) where
     pub parse-good : k < length letters
     parse-good = (rw e at (parse-known r)).0
 
-    pub good_length : length vs ≡ fieldCount + 1
+    pub good_length : length vs ≡ field_count + 1
     good_length = (rw e at (parse-known r)).1
 
   pub parse-refused : {number : ℕ} → parse r ≡ refused number → 19 ≤ number

@@ -11,18 +11,18 @@ use borrow.Author.Tests.{eq-eqb, ne_eqb, lt-leb, leb-false, eqb-true, not-false}
 use Rattle.lists.specs.Choice.{same}
 use Rattle.lists.specs.Tables.{ascii}
 use Rattle.lists.proofs.Tests.{same_or_not}
-use Rattle.codes.specs.Codes.{placeFrom, place_of}
-use Rattle.layout.specs.Layout.{ratings, corporation, byPlace, Rated, misrated}
+use Rattle.codes.specs.Codes.{place_from, place_of}
+use Rattle.layout.specs.Layout.{ratings, corporation, by_place, Rated, misrated}
 use Rattle.layout.specs.declared.Value.TheVariants.{Of}
 
 -- none, or one of the two letters
-pub rating-none : (t : List ℕ) → length t ≡ 0 → Of 2 ≡ byPlace (place_of t ratings)
-unfolding place_of placeFrom same
+pub rating-none : (t : List ℕ) → length t ≡ 0 → Of 2 ≡ by_place (place_of t ratings)
+unfolding place_of place_from same
 rating-none [] h = refl
 rating-none (c ∷ t) h = absurd (omega arith)
 
 pub rating-given : (t : List ℕ) → length t ≢ 0 → place_of t (ascii "Y" ∷ ascii "N" ∷ []) ≡ place_of t ratings
-unfolding place_of placeFrom same
+unfolding place_of place_from same
 rating-given [] h = absurd (h refl)
 rating-given (c ∷ t) h = refl
 

@@ -3,19 +3,19 @@ use mathlib.Core.{Path.◌≡◌, Logic.◌≢◌, Logic.◌⊎◌, Bool.cond, B
 use Rattle.std.specs.Prelude.{ℕ, ◌≤◌, ◌<◌, suc, ◌-◌, min}
 use lib.{Dec.eqb, Dec.leb, Dec.ltb, ListN.length, ListN.get_or, ListN.take, ListN.replicate}
 use Rattle.lists.specs.Tables.{ascii}
-use Rattle.numerals.specs.Numerals.{digits, numeralOf}
+use Rattle.numerals.specs.Numerals.{digits, numeral_of}
 use Rattle.numerals.specs.declared.Numeral.{Numeral, TheVariants.Number, TheVariants.NotANumeral}
-use Rattle.dates.specs.Text.{dateText, readDate}
+use Rattle.dates.specs.Text.{date_text, read_date}
 use Rattle.dates.specs.declared.text.Reading.{Reading, TheVariants.Number as Dated, TheVariants.NotADate}
 use Rattle.codes.specs.Codes.{place_of, Named}
 use Rattle.codes.specs.declared.Place.{Place, TheVariants.At, TheVariants.Nowhere}
-use Rattle.lei.specs.Lei.{IsLei, leiOf, judgedOf}
+use Rattle.lei.specs.Lei.{IsLei, lei_of, judged_of}
 use Rattle.lei.specs.declared.Judged.{Judged, TheVariants.Lei, TheVariants.WrongForm, TheVariants.WrongRemainder}
 use Rattle.layout.specs.declared.Sort.{Sort, TheVariants.Account, TheVariants.Side, TheVariants.Kind, TheVariants.Issuer, TheVariants.Currency, TheVariants.Rating, TheVariants.Date}
 use Rattle.layout.specs.declared.Sort.TheVariants.{Six, Twelve, Empty}
 use Rattle.layout.specs.declared.{Value.Value, Value.TheVariants.Of, Value.TheVariants.Refused as Unfit}
 use Rattle.layout.specs.declared.{Parsed.Parsed, Parsed.TheVariants.Good, Parsed.TheVariants.Refused, Entry.Entry}
-use Rattle.csv.specs.Reading.{part, Split, fields, malformed, recordAt, fieldCount, Read, formed, broken}
+use Rattle.csv.specs.Reading.{part, Split, fields, malformed, record_at, field_count, Read, formed, broken}
 
 -- the account's letter `P` or `C`; side `L` or `S`; kind `B` `C` `R`; issuer `CA`, a province code, `US` or `GB`, in the order of the issuers' numbers; currency `CAD`, `USD` or `GBP`;
 -- rating `Y`, `N` or none
@@ -53,53 +53,53 @@ IsValue Kind t v = Named t kinds v
 IsValue Issuer t v = Named t issuers v ⊎ (IsLei t × (v ≡ corporation))
 IsValue Currency t v = Named t currencies v
 IsValue Rating t v = Named t ratings v
-IsValue Date t v = (t ≡ dateText v) × (v < 100000000)
+IsValue Date t v = (t ≡ date_text v) × (v < 100000000)
 IsValue Six t v = Numbered 6 t v
 IsValue Twelve t v = Numbered 12 t v
 IsValue Empty t v = (t ≡ []) × (v ≡ 0)
 
 -- texts are values of their sorts, one each
 pub data AreValues : List Sort → List (List ℕ) → List ℕ → Type 0 where
-  no-values : AreValues [] [] []
-  value-and : {s : Sort} {t : List ℕ} {v : ℕ} {ss : List Sort} {ts : List (List ℕ)} {vs : List ℕ} → IsValue s t v → AreValues ss ts vs → AreValues (s ∷ ss) (t ∷ ts) (v ∷ vs)
+  no_values : AreValues [] [] []
+  value_and : {s : Sort} {t : List ℕ} {v : ℕ} {ss : List Sort} {ts : List (List ℕ)} {vs : List ℕ} → IsValue s t v → AreValues ss ts vs → AreValues (s ∷ ss) (t ∷ ts) (v ∷ vs)
 
 -- a place among named texts is a value, and so is a numeral's number
-abbrev pub byPlace : Place → Value
-byPlace (At n) = Of n
-byPlace Nowhere = Unfit 21
+abbrev pub by_place : Place → Value
+by_place (At n) = Of n
+by_place Nowhere = Unfit 21
 
-abbrev pub byNumeral : Numeral → Value
-byNumeral (Number n) = Of n
-byNumeral NotANumeral = Unfit 21
+abbrev pub by_numeral : Numeral → Value
+by_numeral (Number n) = Of n
+by_numeral NotANumeral = Unfit 21
 
 -- and so is the number of a date
-abbrev pub byDate : Reading → Value
-byDate (Dated n) = Of n
-byDate NotADate = Unfit 21
+abbrev pub by_date : Reading → Value
+by_date (Dated n) = Of n
+by_date NotADate = Unfit 21
 
 -- and so is an issuer: one of the codes, or else an LEI; a text in the form of one that has another remainder is refused with 25
-abbrev pub byIssuer : Place → Judged → Value
-byIssuer (At n) judged = Of n
-byIssuer Nowhere Lei = Of corporation
-byIssuer Nowhere WrongForm = Unfit 21
-byIssuer Nowhere WrongRemainder = Unfit 25
+abbrev pub by_issuer : Place → Judged → Value
+by_issuer (At n) judged = Of n
+by_issuer Nowhere Lei = Of corporation
+by_issuer Nowhere WrongForm = Unfit 21
+by_issuer Nowhere WrongRemainder = Unfit 25
 
 -- the value that a text is of its sort, or its refusal
 unfoldable pub value_of : Sort → List ℕ → Value
-value_of Account t = byPlace (place_of t accounts)
-value_of Side t = byPlace (place_of t sides)
-value_of Kind t = byPlace (place_of t kinds)
-value_of Issuer t = byIssuer (place_of t issuers) (judgedOf t)
-value_of Currency t = byPlace (place_of t currencies)
-value_of Rating t = byPlace (place_of t ratings)
-value_of Date t = byDate (readDate t)
-value_of Six t = byNumeral (numeralOf 6 t)
-value_of Twelve t = byNumeral (numeralOf 12 t)
+value_of Account t = by_place (place_of t accounts)
+value_of Side t = by_place (place_of t sides)
+value_of Kind t = by_place (place_of t kinds)
+value_of Issuer t = by_issuer (place_of t issuers) (judged_of t)
+value_of Currency t = by_place (place_of t currencies)
+value_of Rating t = by_place (place_of t ratings)
+value_of Date t = by_date (read_date t)
+value_of Six t = by_numeral (numeral_of 6 t)
+value_of Twelve t = by_numeral (numeral_of 12 t)
 value_of Empty t = cond (eqb (length t) 0) (Of 0) (Unfit 21)
 
 -- one for each field of a record after its letter: those given, and x for the rest
 abbrev pub padded : {A : Type 0} → A → List A → List A
-padded x xs = xs ++ replicate (fieldCount - suc (length xs)) x
+padded x xs = xs ++ replicate (field_count - suc (length xs)) x
 
 -- the letters, each with what follows it: `D`, valuation date, the account's letter; `H`, side, kind, issuer, maturity, value, price, currency, rating; `P`, long, short, amount;
 -- further fields are empty
@@ -114,20 +114,20 @@ layouts =
 abbrev pub letters : List (List ℕ)
 letters = map (λ l. l.0) layouts
 
-abbrev pub sortsBy : ℕ → List Sort
-sortsBy k = padded Empty (get_or layouts k ([], [])).1
+abbrev pub sorts_by : ℕ → List Sort
+sorts_by k = padded Empty (get_or layouts k ([], [])).1
 
 -- what may follow what, by letter: D comes first, and then no other D and nothing of an earlier letter, all H before all P
-abbrev pub mayFollow : Place → ℕ → Bool
-mayFollow Nowhere letter = eqb letter 0
-mayFollow (At before) letter = ltb 0 letter && leb before letter
+abbrev pub may_follow : Place → ℕ → Bool
+may_follow Nowhere letter = eqb letter 0
+may_follow (At before) letter = ltb 0 letter && leb before letter
 
 -- the issuer and the rating among the values of an H
-abbrev pub issuerIn : List ℕ → ℕ
-issuerIn vs = get_or vs 2 0
+abbrev pub issuer_in : List ℕ → ℕ
+issuer_in vs = get_or vs 2 0
 
-abbrev pub ratingIn : List ℕ → ℕ
-ratingIn vs = get_or vs 7 0
+abbrev pub rating_in : List ℕ → ℕ
+rating_in vs = get_or vs 7 0
 
 -- a corporation is rated, and a government is not
 pub record Rated (issuer rating : ℕ) : Type 0 where
@@ -137,7 +137,7 @@ pub record Rated (issuer rating : ℕ) : Type 0 where
 -- a good record of the letter of number k, with the values after it
 abbrev pub IsRecord : ℕ → List (List ℕ) → List ℕ → Type 0
 IsRecord k [] vs = ⊥
-IsRecord k (letter ∷ texts) vs = Named letter letters k × AreValues (sortsBy k) texts (padded 0 vs) × (k ≡ 1 → Rated (issuerIn vs) (ratingIn vs))
+IsRecord k (letter ∷ texts) vs = Named letter letters k × AreValues (sorts_by k) texts (padded 0 vs) × (k ≡ 1 → Rated (issuer_in vs) (rating_in vs))
 
 -- the values of texts, one of each sort, or the refusal of the record
 pub data Values : Type 0 where
@@ -145,17 +145,17 @@ pub data Values : Type 0 where
   wrong : ℕ → Values
 
 -- of two refusals the lesser comes first, wherever they stand: 21 before 25
-abbrev pub andValue : Value → Values → Values
-andValue (Of v) (values vs) = values (v ∷ vs)
-andValue (Of v) (wrong number) = wrong number
-andValue (Unfit first) (values vs) = wrong first
-andValue (Unfit first) (wrong number) = wrong (min first number)
+abbrev pub and_value : Value → Values → Values
+and_value (Of v) (values vs) = values (v ∷ vs)
+and_value (Of v) (wrong number) = wrong number
+and_value (Unfit first) (values vs) = wrong first
+and_value (Unfit first) (wrong number) = wrong (min first number)
 
 unfoldable pub values_of : List Sort → List (List ℕ) → Values
 values_of [] [] = values []
 values_of [] (t ∷ ts) = wrong 21
 values_of (s ∷ ss) [] = wrong 21
-values_of (s ∷ ss) (t ∷ ts) = andValue (value_of s t) (values_of ss ts)
+values_of (s ∷ ss) (t ∷ ts) = and_value (value_of s t) (values_of ss ts)
 
 -- what a record means: its letter by number with the values after it, or its refusal
 pub data Meaning : Type 0 where
@@ -167,28 +167,28 @@ unfoldable pub misrated : ℕ → ℕ → ℕ → Bool
 misrated letter issuer rating = eqb letter 1 && cond (eqb issuer corporation) (leb 2 rating) (not (eqb rating 2))
 
 -- the LEI that a text is, as two numbers; 0 and 0 of one that has not its length
-abbrev pub leiNumbers : List ℕ → List ℕ
-leiNumbers t = (leiOf t).0 ∷ (leiOf t).1 ∷ []
+abbrev pub lei_numbers : List ℕ → List ℕ
+lei_numbers t = (lei_of t).0 ∷ (lei_of t).1 ∷ []
 
 -- good values are those of the fields, and then the LEI of the issuer, the third field after the letter
 abbrev pub meant : ℕ → List (List ℕ) → Values → Meaning
-meant k texts (values vs) = cond (misrated k (issuerIn vs) (ratingIn vs)) (refused 25) (good k (vs ++ leiNumbers (get_or texts 2 [])))
+meant k texts (values vs) = cond (misrated k (issuer_in vs) (rating_in vs)) (refused 25) (good k (vs ++ lei_numbers (get_or texts 2 [])))
 meant k texts (wrong number) = refused number
 
-abbrev pub afterLetter : Place → List (List ℕ) → Meaning
-afterLetter (At k) texts = meant k texts (values_of (sortsBy k) texts)
-afterLetter Nowhere texts = refused 21
+abbrev pub after_letter : Place → List (List ℕ) → Meaning
+after_letter (At k) texts = meant k texts (values_of (sorts_by k) texts)
+after_letter Nowhere texts = refused 21
 
 -- of as many fields as a record has: 21 a field isn't a value of its sort, one that must be empty is filled, or the first is no known letter; then 25 an
 -- issuer in the form of an LEI has another remainder, or an H is misrated
-unfoldable pub parsedOf : List (List ℕ) → Meaning
-parsedOf [] = refused 21
-parsedOf (letter ∷ texts) = afterLetter (place_of letter letters) texts
+unfoldable pub parsed_of : List (List ℕ) → Meaning
+parsed_of [] = refused 21
+parsed_of (letter ∷ texts) = after_letter (place_of letter letters) texts
 
 -- of a record: 19 outside the grammar, 20 not nine fields, then 21 and 25
 unfoldable pub parse : Read → Meaning
 parse broken = refused 19
-parse (formed texts) = cond (eqb (length texts) fieldCount) (parsedOf texts) (refused 20)
+parse (formed texts) = cond (eqb (length texts) field_count) (parsed_of texts) (refused 20)
 
 -- the record at a place, and where the next one starts
 abbrev pub read_of : List ℕ → Split → Read
@@ -205,18 +205,18 @@ sooner found number = cond (eqb found 0) number (min found number)
 
 -- values that are at the front of a list, with 0 for no refusal; what it holds where one is wrong is free
 abbrev pub Found : Values → List ℕ → ℕ → Type 0
-Found (values vs) found refusal = (refusal ≡ 0) × (take (fieldCount - 1) found ≡ vs)
+Found (values vs) found refusal = (refusal ≡ 0) × (take (field_count - 1) found ≡ vs)
 Found (wrong number) found refusal = refusal ≡ number
 
 -- the paper's number and values of each case of what the code hands back: good, with the values in the lent list, or the refusal's number
-abbrev pub meaningOf : Parsed → List ℕ → Meaning
-meaningOf (Good letter) vs = good letter vs
-meaningOf (Refused number) vs = refused number
+abbrev pub meaning_of : Parsed → List ℕ → Meaning
+meaning_of (Good letter) vs = good letter vs
+meaning_of (Refused number) vs = refused number
 
 abbrev pub entry : Parsed → ℕ → Entry
 entry parsed next = record { parsed = parsed; next = next }
 
 -- the record at a place, parsed, its values in the lent list, and where the next one starts; what the list holds of a refused record is free
 pub record EntryAt (text : List ℕ) (at : ℕ) (vs : List ℕ) (r : Entry) : Type 0 where
-  pub means : meaningOf r.parsed vs ≡ parse (read_of text (recordAt text at))
-  pub next : r.next ≡ next_of (recordAt text at)
+  pub means : meaning_of r.parsed vs ≡ parse (read_of text (record_at text at))
+  pub next : r.next ≡ next_of (record_at text at)

@@ -1,8 +1,8 @@
 // The layout of a record: a letter, and after it fields, each of a sort.
 ghost use Rattle.std.specs.Prelude.{◌≡◌, ◌++◌, ◌-◌, take, drop, get_or};
-ghost use Rattle.csv.specs.Reading.{fieldCount, textsIn};
+ghost use Rattle.csv.specs.Reading.{field_count, texts_in};
 ghost use Rattle.codes.specs.Codes.{place_of};
-ghost use Rattle.layout.specs.Layout.{ratings, byPlace, byNumeral, byDate, byIssuer, value_of, sortsBy, values_of, misrated, leiNumbers, sooner, Found, mayFollow, entry, EntryAt};
+ghost use Rattle.layout.specs.Layout.{ratings, by_place, by_numeral, by_date, by_issuer, value_of, sorts_by, values_of, misrated, lei_numbers, sooner, Found, may_follow, entry, EntryAt};
 
 use codes::Place;
 use csv::Scanned;
@@ -51,7 +51,7 @@ pub struct Entry {
 
 // The sort of field j after the letter of a number: D, H, then P.
 fn sort_at(letter: usize, j: usize) -> Sort
-    ensures { result ≡ get_or (sortsBy letter) j Sort.Empty }
+    ensures { result ≡ get_or (sorts_by letter) j Sort.Empty }
 {
     if letter == 0 {
         return match j {
@@ -86,7 +86,7 @@ fn sort_at(letter: usize, j: usize) -> Sort
 
 // A place among named texts, as a value.
 fn by_place(place: Place) -> Value
-    ensures { result ≡ byPlace place }
+    ensures { result ≡ by_place place }
 {
     match place {
         Place::At(n) => Value::Of(n as u64),
@@ -96,7 +96,7 @@ fn by_place(place: Place) -> Value
 
 // A numeral's number, as a value.
 fn by_numeral(numeral: Numeral) -> Value
-    ensures { result ≡ byNumeral numeral }
+    ensures { result ≡ by_numeral numeral }
 {
     match numeral {
         Numeral::Number(x) => Value::Of(x),
@@ -106,7 +106,7 @@ fn by_numeral(numeral: Numeral) -> Value
 
 // The number of a date, as a value.
 fn by_date(reading: Reading) -> Value
-    ensures { result ≡ byDate reading }
+    ensures { result ≡ by_date reading }
 {
     match reading {
         Reading::Number(n) => Value::Of(n),
@@ -116,7 +116,7 @@ fn by_date(reading: Reading) -> Value
 
 // An issuer by its place among the codes, or else by what it is judged to be, as a value: 100 is a corporation.
 fn by_issuer(place: Place, judged: Judged) -> Value
-    ensures { result ≡ byIssuer place judged }
+    ensures { result ≡ by_issuer place judged }
 {
     match place {
         Place::At(n) => Value::Of(n as u64),
@@ -130,7 +130,7 @@ fn by_issuer(place: Place, judged: Judged) -> Value
 
 // The value of a rating: Y, N or none.
 fn rating_in(text: &[u8]) -> Value
-    ensures { result ≡ byPlace (place_of text.now ratings) }
+    ensures { result ≡ by_place (place_of text.now ratings) }
 {
     if text.len() == 0 {
         return Value::Of(2);
@@ -184,8 +184,8 @@ fn values_after<'a>(
     letter: usize,
     values: &mut [u64; VALUES],
 ) -> u64
-    ensures { Found (values_of (sortsBy letter)
-        (drop 1 (textsIn text.now fieldCount starts.now ends.now)))
+    ensures { Found (values_of (sorts_by letter)
+        (drop 1 (texts_in text.now field_count starts.now ends.now)))
         values.new result }
 {
     let found = &mut values[..];
@@ -224,7 +224,7 @@ fn misrated(letter: usize, issuer: u64, rating: u64) -> bool
 
 // The LEI of an issuer goes behind the values of the fields, as two numbers.
 fn put_issuer(issuer: &[u8], values: &mut [u64; VALUES])
-    ensures { values.new ≡ take (fieldCount - 1) values.old ++ leiNumbers issuer.now }
+    ensures { values.new ≡ take (field_count - 1) values.old ++ lei_numbers issuer.now }
 {
     let found = &mut values[..];
     found[csv::FIELDS - 1] = lei::high_of(issuer);
@@ -233,7 +233,7 @@ fn put_issuer(issuer: &[u8], values: &mut [u64; VALUES])
 
 // Whether a record of a letter may follow one of the letter before, or none: D comes first and only there.
 pub fn may_follow(before: Place, letter: usize) -> bool
-    ensures { result ≡ mayFollow before letter }
+    ensures { result ≡ may_follow before letter }
 {
     match before {
         Place::Nowhere => letter == 0,

@@ -9,7 +9,7 @@ use lib.Dec.{eqb}
 use borrow.Author.Tests.{eqb-true, eqb-false}
 use Rattle.lists.specs.Tables.{Each}
 use Rattle.lists.proofs.Tests.{by-test, either_way, neither}
-use Rattle.ledger.specs.Trades.{Entry, makeEntry, listed, descriptions}
+use Rattle.ledger.specs.Trades.{Entry, make_entry, listed, descriptions}
 use Rattle.ledger.specs.Balance.{Ordered}
 
 -- descriptions that pass the test are one, and each passes it with itself
@@ -25,31 +25,31 @@ module _ {D : Type 0} (same : D → D → Bool) where
 
   -- value goes to the first entry of the description, or else joins at the end
   unfoldable pub added : D → ℕ → List (Entry D) → List (Entry D)
-  added d v [] = makeEntry d v ∷ []
-  added d v (e ∷ es) = cond (same e.description d) (makeEntry e.description (e.value + v) ∷ es) (e ∷ added d v es)
+  added d v [] = make_entry d v ∷ []
+  added d v (e ∷ es) = cond (same e.description d) (make_entry e.description (e.value + v) ∷ es) (e ∷ added d v es)
 
   -- value is removed from that first one: brought to zero it leaves, and later ones move up
   unfoldable pub taken : D → ℕ → List (Entry D) → List (Entry D)
   taken d v [] = []
   taken d v (e ∷ es) =
-      cond (same e.description d) (cond (eqb e.value v) es (makeEntry e.description (e.value - v) ∷ es)) (e ∷ taken d v es)
+      cond (same e.description d) (cond (eqb e.value v) es (make_entry e.description (e.value - v) ∷ es)) (e ∷ taken d v es)
 
 -- the descriptions with an entry at the end
-pub descriptions-last : {D : Type 0} (es : List (Entry D)) (d : D) (v : ℕ) → descriptions (es ++ (makeEntry d v ∷ [])) ≡ descriptions es ++ (d ∷ [])
+pub descriptions-last : {D : Type 0} (es : List (Entry D)) (d : D) (v : ℕ) → descriptions (es ++ (make_entry d v ∷ [])) ≡ descriptions es ++ (d ∷ [])
 unfolding descriptions
-descriptions-last es d v = map-append (λ e. e.description) es (makeEntry d v ∷ [])
+descriptions-last es d v = map-append (λ e. e.description) es (make_entry d v ∷ [])
 
 module _ {D : Type 0} {same : D → D → Bool} (E : Equality same) where
   -- equal descriptions compare alike with any third
-  pub same-as : (d e x : D) → same d e ≡ true → same d x ≡ same e x
-  same-as d e x s = ap (λ (y : D). same y x) (E.alike d e s)
+  pub same_as : (d e x : D) → same d e ≡ true → same d x ≡ same e x
+  same_as d e x s = ap (λ (y : D). same y x) (E.alike d e s)
 
   pub differ : (d e : D) → same d e ≡ false → same e d ≡ false
-  differ d e s = either_way (same e d) (λ q. absurd (false≢true (sym s ∙ sym (same-as e d e q) ∙ E.itself e))) (λ q. q)
+  differ d e s = either_way (same e d) (λ q. absurd (false≢true (sym s ∙ sym (same_as e d e q) ∙ E.itself e))) (λ q. q)
 
   -- x is d, which is not e
   apart : (d e x : D) → same e d ≡ false → same e x ≡ true → same d x ≡ false
-  apart d e x s q = differ x d (sym (same-as e x d q) ∙ s)
+  apart d e x s q = differ x d (sym (same_as e x d q) ∙ s)
 
   pub held_none : (es : List (Entry D)) (d : D) → listed same es d ≡ false → held same es d ≡ 0
   unfolding listed held
@@ -73,8 +73,8 @@ module _ {D : Type 0} {same : D → D → Bool} (E : Equality same) where
         by : (s : Bool) → same e.description d ≡ s → (q : Bool) → same e.description x ≡ q
             → held same (added same d v es) x ≡ held same es x + cond (same d x) v 0
             → held same (added same d v (e ∷ es)) x ≡ held same (e ∷ es) x + cond (same d x) v 0
-        by true s true q ih = rw (s, q, sym (same-as e.description d x s) ∙ q)
-        by true s false q ih = rw (s, q, sym (same-as e.description d x s) ∙ q) (omega arith)
+        by true s true q ih = rw (s, q, sym (same_as e.description d x s) ∙ q)
+        by true s false q ih = rw (s, q, sym (same_as e.description d x s) ∙ q) (omega arith)
         by false s true q ih = rw (s, q, apart d e.description x s q) (omega arith)
         by false s false q ih = rw (s, q) ih
 
@@ -88,13 +88,13 @@ module _ {D : Type 0} {same : D → D → Bool} (E : Equality same) where
         by : (s : Bool) → same e.description d ≡ s → (q : Bool) → same e.description x ≡ q
             → (v ≤ held same es d → held same (taken same d v es) x + cond (same d x) v 0 ≡ held same es x)
             → held same (taken same d v (e ∷ es)) x + cond (same d x) v 0 ≡ held same (e ∷ es) x
-        by true s true q ih = rw (s, q, sym (same-as e.description d x s) ∙ q)
+        by true s true q ih = rw (s, q, sym (same_as e.description d x s) ∙ q)
             (by-test (λ (l : List (Entry D)). held same l x + v ≡ e.value) (eqb e.value v)
             (λ z. omega (arith, eqb-true e.value v z, held-apart es x (rw (E.alike e.description x q) at o.0)))
             (λ z.
             let k : v ≤ e.value = rw s at h in
             rw q (omega arith)))
-        by true s false q ih = rw (s, q, sym (same-as e.description d x s) ∙ q)
+        by true s false q ih = rw (s, q, sym (same_as e.description d x s) ∙ q)
             (by-test (λ (l : List (Entry D)). held same l x + 0 ≡ held same es x) (eqb e.value v)
             (λ z. omega arith)
             (λ z. rw q (omega arith)))
@@ -133,7 +133,7 @@ module _ {D : Type 0} {same : D → D → Bool} (E : Equality same) where
         (λ s. refl)
         (λ s. ap (λ (l : List D). e.description ∷ l) (descriptions-kept es (rw s at h)))
 
-    pub added-last : (es : List (Entry D)) → listed same es d ≡ false → added same d v es ≡ es ++ (makeEntry d v ∷ [])
+    pub added-last : (es : List (Entry D)) → listed same es d ≡ false → added same d v es ≡ es ++ (make_entry d v ∷ [])
     unfolding added listed
     added-last [] h = refl
     added-last (e ∷ es) h =

@@ -6,16 +6,16 @@ use Prim.Native.Nat.{ℕ, ◌-◌, ◌<◌}
 use native.Mathlib.Omega.{arith}
 use Rattle.lists.specs.Tables.{Each}
 use Rattle.lists.proofs.Tests.{either_way}
-use Rattle.ledger.specs.Trades.{Trade, Entry, makeEntry, listed, descriptions}
-use Rattle.ledger.specs.Balance.{Ordered, addedOf, taken_of, joined, Balance}
+use Rattle.ledger.specs.Trades.{Trade, Entry, make_entry, listed, descriptions}
+use Rattle.ledger.specs.Balance.{Ordered, added_of, taken_of, joined, Balance}
 use Rattle.ledger.proofs.Holdings.{Equality, at_listed}
 
 module _ {D : Type 0} {same : D → D → Bool} (E : Equality same) (key : D → ℕ) (amount : D → ℕ) where
   -- a description that is listed is the first one or is listed later
-  listed-cases : {P : Type 0} (e : Entry D) (es : List (Entry D)) (d : D) → listed same (e ∷ es) d ≡ true
+  listed_cases : {P : Type 0} (e : Entry D) (es : List (Entry D)) (d : D) → listed same (e ∷ es) d ≡ true
       → (same e.description d ≡ true → P) → (listed same es d ≡ true → P) → P
   unfolding listed
-  listed-cases e es d h p q = either_way (same e.description d) p (λ s. q (rw s at h))
+  listed_cases e es d h p q = either_way (same e.description d) p (λ s. q (rw s at h))
 
   listed-first : (e : Entry D) (es : List (Entry D)) → listed same (e ∷ es) e.description ≡ true
   unfolding listed
@@ -30,7 +30,7 @@ module _ {D : Type 0} {same : D → D → Bool} (E : Equality same) (key : D →
       → ((d : D) → listed same (e ∷ es) d ≡ true → listed same (f ∷ fs) d ≡ true) → (d : D) → listed same es d ≡ true → listed same fs d ≡ true
   behind e f es fs first o p d h =
       let above = at_listed E (λ y. key e.description < key y) es d o h in
-      listed-cases f fs d (p d (listed-later e es d h))
+      listed_cases f fs d (p d (listed-later e es d h))
       (λ s. absurd (omega (arith, above, ap key (first ∙ E.alike f.description d s))))
       (λ s. s)
 
@@ -45,10 +45,10 @@ module _ {D : Type 0} {same : D → D → Bool} (E : Equality same) (key : D →
   one_list (e ∷ es) [] a b o u p q = absurd (false≢true (p e.description (listed-first e es)))
   one_list (e ∷ es) (f ∷ fs) a b o u p q =
       let first : e.description ≡ f.description =
-      listed-cases f fs e.description (p e.description (listed-first e es))
+      listed_cases f fs e.description (p e.description (listed-first e es))
       (λ s. sym (E.alike f.description e.description s))
       (λ s.
-      listed-cases e es f.description (q f.description (listed-first f fs))
+      listed_cases e es f.description (q f.description (listed-first f fs))
       (λ r. E.alike e.description f.description r)
       (λ r.
       absurd (omega (
@@ -59,14 +59,14 @@ module _ {D : Type 0} {same : D → D → Bool} (E : Equality same) (key : D →
       let worth : e.value ≡ f.value = a.0 ∙ ap amount first ∙ sym b.0 in
       let rest =
       one_list es fs a.1 b.1 o.1 u.1 (behind e f es fs first o.0 p) (behind f e fs es (sym first) u.0 q) in
-      λ i. makeEntry (first i) (worth i) ∷ rest i
+      λ i. make_entry (first i) (worth i) ∷ rest i
 
 module _ {D : Type 0} {same : D → D → Bool} (E : Equality same) (trades : List (Trade D)) where
   -- one balance lists what another does
   also : (es fs : List (Entry D)) → Balance same trades es → Balance same trades fs → (d : D) → listed same es d ≡ true → listed same fs d ≡ true
-  also es fs a b d h = b.all d (at_listed E (λ x. taken_of same trades x < addedOf same trades x) es d a.just h)
+  also es fs a b d h = b.all d (at_listed E (λ x. taken_of same trades x < added_of same trades x) es d a.just h)
 
   pub one-balance : (es fs : List (Entry D)) → Balance same trades es → Balance same trades fs → es ≡ fs
   one-balance es fs a b =
-      one_list E (joined same trades) (λ d. addedOf same trades d - taken_of same trades d) es fs
+      one_list E (joined same trades) (λ d. added_of same trades d - taken_of same trades d) es fs
       a.difference b.difference a.order b.order (also es fs a b) (also fs es b a)

@@ -1,7 +1,7 @@
 -- Lists in which each entry stands so to every later one. Assumes nothing.
 use mathlib.Core.List.{List, [], ◌∷◌, ◌++◌}
 use Rattle.lists.specs.Tables.{Each}
-use Rattle.lists.proofs.Entries.{each-so, each_append}
+use Rattle.lists.proofs.Entries.{each_so, each_append}
 use Rattle.ledger.specs.Balance.{Ordered}
 
 pub each_all : {A : Type 0} (P : A → Type 0) → ((x : A) → P x) → (xs : List A) → Each P xs
@@ -13,12 +13,12 @@ each_both P Q [] p q = tt
 each_both P Q (x ∷ xs) p q = ((p.0, q.0), each_both P Q xs p.1 q.1)
 
 -- of an order that follows from another for entries of a list, the list is in it too
-pub ordered-so : {A : Type 0} (P : A → Type 0) (F G : A → A → Type 0) → ((x y : A) → P x → P y → F x y → G x y)
+pub ordered_so : {A : Type 0} (P : A → Type 0) (F G : A → A → Type 0) → ((x y : A) → P x → P y → F x y → G x y)
     → (xs : List A) → Each P xs → Ordered F xs → Ordered G xs
-ordered-so P F G f [] p h = tt
-ordered-so P F G f (x ∷ xs) p h = (
-  each-so (λ y. P y × F x y) (G x) (λ y q. f x y p.0 q.0 q.1) xs (each_both P (F x) xs p.1 h.0),
-  ordered-so P F G f xs p.1 h.1,
+ordered_so P F G f [] p h = tt
+ordered_so P F G f (x ∷ xs) p h = (
+  each_so (λ y. P y × F x y) (G x) (λ y q. f x y p.0 q.0 q.1) xs (each_both P (F x) xs p.1 h.0),
+  ordered_so P F G f xs p.1 h.1,
 )
 
 -- an entry at the end

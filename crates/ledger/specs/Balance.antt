@@ -19,15 +19,15 @@ module _ {D : Type 0} (same : D → D → Bool) where
   takes d (adding x v) = 0
   takes d (taking x v) = cond (same x d) v 0
 
-  unfoldable pub addedOf : List (Trade D) → D → ℕ
-  addedOf trades d = sum_of trades (adds d)
+  unfoldable pub added_of : List (Trade D) → D → ℕ
+  added_of trades d = sum_of trades (adds d)
 
   unfoldable pub taken_of : List (Trade D) → D → ℕ
   taken_of trades d = sum_of trades (takes d)
 
   -- a description joins at an adding that finds nothing of it: as much was taken before as was added
   unfoldable pub joins : D → Trade D → List (Trade D) → Bool
-  joins d (adding x v) earlier = same x d && eqb (addedOf earlier d) (taken_of earlier d)
+  joins d (adding x v) earlier = same x d && eqb (added_of earlier d) (taken_of earlier d)
   joins d (taking x v) earlier = false
 
   -- the number, from 1 on in time, of the trade at which a description last joined, 0 for none
@@ -37,8 +37,8 @@ module _ {D : Type 0} (same : D → D → Bool) where
 
   -- just the descriptions with more added than taken, each once with the difference, in order of last joining
   pub record Balance (trades : List (Trade D)) (es : List (Entry D)) : Type 0 where
-    pub just : Each (λ d. taken_of trades d < addedOf trades d) (descriptions es)
-    pub all : (d : D) → taken_of trades d < addedOf trades d → listed same es d ≡ true
+    pub just : Each (λ d. taken_of trades d < added_of trades d) (descriptions es)
+    pub all : (d : D) → taken_of trades d < added_of trades d → listed same es d ≡ true
     pub once : Ordered (λ x y. same x y ≡ false) (descriptions es)
-    pub difference : Each (λ e. e.value ≡ addedOf trades e.description - taken_of trades e.description) es
+    pub difference : Each (λ e. e.value ≡ added_of trades e.description - taken_of trades e.description) es
     pub order : Ordered (λ x y. joined trades x < joined trades y) (descriptions es)

@@ -11,8 +11,8 @@ pub record Entry (D : Type 0) : Type 0 where
   pub description : D
   pub value : ℕ
 
-abbrev pub makeEntry : {D : Type 0} → D → ℕ → Entry D
-makeEntry d v = record { description = d; value = v }
+abbrev pub make_entry : {D : Type 0} → D → ℕ → Entry D
+make_entry d v = record { description = d; value = v }
 
 -- the descriptions of a list of entries, in its order
 unfoldable pub descriptions : {D : Type 0} → List (Entry D) → List D

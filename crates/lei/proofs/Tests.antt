@@ -26,8 +26,8 @@ module _ (test : ℕ → Bool) where
           let next : every test (drop i t) ≡ every test (drop (i + 1) t) = rw (add-one i, drop-cons t i 0 h, ← e, not-false r n) in
           record { few = omega arith; left = p.left ∙ next }
 
-      pub passed-not : not r ≡ true → false ≡ every test t
-      passed-not n = rw (p.left, drop-cons t i 0 h, ← e, not-true r n)
+      pub passed_not : not r ≡ true → false ≡ every test t
+      passed_not n = rw (p.left, drop-cons t i 0 h, ← e, not-true r n)
 
     pub passed-all : length t ≤ i → true ≡ every test t
     passed-all h = rw (p.left, drop_of_length-le t h)

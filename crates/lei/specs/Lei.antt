@@ -19,27 +19,27 @@ pub record Form (t : List ℕ) : Type 0 where
   pub last : Each Digit (drop 18 t)
 
 -- the same as tests: a digit, a capital, either
-unfoldable pub isDigit : ℕ → Bool
-isDigit c = within 48 57 c
+unfoldable pub is_digit : ℕ → Bool
+is_digit c = within 48 57 c
 
-unfoldable pub isCapital : ℕ → Bool
-isCapital c = within 65 90 c
+unfoldable pub is_capital : ℕ → Bool
+is_capital c = within 65 90 c
 
-unfoldable pub isCharacter : ℕ → Bool
-isCharacter c = isCapital c || isDigit c
+unfoldable pub is_character : ℕ → Bool
+is_character c = is_capital c || is_digit c
 
 -- the form, as a test
-unfoldable pub inForm : List ℕ → Bool
-inForm t = eqb (length t) 20 && (every isCharacter (take 18 t) && every isDigit (drop 18 t))
+unfoldable pub in_form : List ℕ → Bool
+in_form t = eqb (length t) 20 && (every is_character (take 18 t) && every is_digit (drop 18 t))
 
 -- the number of a character: `0` to `9` are 0 to 9, `A` to `Z` are 10 to 35
 unfoldable pub value_of : ℕ → ℕ
-value_of c = cond (isCapital c) (c - 55) (c - 48)
+value_of c = cond (is_capital c) (c - 55) (c - 48)
 
 -- the digits that a text stands for: a digit itself, a capital the two digits of its number
-unfoldable pub digitsOf : List ℕ → List ℕ
-digitsOf [] = []
-digitsOf (c ∷ t) = cond (isCapital c) ((value_of c / 10) ∷ (value_of c % 10) ∷ []) (value_of c ∷ []) ++ digitsOf t
+unfoldable pub digits_of : List ℕ → List ℕ
+digits_of [] = []
+digits_of (c ∷ t) = cond (is_capital c) ((value_of c / 10) ∷ (value_of c % 10) ∷ []) (value_of c ∷ []) ++ digits_of t
 
 -- the number that digits write to a base, the highest first
 unfoldable pub number : ℕ → List ℕ → ℕ
@@ -48,15 +48,15 @@ number base (d ∷ ds) = d * base ^ length ds + number base ds
 
 -- the remainder by 97 of the number that a text's digits write
 unfoldable pub remainder : List ℕ → ℕ
-remainder t = number 10 (digitsOf t) % 97
+remainder t = number 10 (digits_of t) % 97
 
 -- the same by Horner's rule: r is the remainder so far, and a character puts one digit or two behind it
-unfoldable pub remainderNext : ℕ → ℕ → ℕ
-remainderNext r c = (cond (isCapital c) 100 10 * r + value_of c) % 97
+unfoldable pub remainder_next : ℕ → ℕ → ℕ
+remainder_next r c = (cond (is_capital c) 100 10 * r + value_of c) % 97
 
-unfoldable pub remainderFrom : ℕ → List ℕ → ℕ
-remainderFrom r [] = r
-remainderFrom r (c ∷ t) = remainderFrom (remainderNext r c) t
+unfoldable pub remainder_from : ℕ → List ℕ → ℕ
+remainder_from r [] = r
+remainder_from r (c ∷ t) = remainder_from (remainder_next r c) t
 
 -- an LEI: a text in form with remainder 1
 pub record IsLei (t : List ℕ) : Type 0 where
@@ -72,26 +72,26 @@ abbrev pub Key : Type 0
 Key = ℕ × ℕ
 
 -- what stands for no LEI
-abbrev pub noKey : Key
-noKey = (0, 0)
+abbrev pub no_key : Key
+no_key = (0, 0)
 
 -- of a text of 20 bytes the numbers of its first ten characters and of its last ten, of any other text none
-unfoldable pub leiOf : List ℕ → Key
-leiOf t = cond (eqb (length t) 20) (half_of (take 10 t), half_of (drop 10 t)) noKey
+unfoldable pub lei_of : List ℕ → Key
+lei_of t = cond (eqb (length t) 20) (half_of (take 10 t), half_of (drop 10 t)) no_key
 
 -- what a text is judged to be: its form comes before its remainder
-unfoldable pub judgedOf : List ℕ → Judged
-judgedOf t = cond (inForm t) (cond (eqb (remainder t) 1) Lei WrongRemainder) WrongForm
+unfoldable pub judged_of : List ℕ → Judged
+judged_of t = cond (in_form t) (cond (eqb (remainder t) 1) Lei WrongRemainder) WrongForm
 
 -- the character of a number: 0 to 9 are `0` to `9`, 10 to 35 are `A` to `Z`
-unfoldable pub characterOf : ℕ → ℕ
-characterOf v = cond (ltb v 10) (48 + v) (55 + v)
+unfoldable pub character_of : ℕ → ℕ
+character_of v = cond (ltb v 10) (48 + v) (55 + v)
 
 -- the k lowest digits of a number to the base 36, as characters, the highest first
 unfoldable pub characters : ℕ → ℕ → List ℕ
 characters zero v = []
-characters (suc k) v = characters k (v / 36) ++ (characterOf (v % 36) ∷ [])
+characters (suc k) v = characters k (v / 36) ++ (character_of (v % 36) ∷ [])
 
 -- the text of two numbers
-unfoldable pub leiText : Key → List ℕ
-leiText x = characters 10 x.0 ++ characters 10 x.1
+unfoldable pub lei_text : Key → List ℕ
+lei_text x = characters 10 x.0 ++ characters 10 x.1

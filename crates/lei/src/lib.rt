@@ -2,8 +2,8 @@
 ghost use Rattle.std.specs.Prelude.{◌≡◌, ◌+◌, ◌≤◌, ◌<◌, length};
 ghost use Rattle.lists.specs.Choice.{every};
 ghost use Rattle.lists.specs.Tables.{overwrite};
-ghost use Rattle.lei.specs.Lei.{isDigit, isCapital, isCharacter, inForm, value_of, half_of, leiOf, remainder, remainderNext, judgedOf, characterOf, characters, leiText};
-ghost use Rattle.lei.specs.Numbering.{sameLei, firstPlace, table};
+ghost use Rattle.lei.specs.Lei.{is_digit, is_capital, is_character, in_form, value_of, half_of, lei_of, remainder, remainder_next, judged_of, character_of, characters, lei_text};
+ghost use Rattle.lei.specs.Numbering.{same_lei, first_place, table};
 
 // What a text is.
 #[derive(Drop)]
@@ -15,7 +15,7 @@ pub enum Judged {
 
 // `0` to `9`.
 fn is_digit(c: u8) -> bool
-    ensures { result ≡ isDigit c }
+    ensures { result ≡ is_digit c }
 {
     if c < 48 {
         return false;
@@ -25,7 +25,7 @@ fn is_digit(c: u8) -> bool
 
 // `A` to `Z`.
 fn is_capital(c: u8) -> bool
-    ensures { result ≡ isCapital c }
+    ensures { result ≡ is_capital c }
 {
     if c < 65 {
         return false;
@@ -35,7 +35,7 @@ fn is_capital(c: u8) -> bool
 
 // Either.
 fn is_character(c: u8) -> bool
-    ensures { result ≡ isCharacter c }
+    ensures { result ≡ is_character c }
 {
     if is_capital(c) {
         return true;
@@ -45,7 +45,7 @@ fn is_character(c: u8) -> bool
 
 // Whether every byte is a capital or a digit.
 fn all_characters(text: &[u8]) -> bool
-    ensures { result ≡ every isCharacter text.now }
+    ensures { result ≡ every is_character text.now }
 {
     let mut i = 0;
     while i < text.len() {
@@ -59,7 +59,7 @@ fn all_characters(text: &[u8]) -> bool
 
 // Whether every byte is a digit.
 fn all_digits(text: &[u8]) -> bool
-    ensures { result ≡ every isDigit text.now }
+    ensures { result ≡ every is_digit text.now }
 {
     let mut i = 0;
     while i < text.len() {
@@ -73,7 +73,7 @@ fn all_digits(text: &[u8]) -> bool
 
 // Whether the text is 18 capitals or digits and then 2 digits.
 fn in_form(text: &[u8]) -> bool
-    ensures { result ≡ inForm text.now }
+    ensures { result ≡ in_form text.now }
 {
     if text.len() != 20 {
         return false;
@@ -100,7 +100,7 @@ fn value(c: u8) -> u64
 // The remainder by 97, one character on.
 fn remainder_next(r: u64, c: u8) -> u64
     requires { r < 97 }
-    ensures { (result ≡ remainderNext r c) × (result < 97) }
+    ensures { (result ≡ remainder_next r c) × (result < 97) }
 {
     if is_capital(c) {
         return (100 * r + value(c)) % 97;
@@ -137,7 +137,7 @@ fn half(text: &[u8]) -> u64
 
 // Whether the text is an LEI: its form is tested before its remainder.
 pub fn judge(text: &[u8]) -> Judged
-    ensures { result ≡ judgedOf text.now }
+    ensures { result ≡ judged_of text.now }
 {
     if !in_form(text) {
         return Judged::WrongForm;
@@ -150,7 +150,7 @@ pub fn judge(text: &[u8]) -> Judged
 
 // The number of the first ten characters of a text of 20 bytes; 0 of any other.
 pub fn high_of(text: &[u8]) -> u64
-    ensures { result ≡ (leiOf text.now).0 }
+    ensures { result ≡ (lei_of text.now).0 }
 {
     if text.len() != 20 {
         return 0;
@@ -160,7 +160,7 @@ pub fn high_of(text: &[u8]) -> u64
 
 // The number of its last ten.
 pub fn low_of(text: &[u8]) -> u64
-    ensures { result ≡ (leiOf text.now).1 }
+    ensures { result ≡ (lei_of text.now).1 }
 {
     if text.len() != 20 {
         return 0;
@@ -171,7 +171,7 @@ pub fn low_of(text: &[u8]) -> u64
 // The character of a number.
 fn character(v: u64) -> u8
     requires { v < 36 }
-    ensures { result ≡ characterOf v }
+    ensures { result ≡ character_of v }
 {
     if v < 10 {
         return 48 + v as u8;
@@ -195,7 +195,7 @@ fn put_characters(k: usize, v: u64, at: usize, out: &mut [u8])
 // Writes the 20 bytes of an LEI into out from `at` on; all other bytes are kept.
 pub fn put_lei(high: u64, low: u64, at: usize, out: &mut [u8])
     requires { at + 20 ≤ length out.old }
-    ensures { out.new ≡ overwrite at (leiText (high, low)) out.old }
+    ensures { out.new ≡ overwrite at (lei_text (high, low)) out.old }
 {
     put_characters(10, high, at, out);
     put_characters(10, low, at + 10, out);
@@ -203,7 +203,7 @@ pub fn put_lei(high: u64, low: u64, at: usize, out: &mut [u8])
 
 // Whether two LEIs are one.
 fn same_lei(h: u64, l: u64, high: u64, low: u64) -> bool
-    ensures { result ≡ sameLei (h, l) (high, low) }
+    ensures { result ≡ same_lei (h, l) (high, low) }
 {
     if h != high {
         return false;
@@ -214,7 +214,7 @@ fn same_lei(h: u64, l: u64, high: u64, low: u64) -> bool
 // The first place of an LEI among the first `count` of a table, or `count` where it is not there.
 pub fn number_of(high: &[u64], low: &[u64], count: usize, h: u64, l: u64) -> usize
     requires { (count ≤ length high.now) × (count ≤ length low.now) }
-    ensures { (result ≡ firstPlace (h, l) (table count high.now low.now)) × (result ≤ count) }
+    ensures { (result ≡ first_place (h, l) (table count high.now low.now)) × (result ≤ count) }
 {
     let mut i = 0;
     while i < count {

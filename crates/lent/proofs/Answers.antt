@@ -6,18 +6,18 @@ use native.Mathlib.Omega.{arith}
 use lib.ListN.{length}
 use borrow.Author.Tests.{lt-ltb, le-ltb}
 use Rattle.article.specs.Answer.{Answer}
-use Rattle.words.specs.Words.{withWord}
-use Rattle.words.proofs.Encoded.{encoded-two}
+use Rattle.words.specs.Words.{with_word}
+use Rattle.words.proofs.Encoded.{encoded_two}
 use Rattle.words.proofs.ReadBack.{read_back}
 use Rattle.lent.specs.Boundary.{answered, Answers}
 
 -- 16 bytes or more: both numbers are written
-pub two-answered : (a : Answer) (old first second : List ℕ) → a.first < 2 ^ 64 → a.second < 2 ^ 64 → 16 ≤ length old → first ≡ withWord old 0 a.first
-    → second ≡ withWord first 1 a.second → Answers a old second a.number
+pub two-answered : (a : Answer) (old first second : List ℕ) → a.first < 2 ^ 64 → a.second < 2 ^ 64 → 16 ≤ length old → first ≡ with_word old 0 a.first
+    → second ≡ with_word first 1 a.second → Answers a old second a.number
 unfolding answered
 two-answered a old first second p q h e f =
     let both = a.first ∷ a.second ∷ [] in
-    let in_bytes = encoded-two a.first a.second old first second e f in
+    let in_bytes = encoded_two a.first a.second old first second e f in
     let read = read_back both old (p, (q, tt)) in
     record {
       number = refl;

@@ -4,7 +4,7 @@ use mathlib.Core.Bool.{Bool, false}
 use mathlib.Core.List.{List}
 use Prim.Native.Nat.{ℕ, ◌≤◌}
 use lib.ListN.{length}
-use Rattle.article.specs.Answer.{Answer, makeAnswer}
+use Rattle.article.specs.Answer.{Answer, make_answer}
 use Rattle.proposal.specs.Submission.{Submission}
 use Rattle.proposal.specs.Outcome.{outcome}
 use Rattle.proposal.specs.Demands.{Demands}
@@ -13,7 +13,7 @@ use Rattle.lent.specs.Boundary.{answer_in, Answers}
 
 -- demands on an answer are demands on one of the same number, with the same figures where it is accepted
 same-demands : (s : Submission) (one two : Bool) (a : Answer) (r x y : ℕ) → r ≡ a.number → (a.number ≡ 0 → (x ≡ a.first) × (y ≡ a.second))
-    → Demands s one two a → Demands s one two (makeAnswer r x y)
+    → Demands s one two a → Demands s one two (make_answer r x y)
 same-demands s one two a r x y e f d = record {
   exactly = rw e d.exactly;
   cheapest = λ z. let n : a.number ≡ 0 = sym e ∙ z in rw (f n).0 (d.cheapest n);
@@ -23,7 +23,7 @@ same-demands s one two a r x y e f d = record {
   count = d.count;
   terms = d.terms;
   remainders = d.remainders;
-  each-remainder = d.each-remainder;
+  each_remainder = d.each_remainder;
 }
 
 -- where a slice below 16 bytes is refused, what is accepted is read

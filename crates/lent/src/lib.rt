@@ -1,17 +1,17 @@
 // The check on what the host lends: columns of bytes in, lists of bytes written.
 ghost use Rattle.std.specs.Prelude.{[], ◌∷◌};
-ghost use Rattle.article.specs.Answer.{makeAnswer};
+ghost use Rattle.article.specs.Answer.{make_answer};
 ghost use Rattle.words.specs.Words.{entries};
-ghost use Rattle.columns.specs.Columns.{makeColumns};
+ghost use Rattle.columns.specs.Columns.{make_columns};
 ghost use Rattle.verdict.specs.Judges.{ScratchRoom};
-ghost use Rattle.lent.specs.Boundary.{makeLent, Answers, Checks};
+ghost use Rattle.lent.specs.Boundary.{make_lent, Answers, Checks};
 
 use holding::Head;
 use verdict::Verdict;
 
 // Puts two numbers into an answer slice of 16 bytes or more, and returns the number.
 pub fn put_answer(number: u64, first: u64, second: u64, out: &mut [u8]) -> u64
-    ensures { Answers (makeAnswer number first second) out.old out.new result }
+    ensures { Answers (make_answer number first second) out.old out.new result }
 {
     if out.len() >= 16 {
         words::put_word(out, 0, first);
@@ -44,12 +44,12 @@ pub fn judge(
     ranks: &mut [u64],
 ) -> u64
     requires { ScratchRoom (entries side.now) legs.old left.old margins.old ranks.old }
-    ensures { Checks head (makeColumns
+    ensures { Checks head (make_columns
         (side.now ∷ kind.now ∷ issuer.now ∷ maturity.now ∷ value.now ∷ currency.now ∷ rating.now ∷ [])
         price.now
         (long.now ∷ short.now ∷ amount.now ∷ []))
-        (makeLent remainder.old ranking.old answer.old)
-        (makeLent remainder.new ranking.new answer.new) result }
+        (make_lent remainder.old ranking.old answer.old)
+        (make_lent remainder.new ranking.new answer.new) result }
 {
     let n = side.len() / 8;
     let two = sizes::lists_too_short(n, remainder.len(), ranking.len(), answer.len());

@@ -48,9 +48,9 @@ one-some test true (x ∷ xs) = one-some test true xs
 one-some test false (x ∷ xs) = one-some test (test x) xs
 
 -- what follows for one entry follows for each
-pub each-so : {A : Type 0} (P Q : A → Type 0) → ((x : A) → P x → Q x) → (xs : List A) → Each P xs → Each Q xs
-each-so P Q f [] h = tt
-each-so P Q f (x ∷ xs) h = (f x h.0, each-so P Q f xs h.1)
+pub each_so : {A : Type 0} (P Q : A → Type 0) → ((x : A) → P x → Q x) → (xs : List A) → Each P xs → Each Q xs
+each_so P Q f [] h = tt
+each_so P Q f (x ∷ xs) h = (f x h.0, each_so P Q f xs h.1)
 
 pub each_append : {A : Type 0} (P : A → Type 0) (xs ys : List A) → Each P xs → Each P ys → Each P (xs ++ ys)
 each_append P [] ys g h = h
@@ -107,14 +107,14 @@ unfolding same
 same_refl [] = refl
 same_refl (x ∷ xs) = rw (eq-eqb x x refl) (same_refl xs)
 
-pub eq-same : (xs ys : List ℕ) → xs ≡ ys → same xs ys ≡ true
-eq-same xs ys e = rw e (same_refl ys)
+pub eq_same : (xs ys : List ℕ) → xs ≡ ys → same xs ys ≡ true
+eq_same xs ys e = rw e (same_refl ys)
 
 pub ne_same : (xs ys : List ℕ) → (xs ≡ ys → ⊥) → same xs ys ≡ false
 ne_same xs ys n = either_way (same xs ys) (λ e. absurd (n (same_true xs ys e))) (λ e. e)
 
 pub same_false : (xs ys : List ℕ) → same xs ys ≡ false → xs ≡ ys → ⊥
-same_false xs ys e s = false≢true (sym e ∙ eq-same xs ys s)
+same_false xs ys e s = false≢true (sym e ∙ eq_same xs ys s)
 
 -- two lists of numbers are one, or not
 pub one-or-not : {P : Type 0} (xs ys : List ℕ) → (xs ≡ ys → P) → ((xs ≡ ys → ⊥) → P) → P

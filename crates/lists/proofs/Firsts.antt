@@ -18,9 +18,9 @@ module _ {A : Type 0} (P : A → Type 0) (f : ℕ → List A) where
   each-turns i (suc k) h =
       each_append P (f i) (turns (suc i) k f) (h i (omega arith) (omega arith)) (each-turns (suc i) k (λ m a b. h m (omega arith) (omega arith)))
 
-  pub each-in-turn : (n : ℕ) → ((k : ℕ) → k < n → Each P (f k)) → Each P (in_turn n f)
+  pub each-in_turn : (n : ℕ) → ((k : ℕ) → k < n → Each P (f k)) → Each P (in_turn n f)
   unfolding in_turn
-  each-in-turn n h = each-turns 0 n (λ m a b. h m (omega arith))
+  each-in_turn n h = each-turns 0 n (λ m a b. h m (omega arith))
 
 -- no test of the list holds
 abbrev pub None : {A : Type 0} → List (Bool × A) → Type 0
@@ -43,10 +43,10 @@ module _ {A : Type 0} where
   first_next a xs z e f = rw e f
 
   -- where none holds, what follows decides
-  pub first-of-none : (xs : List (Bool × A)) (z : A) → None xs → first_of xs z ≡ z
+  pub first_of-none : (xs : List (Bool × A)) (z : A) → None xs → first_of xs z ≡ z
   unfolding first_of
-  first-of-none [] z h = refl
-  first-of-none (x ∷ xs) z h = rw h.0 (first-of-none xs z h.1)
+  first_of-none [] z h = refl
+  first_of-none (x ∷ xs) z h = rw h.0 (first_of-none xs z h.1)
 
   pub none-append : (xs ys : List (Bool × A)) → None xs → None ys → None (xs ++ ys)
   none-append xs ys g h = each_append (λ (f : Bool × A). f.0 ≡ false) xs ys g h
@@ -57,8 +57,8 @@ module _ {A : Type 0} where
       let (a, b) = append-none xs ys h.1 in
       ((h.0, a), b)
 
-  pub skip-none : (xs ys : List (Bool × A)) (z : A) → None xs → first_of (xs ++ ys) z ≡ first_of ys z
-  skip-none xs ys z h = first-append xs ys z ∙ first-of-none xs (first_of ys z) h
+  pub skip_none : (xs ys : List (Bool × A)) (z : A) → None xs → first_of (xs ++ ys) z ≡ first_of ys z
+  skip_none xs ys z h = first-append xs ys z ∙ first_of-none xs (first_of ys z) h
 
   -- lists in turn
   module _ (f : ℕ → List (Bool × A)) where
@@ -72,12 +72,12 @@ module _ {A : Type 0} where
         (λ l. turns-none (suc i) k later m l (omega arith))
         (eq-or-lt_of_le a)
 
-    pub none-in-turn : (n : ℕ) → ((k : ℕ) → k < n → None (f k)) → None (in_turn n f)
-    none-in-turn n h = each-in-turn (λ (x : Bool × A). x.0 ≡ false) f n h
+    pub none-in_turn : (n : ℕ) → ((k : ℕ) → k < n → None (f k)) → None (in_turn n f)
+    none-in_turn n h = each-in_turn (λ (x : Bool × A). x.0 ≡ false) f n h
 
-    pub in-turn-none : (n : ℕ) → None (in_turn n f) → (k : ℕ) → k < n → None (f k)
+    pub in_turn-none : (n : ℕ) → None (in_turn n f) → (k : ℕ) → k < n → None (f k)
     unfolding in_turn
-    in-turn-none n h k q = turns-none 0 n h k (omega arith) (omega arith)
+    in_turn-none n h k q = turns-none 0 n h k (omega arith) (omega arith)
 
     -- none before i, and at i the answer a
     pub first-turns : (j k i : ℕ) (a z : A) → j ≤ i → i < j + k → ((m : ℕ) → j ≤ m → m < i → None (f m)) → ((w : A) → first_of (f i) w ≡ a) → first_of (turns j k f) z ≡ a
@@ -86,12 +86,12 @@ module _ {A : Type 0} where
     first-turns j (suc k) i a z p q h e =
         ⊎_elim
         (λ (s : j ≡ i). first-append (f j) (turns (suc j) k f) z ∙ rw s (e (first_of (turns (suc i) k f) z)))
-        (λ (l : j < i). skip-none (f j) (turns (suc j) k f) z (h j (omega arith) l) ∙ first-turns (suc j) k i a z l (omega arith) (λ m x y. h m (omega arith) y) e)
+        (λ (l : j < i). skip_none (f j) (turns (suc j) k f) z (h j (omega arith) l) ∙ first-turns (suc j) k i a z l (omega arith) (λ m x y. h m (omega arith) y) e)
         (eq-or-lt_of_le p)
 
-    pub first-in-turn : (n i : ℕ) (a z : A) → i < n → ((k : ℕ) → k < i → None (f k)) → ((w : A) → first_of (f i) w ≡ a) → first_of (in_turn n f) z ≡ a
+    pub first-in_turn : (n i : ℕ) (a z : A) → i < n → ((k : ℕ) → k < i → None (f k)) → ((w : A) → first_of (f i) w ≡ a) → first_of (in_turn n f) z ≡ a
     unfolding in_turn
-    first-in-turn n i a z q h e = first-turns 0 n i a z (omega arith) (omega arith) (λ m x y. h m y) e
+    first-in_turn n i a z q h e = first-turns 0 n i a z (omega arith) (omega arith) (λ m x y. h m y) e
 
 -- answers that have a number, from 1 for a refusal
 module _ {A : Type 0} (number : A → ℕ) where
@@ -101,8 +101,8 @@ module _ {A : Type 0} (number : A → ℕ) where
   pub numbered-append : (xs ys : List (Bool × A)) → Numbered xs → Numbered ys → Numbered (xs ++ ys)
   numbered-append xs ys g h = each_append (λ (f : Bool × A). 1 ≤ number f.1) xs ys g h
 
-  pub numbered-in-turn : (f : ℕ → List (Bool × A)) → ((k : ℕ) → Numbered (f k)) → (n : ℕ) → Numbered (in_turn n f)
-  numbered-in-turn f h n = each-in-turn (λ (x : Bool × A). 1 ≤ number x.1) f n (λ k _. h k)
+  pub numbered-in_turn : (f : ℕ → List (Bool × A)) → ((k : ℕ) → Numbered (f k)) → (n : ℕ) → Numbered (in_turn n f)
+  numbered-in_turn f h n = each-in_turn (λ (x : Bool × A). 1 ≤ number x.1) f n (λ k _. h k)
 
   -- the number 0 is given where none holds
   pub none_first : (fs : List (Bool × A)) (z : A) → Numbered fs → number (first_of fs z) ≡ 0 → None fs × (number z ≡ 0)
@@ -125,7 +125,7 @@ module _ {A : Type 0} (number : A → ℕ) where
   first_found xs ys z w e h = first-append xs ys w ∙ first-refused xs z (first_of ys w) e h
 
   pub first-passed : (xs ys : List (Bool × A)) (z w : A) → Numbered xs → number (first_of xs z) ≡ 0 → first_of (xs ++ ys) w ≡ first_of ys w
-  first-passed xs ys z w n e = skip-none xs ys w (none_first xs z n e).0
+  first-passed xs ys z w n e = skip_none xs ys w (none_first xs z n e).0
 
 -- refusals by their numbers alone
 abbrev pub Listed : List (Bool × ℕ) → Type 0

@@ -6,7 +6,7 @@ use native.Mathlib.Numerals.{add-one}
 use native.Mathlib.Omega.{arith}
 use lib.ListN.{length, take, drop, set, length-append, length-drop, take-append-drop}
 use lib.Seq.{take_at, drop_at, drop-drop, length-take-le, set_split}
-use Rattle.lists.specs.Tables.{listTo, front, overwrite}
+use Rattle.lists.specs.Tables.{list_to, front, overwrite}
 use Rattle.lists.proofs.Tables.{length_to}
 
 module _ {A : Type 0} where
@@ -49,10 +49,10 @@ module _ {A : Type 0} where
       rw (overwrite-parts at xs old) (length-append (take at old ++ xs) (drop (at + length xs) old) ∙ omega (arith, before at xs old (omega arith), length-drop (at + length xs) old))
 
   -- the first n entries of f stand at the front of a list, and one more is written
-  pub front-more : (n : ℕ) (f : ℕ → A) (x : A) (so_far old : List A) → n < length old → x ≡ f n → so_far ≡ front (listTo n f) old
-      → set so_far n x ≡ front (listTo (n + 1) f) old
-  unfolding overwrite listTo
+  pub front-more : (n : ℕ) (f : ℕ → A) (x : A) (so_far old : List A) → n < length old → x ≡ f n → so_far ≡ front (list_to n f) old
+      → set so_far n x ≡ front (list_to (n + 1) f) old
+  unfolding overwrite list_to
   front-more n f x so_far old h e g =
-      let all : n < length (front (listTo n f) old) = omega (arith, length-overwrite 0 (listTo n f) old (omega (arith, length_to n f))) in
-      let at : 0 + length (listTo n f) ≡ n = omega (arith, length_to n f) in
-      rw (g, e, add-one) (overwrite-one n (f n) (front (listTo n f) old) all ∙ rw at at (overwrite-overwrite 0 (listTo n f) (f n ∷ []) old (omega arith)))
+      let all : n < length (front (list_to n f) old) = omega (arith, length-overwrite 0 (list_to n f) old (omega (arith, length_to n f))) in
+      let at : 0 + length (list_to n f) ≡ n = omega (arith, length_to n f) in
+      rw (g, e, add-one) (overwrite-one n (f n) (front (list_to n f) old) all ∙ rw at at (overwrite-overwrite 0 (list_to n f) (f n ∷ []) old (omega arith)))

@@ -7,7 +7,7 @@ use native.Mathlib.Omega.{arith}
 use borrow.Author.Count.{below_none, below_more}
 use Rattle.lists.specs.Choice.{first_of}
 use Rattle.lists.specs.Tables.{in_turn}
-use Rattle.lists.proofs.Firsts.{None, first-in-turn, none-in-turn}
+use Rattle.lists.proofs.Firsts.{None, first-in_turn, none-in_turn}
 
 -- of n lists the first i are passed: no refusal of theirs holds
 pub record Passed {A : Type 0} (n : ℕ) (f : ℕ → List (Bool × A)) (i : ℕ) : Type 0 where
@@ -24,7 +24,7 @@ module _ {A : Type 0} {n : ℕ} {f : ℕ → List (Bool × A)} where
 
     -- the first that holds is at i
     pub passed_first : {a : A} (z : A) → i < n → ((w : A) → first_of (f i) w ≡ a) → first_of (in_turn n f) z ≡ a
-    passed_first {a} z h e = first-in-turn f n i a z h p.none e
+    passed_first {a} z h e = first-in_turn f n i a z h p.none e
 
     pub passed-all : n ≤ i → None (in_turn n f)
-    passed-all h = none-in-turn f n (λ k l. p.none k (omega arith))
+    passed-all h = none-in_turn f n (λ k l. p.none k (omega arith))

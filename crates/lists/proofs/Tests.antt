@@ -9,44 +9,44 @@ use borrow.Author.Tests.{le-leb, lt-leb, lt-ltb, le-ltb, eq-eqb, ne_eqb, leb-tru
 use Rattle.lists.specs.Choice.{within}
 
 -- the end of a range in a `match`, as `..=10`, is tested as below 11
-pub below-leb : (a b : ℕ) → a < suc b → leb a b ≡ true
-below-leb a b h = le-leb a b (omega arith)
+pub below_leb : (a b : ℕ) → a < suc b → leb a b ≡ true
+below_leb a b h = le-leb a b (omega arith)
 
-pub ruleset tests = (leb-zero, le-leb, below-leb, lt-leb, lt-ltb, le-ltb, eq-eqb, ne_eqb)
+pub ruleset tests = (leb-zero, le-leb, below_leb, lt-leb, lt-ltb, le-ltb, eq-eqb, ne_eqb)
 
 -- a number within its ends
-pub within-true : (low high x : ℕ) → within low high x ≡ true → (low ≤ x) × (x ≤ high)
+pub within_true : (low high x : ℕ) → within low high x ≡ true → (low ≤ x) × (x ≤ high)
 unfolding within
-within-true low high x e =
+within_true low high x e =
     let (a, b) = (and-eq-true_iff (leb low x) (leb x high)).0 e in
     (leb-true low x a, leb-true x high b)
 
-pub true-within : (low high x : ℕ) → low ≤ x → x ≤ high → within low high x ≡ true
+pub true_within : (low high x : ℕ) → low ≤ x → x ≤ high → within low high x ≡ true
 unfolding within
-true-within low high x a b = rw (le-leb low x a, le-leb x high b)
+true_within low high x a b = rw (le-leb low x a, le-leb x high b)
 
 -- the arms of a `match` on 0, on 1 to high, and on the rest: `search arms`
-pub zero-out : (high n : ℕ) → n ≡ 0 → within 1 high n ≡ false
+pub zero_out : (high n : ℕ) → n ≡ 0 → within 1 high n ≡ false
 unfolding within
-zero-out high n e = rw (lt-leb 1 n (omega arith))
+zero_out high n e = rw (lt-leb 1 n (omega arith))
 
-pub range-in : (high n : ℕ) → (n ≡ 0 → ⊥) → n < suc high → within 1 high n ≡ true
-range-in high n z h =
+pub range_in : (high n : ℕ) → (n ≡ 0 → ⊥) → n < suc high → within 1 high n ≡ true
+range_in high n z h =
     let k : n ≢ 0 = z in
-    true-within 1 high n (omega arith) (omega arith)
+    true_within 1 high n (omega arith) (omega arith)
 
 -- and of one on 1 to high alone
 pub none_out : (high n : ℕ) → n < 1 → within 1 high n ≡ false
-none_out high n h = zero-out high n (omega arith)
+none_out high n h = zero_out high n (omega arith)
 
-pub range-from : (high n : ℕ) → 1 ≤ n → n < suc high → within 1 high n ≡ true
-range-from high n l h = true-within 1 high n l (omega arith)
+pub range_from : (high n : ℕ) → 1 ≤ n → n < suc high → within 1 high n ≡ true
+range_from high n l h = true_within 1 high n l (omega arith)
 
 pub above-out : (high n : ℕ) → suc high ≤ n → within 1 high n ≡ false
 unfolding within
 above-out high n h = rw (lt-leb n high h) (and-false (leb 1 n))
 
-pub ruleset arms = (eq-eqb, ne_eqb, zero-out, none_out, range-in, range-from, above-out)
+pub ruleset arms = (eq-eqb, ne_eqb, zero_out, none_out, range_in, range_from, above-out)
 
 -- what holds of each answer, where the test has the value that picks it, holds of the one that is picked
 pub by-test : {A : Type 0} (P : A → Type 0) (t : Bool) {x y : A} → (t ≡ true → P x) → (t ≡ false → P y) → P (cond t x y)
@@ -67,8 +67,8 @@ one_of true t e = inl refl
 one_of false t e = inr e
 
 -- two numbers that differ are not both a third
-pub not-both : (a b n : ℕ) → (a ≡ b → ⊥) → (eqb a n && eqb b n) ≡ false
-not-both a b n h =
+pub not_both : (a b n : ℕ) → (a ≡ b → ⊥) → (eqb a n && eqb b n) ≡ false
+not_both a b n h =
     either_way (eqb a n)
     (λ e. rw (e, ne_eqb b n (λ f. h (eqb-true a n e ∙ sym f))))
     (λ e. rw e)

@@ -8,9 +8,9 @@ Each P [] = Unit {0}
 Each P (x ∷ xs) = P x × Each P xs
 
 -- f 0, f 1, .. , f (n - 1)
-unfoldable pub listTo : {A : Type 0} → ℕ → (ℕ → A) → List A
-listTo zero f = []
-listTo (suc n) f = listTo n f ++ (f n ∷ [])
+unfoldable pub list_to : {A : Type 0} → ℕ → (ℕ → A) → List A
+list_to zero f = []
+list_to (suc n) f = list_to n f ++ (f n ∷ [])
 
 -- the entries of f i, then those of f (i + 1), and so on, k lists in all
 unfoldable pub turns : {A : Type 0} → ℕ → ℕ → (ℕ → List A) → List A

@@ -1,7 +1,7 @@
 // Reads a file on standard input, and prints its margin, or why it is refused.
 ghost use Rattle.std.specs.Prelude.{◌≡◌, ◌+◌, length};
-ghost use Rattle.reader.specs.File.{fileLimit};
-ghost use Rattle.report.specs.Report.{reportRoom};
+ghost use Rattle.reader.specs.File.{file_limit};
+ghost use Rattle.report.specs.Report.{report_room};
 ghost use Rattle.margin.specs.Input.{ReadInto};
 
 use report::Printed;
@@ -15,14 +15,14 @@ enum Input {
 
 // Room for a file, and for one byte more: a file that fills it is too long.
 fn file_buffer() -> [u8; reader::LIMIT + 1]
-    ensures { fileLimit + 1 ≡ length result }
+    ensures { file_limit + 1 ≡ length result }
 {
     [0; reader::LIMIT + 1]
 }
 
 // Room for what is printed.
 fn print_buffer() -> [u8; report::ROOM]
-    ensures { reportRoom ≡ length result }
+    ensures { report_room ≡ length result }
 {
     [0; report::ROOM]
 }

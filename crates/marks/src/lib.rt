@@ -1,14 +1,14 @@
 // An estimate of what two legs save as a pair, never too low, by a small number of each.
 ghost use Rattle.std.specs.Prelude.{◌≡◌, ◌-◌, ◌*◌, ◌≤◌, ◌<◌, min};
 ghost use Rattle.article.specs.Pair.{RateInRange};
-ghost use Rattle.marks.specs.Marks.{isDomestic, isOffered, isGovernment, hasPartner, mark_of, acrossMark, scanRate, scanLimit, OtherClass, Asks};
+ghost use Rattle.marks.specs.Marks.{is_domestic, is_offered, is_government, has_partner, mark_of, across_mark, scan_rate, scan_limit, OtherClass, Asks};
 
 use article::pair;
 use article::pair::Leg;
 
 // Whether a leg is in CAD and of Canada or a province.
 fn is_domestic(leg: Leg) -> bool
-    ensures { result ≡ isDomestic leg }
+    ensures { result ≡ is_domestic leg }
 {
     if leg.currency != 0 {
         return false;
@@ -18,7 +18,7 @@ fn is_domestic(leg: Leg) -> bool
 
 // Whether paragraph 3 can have a leg: a corporation's strip, or its bond if that is rated single A or higher.
 fn is_offered(leg: Leg) -> bool
-    ensures { result ≡ isOffered leg }
+    ensures { result ≡ is_offered leg }
 {
     if !pair::is_corporate(leg) {
         return false;
@@ -31,7 +31,7 @@ fn is_offered(leg: Leg) -> bool
 
 // Whether paragraph 4 can have an issuer: Canada, US or GB.
 fn is_government(leg: Leg) -> bool
-    ensures { result ≡ isGovernment leg }
+    ensures { result ≡ is_government leg }
 {
     let issuer = leg.issuer;
     match issuer {
@@ -44,7 +44,7 @@ fn is_government(leg: Leg) -> bool
 
 // Whether a leg that is not domestic may have a pair: a participant's alone.
 fn has_partner(leg: Leg) -> bool
-    ensures { result ≡ hasPartner leg }
+    ensures { result ≡ has_partner leg }
 {
     if leg.letter != 0 {
         return false;
@@ -80,7 +80,7 @@ pub fn mark_of(bond: bool, leg: Leg) -> u16
 
 // The mark of a short in the column of all shorts, for the long strips: a provincial strip's is that of any province.
 pub fn across_mark(kind: u64, mark: u16) -> u16
-    ensures { result ≡ acrossMark kind mark }
+    ensures { result ≡ across_mark kind mark }
 {
     if kind != 0 && mark % 4 == 1 {
         mark % 32
@@ -108,7 +108,7 @@ fn other_class(mark: u16) -> u16
 }
 
 fn twice_lesser(a: u16, b: u16) -> u16
-    requires { (a ≤ scanLimit) × (b ≤ scanLimit) }
+    requires { (a ≤ scan_limit) × (b ≤ scan_limit) }
     ensures { result ≡ 2 * min a b }
 {
     if b < a { 2 * b } else { 2 * a }
@@ -117,7 +117,7 @@ fn twice_lesser(a: u16, b: u16) -> u16
 // The rate that a leg is scanned by: its own, or of a corporation's strip a third of it.
 pub fn scan_rate(leg: Leg) -> u16
     requires { RateInRange leg }
-    ensures { (result ≡ scanRate leg) × (result ≤ scanLimit) }
+    ensures { (result ≡ scan_rate leg) × (result ≤ scan_limit) }
 {
     if leg.kind == 0 {
         return leg.rate as u16;
@@ -130,7 +130,7 @@ pub fn scan_rate(leg: Leg) -> u16
 
 // At least what a long and a short save as a pair, by their marks and the rates a and b that they are scanned by. Nothing else of the scan knows the pair rules.
 pub fn asked(long: u16, a: u16, short: u16, b: u16) -> u16
-    requires { (a ≤ scanLimit) × (b ≤ scanLimit) }
+    requires { (a ≤ scan_limit) × (b ≤ scan_limit) }
     ensures { Asks long a short b result }
 {
     let cross = other_class(long);

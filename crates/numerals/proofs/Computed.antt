@@ -2,7 +2,7 @@
 use mathlib.Core.Path.{◌≡◌, refl}
 use mathlib.Core.List.{[], ◌∷◌, map}
 use Rattle.lists.specs.Choice.{same}
-use Rattle.numerals.specs.Numerals.{lead, digits, valueFrom, numeralOf}
+use Rattle.numerals.specs.Numerals.{lead, digits, value_from, numeral_of}
 use Rattle.numerals.specs.declared.Numeral.TheVariants.{Number, NotANumeral}
 
 pub written : digits 3285000000 ≡ 51 ∷ 50 ∷ 56 ∷ 53 ∷ 48 ∷ 48 ∷ 48 ∷ 48 ∷ 48 ∷ 48 ∷ []
@@ -10,12 +10,12 @@ unfolding digits lead
 written = refl
 
 -- `0`, and 999999999999
-pub read : map (numeralOf 12) ((48 ∷ []) ∷ (57 ∷ 57 ∷ 57 ∷ 57 ∷ 57 ∷ 57 ∷ 57 ∷ 57 ∷ 57 ∷ 57 ∷ 57 ∷ 57 ∷ []) ∷ []) ≡ Number 0 ∷ Number 999999999999 ∷ []
-unfolding same digits lead valueFrom numeralOf
+pub read : map (numeral_of 12) ((48 ∷ []) ∷ (57 ∷ 57 ∷ 57 ∷ 57 ∷ 57 ∷ 57 ∷ 57 ∷ 57 ∷ 57 ∷ 57 ∷ 57 ∷ 57 ∷ []) ∷ []) ≡ Number 0 ∷ Number 999999999999 ∷ []
+unfolding same digits lead value_from numeral_of
 read = refl
 
 -- the empty text, `00`, `007`, `+1`, and 13 digits
-pub refused : map (numeralOf 12) ([] ∷ (48 ∷ 48 ∷ []) ∷ (48 ∷ 48 ∷ 55 ∷ []) ∷ (43 ∷ 49 ∷ []) ∷ (49 ∷ 48 ∷ 48 ∷ 48 ∷ 48 ∷ 48 ∷ 48 ∷ 48 ∷ 48 ∷ 48 ∷ 48 ∷ 48 ∷ 48 ∷ []) ∷ [])
+pub refused : map (numeral_of 12) ([] ∷ (48 ∷ 48 ∷ []) ∷ (48 ∷ 48 ∷ 55 ∷ []) ∷ (43 ∷ 49 ∷ []) ∷ (49 ∷ 48 ∷ 48 ∷ 48 ∷ 48 ∷ 48 ∷ 48 ∷ 48 ∷ 48 ∷ 48 ∷ 48 ∷ 48 ∷ 48 ∷ []) ∷ [])
     ≡ NotANumeral ∷ NotANumeral ∷ NotANumeral ∷ NotANumeral ∷ NotANumeral ∷ []
-unfolding same digits lead valueFrom numeralOf
+unfolding same digits lead value_from numeral_of
 refused = refl

@@ -9,7 +9,7 @@ use lib.ListN.{length, get_or, length-append, get_or-append}
 use Rattle.lists.specs.Tables.{Each}
 use Rattle.lists.proofs.Entries.{each_append}
 use Rattle.lists.proofs.Tests.{by_end}
-use Rattle.numerals.specs.Numerals.{lead, digits, valueFrom}
+use Rattle.numerals.specs.Numerals.{lead, digits, value_from}
 
 -- more room changes nothing
 lead-room : (j k x : ℕ) → x ≤ j → x ≤ k → lead j x ≡ lead k x
@@ -80,15 +80,15 @@ digits-length =
     shorter a d (suc (suc n)) p b e = omega (arith, e (suc n) (omega arith) (omega (arith, pow-suc 10 (suc n))))
 
 -- n digits stay below 10 ^ n
-pub digits-below : (x : ℕ) → x < 10 ^ length (digits x)
-digits-below =
+pub digits_below : (x : ℕ) → x < 10 ^ length (digits x)
+digits_below =
     by_digits (λ x. x < 10 ^ length (digits x))
     (λ x h. rw (digits-one x h) h)
     (λ a d p h e. rw (digits_more a d p h, length-append, add-one, pow-suc) (omega (arith, e)))
 
 -- a smaller number has no more digits
-pub digits-fewer : (x y : ℕ) → y ≤ x → length (digits y) ≤ length (digits x)
-digits-fewer x y h = digits-length y (length (digits x)) (digits-some x) (omega (arith, digits-below x))
+pub digits_fewer : (x y : ℕ) → y ≤ x → length (digits y) ≤ length (digits x)
+digits_fewer x y h = digits-length y (length (digits x)) (digits-some x) (omega (arith, digits_below x))
 
 -- 20 digits are enough for 64 bits
 pub digits-word : (x : ℕ) → x < 2 ^ 64 → length (digits x) ≤ 20
@@ -115,18 +115,18 @@ digits-first =
     (λ a d p h e q. rw (digits_more a d p h, get_or-append (digits a) ((48 + d) ∷ []) 0 0 (digits-some a)) (e p))
 
 -- the digits of a number are its value
-value-snoc : (x d : ℕ) (text : List ℕ) → valueFrom x (text ++ ((48 + d) ∷ [])) ≡ 10 * valueFrom x text + d
-unfolding valueFrom
-value-snoc x d [] = omega arith
-value-snoc x d (c ∷ text) = value-snoc (10 * x + (c - 48)) d text
+value_snoc : (x d : ℕ) (text : List ℕ) → value_from x (text ++ ((48 + d) ∷ [])) ≡ 10 * value_from x text + d
+unfolding value_from
+value_snoc x d [] = omega arith
+value_snoc x d (c ∷ text) = value_snoc (10 * x + (c - 48)) d text
 
-pub value-digits : (x : ℕ) → valueFrom 0 (digits x) ≡ x
-unfolding valueFrom
+pub value-digits : (x : ℕ) → value_from 0 (digits x) ≡ x
+unfolding value_from
 value-digits =
-    by_digits (λ x. valueFrom 0 (digits x) ≡ x)
+    by_digits (λ x. value_from 0 (digits x) ≡ x)
     (λ x h. rw (digits-one x h) (omega arith))
-    (λ a d p h e. rw (digits_more a d p h, value-snoc 0 d (digits a), e))
+    (λ a d p h e. rw (digits_more a d p h, value_snoc 0 d (digits a), e))
 
 -- no two numbers have one numeral
-pub digits-inverse : (x y : ℕ) → digits x ≡ digits y → x ≡ y
-digits-inverse x y e = sym (value-digits x) ∙ ap (valueFrom 0) e ∙ value-digits y
+pub digits_inverse : (x y : ℕ) → digits x ≡ digits y → x ≡ y
+digits_inverse x y e = sym (value-digits x) ∙ ap (value_from 0) e ∙ value-digits y

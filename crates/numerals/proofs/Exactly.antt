@@ -12,51 +12,51 @@ use borrow.Author.Tests.{le-leb, leb-true}
 use Rattle.lists.specs.Choice.{same}
 use Rattle.lists.proofs.Entries.{same_true, same_refl}
 use Rattle.lists.proofs.Tests.{by-test}
-use Rattle.numerals.specs.Numerals.{digits, valueFrom, numeralOf}
+use Rattle.numerals.specs.Numerals.{digits, value_from, numeral_of}
 use Rattle.numerals.specs.declared.Numeral.TheVariants.{Number, NotANumeral}
-use Rattle.numerals.proofs.Digits.{digits-below, value-digits}
+use Rattle.numerals.proofs.Digits.{digits_below, value-digits}
 
 -- the numeral of a number, within its length, is read as the number
-pub numeral-of : (most v : ℕ) (text : List ℕ) → text ≡ digits v → length text ≤ most → Number v ≡ numeralOf most text
-unfolding numeralOf
-numeral-of most v text e l =
+pub numeral_of_lem : (most v : ℕ) (text : List ℕ) → text ≡ digits v → length text ≤ most → Number v ≡ numeral_of most text
+unfolding numeral_of
+numeral_of_lem most v text e l =
     let fits : length (digits v) ≤ most = rw (← e) l in
     rw (e, value-digits v, le-leb (length (digits v)) most fits, same_refl (digits v))
 
 module _ (most : ℕ) (text : List ℕ) where
   -- the text is the numeral of its value
   abbrev test : Bool
-  test = leb (length text) most && same text (digits (valueFrom 0 text))
+  test = leb (length text) most && same text (digits (value_from 0 text))
 
-  passed : test ≡ true → (text ≡ digits (valueFrom 0 text)) × (length text ≤ most)
+  passed : test ≡ true → (text ≡ digits (value_from 0 text)) × (length text ≤ most)
   passed e =
-      let (l, s) = (and-eq-true_iff (leb (length text) most) (same text (digits (valueFrom 0 text)))).0 e in
-      (same_true text (digits (valueFrom 0 text)) s, leb-true (length text) most l)
+      let (l, s) = (and-eq-true_iff (leb (length text) most) (same text (digits (value_from 0 text)))).0 e in
+      (same_true text (digits (value_from 0 text)) s, leb-true (length text) most l)
 
   -- a text that is no numeral of that length is not read
-  pub not-numeral : ((v : ℕ) → text ≡ digits v → length text ≤ most → ⊥) → NotANumeral ≡ numeralOf most text
-  unfolding numeralOf
-  not-numeral h = by-test (λ n. NotANumeral ≡ n) test (λ e. absurd (h (valueFrom 0 text) (passed e).0 (passed e).1)) (λ e. refl)
+  pub not_numeral : ((v : ℕ) → text ≡ digits v → length text ≤ most → ⊥) → NotANumeral ≡ numeral_of most text
+  unfolding numeral_of
+  not_numeral h = by-test (λ n. NotANumeral ≡ n) test (λ e. absurd (h (value_from 0 text) (passed e).0 (passed e).1)) (λ e. refl)
 
   -- what is read as a number is its numeral
-  of-numeral : (v : ℕ) → numeralOf most text ≡ Number v → (text ≡ digits v) × (length text ≤ most)
-  unfolding numeralOf
-  of-numeral v =
+  of_numeral : (v : ℕ) → numeral_of most text ≡ Number v → (text ≡ digits v) × (length text ≤ most)
+  unfolding numeral_of
+  of_numeral v =
       by-test (λ n. n ≡ Number v → (text ≡ digits v) × (length text ≤ most)) test
       (λ e r.
-      let value : valueFrom 0 text ≡ v = cc in
+      let value : value_from 0 text ≡ v = cc in
       ((passed e).0 ∙ ap digits value, (passed e).1))
       (λ e r.
       let none : ◌≡◌ {A = ℕ} 0 1 = cc in
       absurd (omega arith))
 
-  pub numeral-exactly : (v : ℕ) → (numeralOf most text ≡ Number v) ↔ ((text ≡ digits v) × (length text ≤ most))
-  numeral-exactly v = (of-numeral v, λ h. sym (numeral-of most v text h.0 h.1))
+  pub numeral_exactly : (v : ℕ) → (numeral_of most text ≡ Number v) ↔ ((text ≡ digits v) × (length text ≤ most))
+  numeral_exactly v = (of_numeral v, λ h. sym (numeral_of_lem most v text h.0 h.1))
 
   -- a number that was read is below 10 ^ most
-  pub numeral-below : (v : ℕ) → numeralOf most text ≡ Number v → v < 10 ^ most
-  numeral-below v r =
-      let (e, l) = of-numeral v r in
+  pub numeral_below : (v : ℕ) → numeral_of most text ≡ Number v → v < 10 ^ most
+  numeral_below v r =
+      let (e, l) = of_numeral v r in
       let fits : length (digits v) ≤ most = rw (← e) l in
       let p : 10 ^ length (digits v) ≤ 10 ^ most = pow-le-pow_right (omega arith) fits in
-      omega (arith, digits-below v)
+      omega (arith, digits_below v)

@@ -9,21 +9,21 @@ use native.Mathlib.Omega.{arith}
 use lib.ListN.{length, get_or, take}
 use lib.Seq.{take-suc, take_all}
 use Rattle.lists.proofs.Entries.{each_at}
-use Rattle.numerals.specs.Numerals.{digits, numeralOf}
+use Rattle.numerals.specs.Numerals.{digits, numeral_of}
 use Rattle.numerals.specs.declared.Numeral.TheVariants.{Number, NotANumeral}
 use Rattle.numerals.proofs.Digits.{IsDigit, digits-one, digits_more, digits-some, digits-each, digits-first}
-use Rattle.numerals.proofs.Exactly.{numeral-of, not-numeral}
+use Rattle.numerals.proofs.Exactly.{numeral_of_lem, not_numeral}
 
 module _ (most : ℕ) (text : List ℕ) where
-  pub text-none : length text ≡ 0 → NotANumeral ≡ numeralOf most text
-  text-none h = not-numeral most text (λ v e l. omega (arith, digits-some v, ap (length {A = ℕ}) e))
+  pub text-none : length text ≡ 0 → NotANumeral ≡ numeral_of most text
+  text-none h = not_numeral most text (λ v e l. omega (arith, digits-some v, ap (length {A = ℕ}) e))
 
-  pub text-long : most < length text → NotANumeral ≡ numeralOf most text
-  text-long h = not-numeral most text (λ v e l. omega arith)
+  pub text-long : most < length text → NotANumeral ≡ numeral_of most text
+  text-long h = not_numeral most text (λ v e l. omega arith)
 
   -- `0`
-  pub text-zero : get_or text 0 0 ≡ 48 → length text ≡ 1 → length text ≤ most → Number 0 ≡ numeralOf most text
-  text-zero h n l = numeral-of most 0 text (alone text h n ∙ sym (digits-one 0 (omega arith))) l
+  pub text_zero : get_or text 0 0 ≡ 48 → length text ≡ 1 → length text ≤ most → Number 0 ≡ numeral_of most text
+  text_zero h n l = numeral_of_lem most 0 text (alone text h n ∙ sym (digits-one 0 (omega arith))) l
     where
       alone : (text : List ℕ) → get_or text 0 0 ≡ 48 → length text ≡ 1 → text ≡ 48 ∷ []
       alone [] h n = absurd (omega arith)
@@ -31,8 +31,8 @@ module _ (most : ℕ) (text : List ℕ) where
       alone (c ∷ d ∷ text) h n = absurd (omega arith)
 
   -- `0` and more
-  pub text-lead : get_or text 0 0 ≡ 48 → length text ≢ 1 → NotANumeral ≡ numeralOf most text
-  text-lead h n = not-numeral most text (λ v e l. none v e)
+  pub text-lead : get_or text 0 0 ≡ 48 → length text ≢ 1 → NotANumeral ≡ numeral_of most text
+  text-lead h n = not_numeral most text (λ v e l. none v e)
     where
       none : (v : ℕ) → text ≡ digits v → ⊥
       none zero e = n (ap (length {A = ℕ}) (e ∙ digits-one 0 (omega arith)))
@@ -40,13 +40,13 @@ module _ (most : ℕ) (text : List ℕ) where
 
   -- a byte that is no digit
   module _ (i : ℕ) (h : i < length text) where
-    other : (IsDigit (get_or text i 0) → ⊥) → NotANumeral ≡ numeralOf most text
-    other n = not-numeral most text (λ v e l. n (rw e (each_at IsDigit 0 (digits v) (digits-each v) i (rw (← e) h))))
+    other : (IsDigit (get_or text i 0) → ⊥) → NotANumeral ≡ numeral_of most text
+    other n = not_numeral most text (λ v e l. n (rw e (each_at IsDigit 0 (digits v) (digits-each v) i (rw (← e) h))))
 
-    pub text-low : get_or text i 0 < 48 → NotANumeral ≡ numeralOf most text
+    pub text-low : get_or text i 0 < 48 → NotANumeral ≡ numeral_of most text
     text-low l = other (λ d. omega (arith, d.0))
 
-    pub text-high : 57 < get_or text i 0 → NotANumeral ≡ numeralOf most text
+    pub text-high : 57 < get_or text i 0 → NotANumeral ≡ numeral_of most text
     text-high l = other (λ d. omega (arith, d.1))
 
 -- before place i stands nothing, or the numeral of x, which is above 0
@@ -87,6 +87,6 @@ module _ (text : List ℕ) where
         let p : 10 ^ i ≤ 10 ^ 18 = pow-le-pow_right (omega arith) l in
         omega (arith, r.small)
 
-    pub read_all : (most : ℕ) → length text ≤ i → length text ≢ 0 → length text ≤ most → Number x ≡ numeralOf most text
+    pub read_all : (most : ℕ) → length text ≤ i → length text ≢ 0 → length text ≤ most → Number x ≡ numeral_of most text
     read_all most h n l =
-        numeral-of most x text (sym (take_all i text h) ∙ (r.some (omega arith)).1) l
+        numeral_of_lem most x text (sym (take_all i text h) ∙ (r.some (omega arith)).1) l

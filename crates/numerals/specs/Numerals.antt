@@ -16,13 +16,13 @@ unfoldable pub digits : ℕ → List ℕ
 digits x = lead x (x / 10) ++ ((48 + x % 10) ∷ [])
 
 -- x with the digits of a text after it
-unfoldable pub valueFrom : ℕ → List ℕ → ℕ
-valueFrom x [] = x
-valueFrom x (c ∷ text) = valueFrom (10 * x + (c - 48)) text
+unfoldable pub value_from : ℕ → List ℕ → ℕ
+value_from x [] = x
+value_from x (c ∷ text) = value_from (10 * x + (c - 48)) text
 
 -- the number that the text is the numeral of, in 1 to `most` digits
-unfoldable pub numeralOf : ℕ → List ℕ → Numeral
-numeralOf most text = cond (leb (length text) most && same text (digits (valueFrom 0 text))) (Number (valueFrom 0 text)) NotANumeral
+unfoldable pub numeral_of : ℕ → List ℕ → Numeral
+numeral_of most text = cond (leb (length text) most && same text (digits (value_from 0 text))) (Number (value_from 0 text)) NotANumeral
 
 -- the numeral of x stands in a list from a place on, and the next place is after it
 pub record Put (x at next : ℕ) (old now : List ℕ) : Type 0 where

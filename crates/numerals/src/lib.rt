@@ -1,6 +1,6 @@
 // Decimal numerals in bytes, read and written.
 ghost use Rattle.std.specs.Prelude.{◌≡◌, ◌+◌, ◌≤◌, ◌<◌, length};
-ghost use Rattle.numerals.specs.Numerals.{digits, numeralOf, Put};
+ghost use Rattle.numerals.specs.Numerals.{digits, numeral_of, Put};
 
 #[derive(Drop)]
 pub enum Numeral {
@@ -19,7 +19,7 @@ pub fn digit(c: u8) -> u64
 // The number that the text is the numeral of, in 1 to `most` digits.
 pub fn read_numeral(text: &[u8], most: usize) -> Numeral
     requires { most ≤ 19 }
-    ensures { result ≡ numeralOf most text.now }
+    ensures { result ≡ numeral_of most text.now }
 {
     let n = text.len();
     if n == 0 {

@@ -3,11 +3,11 @@ use mathlib.Core.Path.{◌≡◌}
 use Prim.Native.Nat.{ℕ, ◌+◌, ◌*◌, ◌/◌, ◌%◌, ◌<◌}
 use native.Mathlib.Omega.{arith}
 use Rattle.article.specs.declared.pair.Leg.{Leg}
-use Rattle.packed.specs.Packed.{legIn, Small}
+use Rattle.packed.specs.Packed.{leg_in, Small}
 
 -- four bits, a byte and two bytes below other fields
-four-bits : (x field high : ℕ) → x ≡ field + 16 * high → field < 16 → x % 16 ≡ field
-four-bits x field high e h = omega (arith, e, h)
+four_bits : (x field high : ℕ) → x ≡ field + 16 * high → field < 16 → x % 16 ≡ field
+four_bits x field high e h = omega (arith, e, h)
 
 byte : (x field high : ℕ) → x ≡ field + 256 * high → field < 256 → x % 256 ≡ field
 byte x field high e h = omega (arith, e, h)
@@ -21,8 +21,8 @@ code_of l =
     l.rate + 65536 * l.period + 16777216 * l.side + 268435456 * l.kind + 4294967296 * l.issuer + 281474976710656 * l.currency + 4503599627370496 * l.rating
     + 72057594037927936 * l.letter
 
-pub back : (l : Leg) → Small l → legIn (code_of l) ≡ l
-unfolding legIn
+pub back : (l : Leg) → Small l → leg_in (code_of l) ≡ l
+unfolding leg_in
 back l s =
     let c = code_of l in
     let from-period : c / 65536 ≡ l.period + 256 * (l.side + 16 * l.kind + 256 * l.issuer + 16777216 * l.currency + 268435456 * l.rating + 4294967296 * l.letter) =
@@ -36,12 +36,12 @@ back l s =
     let from-letter : c / 72057594037927936 ≡ l.letter + 16 * 0 = omega (arith, s.rate, s.period, s.side, s.kind, s.issuer, s.currency, s.rating) in
     let low : c % 65536 ≡ l.rate = omega (arith, s.rate) in
     λ i. record {
-      letter = four-bits _ _ 0 from-letter s.letter i;
-      side = four-bits _ _ _ from-side s.side i;
-      kind = four-bits _ _ _ from-kind s.kind i;
+      letter = four_bits _ _ 0 from-letter s.letter i;
+      side = four_bits _ _ _ from-side s.side i;
+      kind = four_bits _ _ _ from-kind s.kind i;
       issuer = two_bytes _ _ _ from-issuer s.issuer i;
-      currency = four-bits _ _ _ from-currency s.currency i;
-      rating = four-bits _ _ _ from-rating s.rating i;
+      currency = four_bits _ _ _ from-currency s.currency i;
+      rating = four_bits _ _ _ from-rating s.rating i;
       period = byte _ _ _ from-period s.period i;
       rate = low i;
     }

@@ -2,14 +2,14 @@
 use mathlib.Core.Logic.{◌⊎◌, inl, inr}
 use Prim.Native.Nat.{ℕ, ◌≤◌}
 use native.Mathlib.Omega.{arith}
-use Rattle.holding.specs.Holding.{Government, Corporate, letterNumber, ratingNumber, row_of, InRange}
+use Rattle.holding.specs.Holding.{Government, Corporate, letter_number, rating_number, row_of, InRange}
 use Rattle.holding.specs.declared.AccountKind.{AccountKind}
 use Rattle.holding.specs.declared.AccountKind.TheVariants.{Participant, Client}
 use Rattle.holding.specs.declared.Rating.{Rating}
 use Rattle.holding.specs.declared.Rating.TheVariants.{SingleA, Lower, NotGiven}
 use Rattle.holding.specs.declared.Holding.{Holding}
 use Rattle.holding.specs.declared.Account.{Account}
-use Rattle.article.specs.Pair.{legOf}
+use Rattle.article.specs.Pair.{leg_of}
 use Rattle.rates.proofs.Periods.{period-low}
 use Rattle.article.proofs.LegRates.{leg-rates}
 use Rattle.packed.specs.Packed.{Small}
@@ -19,17 +19,17 @@ issuer-few : (n : ℕ) → Government n ⊎ Corporate n → n ≤ 355
 issuer-few n (inl g) = omega arith
 issuer-few n (inr c) = c.1
 
-rating-few : (r : Rating) → ratingNumber r ≤ 2
+rating-few : (r : Rating) → rating_number r ≤ 2
 rating-few SingleA = omega arith
 rating-few Lower = omega arith
 rating-few NotGiven = omega arith
 
-pub letter-few : (k : AccountKind) → letterNumber k ≤ 1
+pub letter-few : (k : AccountKind) → letter_number k ≤ 1
 letter-few Participant = omega arith
 letter-few Client = omega arith
 
-pub small : (a : Account) (h : Holding) → InRange a h → Small (legOf a h)
-unfolding legOf row_of
+pub small : (a : Account) (h : Holding) → InRange a h → Small (leg_of a h)
+unfolding leg_of row_of
 small a h g = record {
   letter = omega (arith, letter-few a.letter);
   side = omega (arith, g.ranges.identity.side);

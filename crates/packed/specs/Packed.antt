@@ -6,8 +6,8 @@ use Rattle.article.specs.Pair.{RateInRange}
 use Rattle.proposal.specs.Submission.{PricedBook}
 
 -- the leg that a number is the code of: 16 bits for its rate, 8 for its period, 4 each for side and kind, 16 for its issuer, 4 each for currency, rating and letter; 4 are left
-unfoldable pub legIn : ℕ → Leg
-legIn c = record {
+unfoldable pub leg_in : ℕ → Leg
+leg_in c = record {
   letter = (c / 72057594037927936) % 16;
   side = (c / 16777216) % 16;
   kind = (c / 268435456) % 16;
@@ -30,19 +30,19 @@ pub record Small (l : Leg) : Type 0 where
   pub rate : l.rate < 65536
 
 -- the leg of a holding
-abbrev pub legAt : List ℕ → ℕ → Leg
-legAt legs k = legIn (get_or legs k 0)
+abbrev pub leg_at : List ℕ → ℕ → Leg
+leg_at legs k = leg_in (get_or legs k 0)
 
 -- n legs, at most 256, none with a rate above the highest
 pub record Legs (n : ℕ) (legs : List ℕ) : Type 0 where
   pub few : n ≤ 256
   pub held : n ≤ length legs
-  pub rate : (k : ℕ) → k < n → RateInRange (legAt legs k)
+  pub rate : (k : ℕ) → k < n → RateInRange (leg_at legs k)
 
 -- they are the legs of a book
 pub record LegsOf (b : PricedBook) (n : ℕ) (legs : List ℕ) : Type 0 where
   pub count : b.count ≡ n
-  pub leg : (k : ℕ) → k < n → legAt legs k ≡ b.leg k
+  pub leg : (k : ℕ) → k < n → leg_at legs k ≡ b.leg k
 
 -- numbers by holding: the same below n, and none below n above a limit
 abbrev pub Same : ℕ → (ℕ → ℕ) → (ℕ → ℕ) → Type 0

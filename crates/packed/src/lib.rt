@@ -1,13 +1,13 @@
 // A leg packed into one number.
 ghost use Rattle.std.specs.Prelude.{◌≡◌};
-ghost use Rattle.packed.specs.Packed.{legIn, Small};
+ghost use Rattle.packed.specs.Packed.{leg_in, Small};
 
 use article::pair::Leg;
 
 // A leg as one number, from which it is read back.
 pub fn code_of(leg: Leg) -> u64
     requires { Small leg }
-    ensures { legIn result ≡ leg }
+    ensures { leg_in result ≡ leg }
 {
     leg.rate
         + 65536 * leg.period
@@ -21,7 +21,7 @@ pub fn code_of(leg: Leg) -> u64
 
 // The leg of a number.
 pub fn leg_in(code: u64) -> Leg
-    ensures { result ≡ legIn code }
+    ensures { result ≡ leg_in code }
 {
     Leg {
         letter: code / 72057594037927936 % 16,

@@ -5,16 +5,16 @@ use Prim.Native.Nat.{ℕ, ◌+◌, ◌≤◌}
 use native.Mathlib.Omega.{arith}
 use lib.ListN.{take, drop, take-append-drop}
 use Rattle.lists.specs.Tables.{sum_of}
-use Rattle.lists.proofs.Sums.{only_same, only-other, sumOf-append}
+use Rattle.lists.proofs.Sums.{only_same, only-other, sum_of-append}
 use Rattle.pairing.specs.Pairing.{used}
 use Rattle.pairing.specs.declared.Line.{Line}
 
 pub used-append : (xs ys : List Line) (k : ℕ) → used (xs ++ ys) k ≡ used xs k + used ys k
 unfolding used
-used-append xs ys k = sumOf-append xs ys _
+used-append xs ys k = sum_of-append xs ys _
 
-pub used-take-le : (n : ℕ) (lines : List Line) (k : ℕ) → used (take n lines) k ≤ used lines k
-used-take-le n lines k =
+pub used-take_le : (n : ℕ) (lines : List Line) (k : ℕ) → used (take n lines) k ≤ used lines k
+used-take_le n lines k =
     omega (arith, used-append (take n lines) (drop n lines) k, ap (λ (ls : List Line). used ls k) (take-append-drop n lines))
 
 -- one line uses its amount of its long and of its short, and nothing of any other

@@ -1,7 +1,7 @@
 // What the program `margin` prints of a file: read, checked and reported.
 ghost use Rattle.std.specs.Prelude.{[], ◌∷◌};
-ghost use Rattle.columns.specs.Columns.{makeColumns};
-ghost use Rattle.printing.specs.Printed.{TablesHold, columnsOf, PrintsColumns, PrintsFile};
+ghost use Rattle.columns.specs.Columns.{make_columns};
+ghost use Rattle.printing.specs.Printed.{TablesHold, columns_of, PrintsColumns, PrintsFile};
 
 use holding::Head;
 use reader::Contents;
@@ -23,7 +23,7 @@ fn print_columns(
     amount: &[u8],
     out: &mut [u8],
 ) -> Printed
-    ensures { PrintsColumns head (makeColumns
+    ensures { PrintsColumns head (make_columns
         (side.now ∷ kind.now ∷ issuer.now ∷ maturity.now ∷ value.now ∷ currency.now ∷ rating.now ∷ [])
         price.now
         (long.now ∷ short.now ∷ amount.now ∷ []))
@@ -65,7 +65,7 @@ fn print_tables(
     out: &mut [u8],
 ) -> Printed
     requires { TablesHold n m book.now lines.now }
-    ensures { PrintsColumns head (columnsOf n m book.now lines.now)
+    ensures { PrintsColumns head (columns_of n m book.now lines.now)
         out.old out.new result }
 {
     print_columns(

@@ -6,13 +6,13 @@ use Prim.Native.Nat.{ℕ, ◌<◌}
 use native.Mathlib.Omega.{arith}
 use lib.Dec.{ltb}
 use lib.ListN.{length, get_or, take}
-use Rattle.lists.proofs.Firsts.{None, Numbered, none-append, append-none, none-in-turn, in-turn-none, numbered-append, numbered-in-turn}
-use Rattle.holding.specs.Holding.{headFaults}
+use Rattle.lists.proofs.Firsts.{None, Numbered, none-append, append-none, none-in_turn, in_turn-none, numbered-append, numbered-in_turn}
+use Rattle.holding.specs.Holding.{head_faults}
 use Rattle.holding.proofs.Heads.{head-listed}
 use Rattle.article.specs.Answer.{Answer}
-use Rattle.proposal.specs.Submission.{Submission, accountIn, priced, no_row, noLine}
-use Rattle.proposal.specs.Outcome.{at_place, holdingFaults, lineFaults, atHolding, bookFaults, atLine, linesFaults, uncovered, atPair}
-use Rattle.proposal.specs.Outcome.{atLong, uncoveredPairs, totalsDiffer, totalsFaults, sizeFaults, fromPairs, fromLines, fromBook, fromHead, faults}
+use Rattle.proposal.specs.Submission.{Submission, account_in, priced, no_row, no_line}
+use Rattle.proposal.specs.Outcome.{at_place, holding_faults, line_faults, at_holding, book_faults, at_line, lines_faults, uncovered, at_pair}
+use Rattle.proposal.specs.Outcome.{at_long, uncovered_pairs, totals_differ, totals_faults, size_faults, from_pairs, from_lines, from_book, from_head, faults}
 use Rattle.proposal.proofs.Places.{none-at, at_none, listed_at, holding-listed, line-listed}
 
 abbrev pub number : Answer → ℕ
@@ -21,69 +21,69 @@ number a = a.number
 module _ (one two : Bool) (s : Submission) where
   -- each test by itself
   pub record Clear : Type 0 where
-    pub no-1 : one ≡ false
-    pub no-2 : two ≡ false
-    pub no-3 : ltb 256 (length s.rows) ≡ false
+    pub no_1 : one ≡ false
+    pub no_2 : two ≡ false
+    pub no_3 : ltb 256 (length s.rows) ≡ false
     pub no_9 : ltb 512 (length s.lines) ≡ false
-    pub head : None (headFaults s.head)
-    pub holdings : (k : ℕ) → k < length s.rows → None (holdingFaults (accountIn s) (get_or s.rows k no_row) (get_or s.prices k 0))
-    pub lines : (k : ℕ) → k < length s.lines → None (lineFaults (priced s) (take k s.lines) (get_or s.lines k noLine))
+    pub head : None (head_faults s.head)
+    pub holdings : (k : ℕ) → k < length s.rows → None (holding_faults (account_in s) (get_or s.rows k no_row) (get_or s.prices k 0))
+    pub lines : (k : ℕ) → k < length s.lines → None (line_faults (priced s) (take k s.lines) (get_or s.lines k no_line))
     pub pairs : (i j : ℕ) → i < (priced s).count → j < (priced s).count → uncovered (priced s) i j ≡ false
-    pub totals : totalsDiffer (priced s) s.lines ≡ false
+    pub totals : totals_differ (priced s) s.lines ≡ false
 
   abbrev sizes : List (Bool × ℕ)
-  sizes = sizeFaults one two (length s.rows) (length s.lines)
+  sizes = size_faults one two (length s.rows) (length s.lines)
 
-  pub none-clear : None (faults one two s) → Clear
-  unfolding faults sizeFaults bookFaults atHolding linesFaults atLine uncoveredPairs atLong atPair totalsFaults
-  none-clear h =
-      let (at_first, rest₀) = append-none (at_place 0 sizes) (fromHead s) h in
+  pub none_clear : None (faults one two s) → Clear
+  unfolding faults size_faults book_faults at_holding lines_faults at_line uncovered_pairs at_long at_pair totals_faults
+  none_clear h =
+      let (at_first, rest₀) = append-none (at_place 0 sizes) (from_head s) h in
       let first = at_none 0 sizes at_first in
-      let (at_head, rest) = append-none (at_place 0 (headFaults s.head)) (fromBook s) rest₀ in
-      let (book, rest₁) = append-none (bookFaults (accountIn s) s.rows s.prices) (fromLines s) rest in
-      let (lines, rest₂) = append-none (linesFaults (priced s) s.lines) (fromPairs s) rest₁ in
-      let (pairs, last) = append-none (uncoveredPairs (priced s)) (totalsFaults (priced s) s.lines) rest₂ in
+      let (at_head, rest) = append-none (at_place 0 (head_faults s.head)) (from_book s) rest₀ in
+      let (book, rest₁) = append-none (book_faults (account_in s) s.rows s.prices) (from_lines s) rest in
+      let (lines, rest₂) = append-none (lines_faults (priced s) s.lines) (from_pairs s) rest₁ in
+      let (pairs, last) = append-none (uncovered_pairs (priced s)) (totals_faults (priced s) s.lines) rest₂ in
       record {
-        no-1 = first.0;
-        no-3 = first.1.0;
+        no_1 = first.0;
+        no_3 = first.1.0;
         no_9 = first.1.1.0;
-        no-2 = first.1.1.1.0;
-        head = at_none 0 (headFaults s.head) at_head;
-        holdings = λ k q. at_none k _ (in-turn-none (atHolding (accountIn s) s.rows s.prices) _ book k q);
-        lines = λ k q. at_none k _ (in-turn-none (atLine (priced s) s.lines) _ lines k q);
-        pairs = λ i j p q. (in-turn-none (atPair (priced s) i) _ (in-turn-none (atLong (priced s)) _ pairs i p) j q).0;
+        no_2 = first.1.1.1.0;
+        head = at_none 0 (head_faults s.head) at_head;
+        holdings = λ k q. at_none k _ (in_turn-none (at_holding (account_in s) s.rows s.prices) _ book k q);
+        lines = λ k q. at_none k _ (in_turn-none (at_line (priced s) s.lines) _ lines k q);
+        pairs = λ i j p q. (in_turn-none (at_pair (priced s) i) _ (in_turn-none (at_long (priced s)) _ pairs i p) j q).0;
         totals = last.0;
       }
 
   pub clear_none : Clear → None (faults one two s)
-  unfolding faults sizeFaults bookFaults atHolding linesFaults atLine uncoveredPairs atLong atPair totalsFaults
+  unfolding faults size_faults book_faults at_holding lines_faults at_line uncovered_pairs at_long at_pair totals_faults
   clear_none c =
-      none-append (at_place 0 sizes) (fromHead s) (none-at 0 sizes (c.no-1, (c.no-3, (c.no_9, (c.no-2, tt)))))
-      (none-append (at_place 0 (headFaults s.head)) (fromBook s) (none-at 0 (headFaults s.head) c.head)
-      (none-append (bookFaults (accountIn s) s.rows s.prices) (fromLines s) (none-in-turn (atHolding (accountIn s) s.rows s.prices) _ (λ k q. none-at k _ (c.holdings k q)))
-      (none-append (linesFaults (priced s) s.lines) (fromPairs s) (none-in-turn (atLine (priced s) s.lines) _ (λ k q. none-at k _ (c.lines k q)))
-      (none-append (uncoveredPairs (priced s)) (totalsFaults (priced s) s.lines)
-      (none-in-turn (atLong (priced s)) _ (λ i p. none-in-turn (atPair (priced s) i) _ (λ j q. (c.pairs i j p q, tt))))
+      none-append (at_place 0 sizes) (from_head s) (none-at 0 sizes (c.no_1, (c.no_3, (c.no_9, (c.no_2, tt)))))
+      (none-append (at_place 0 (head_faults s.head)) (from_book s) (none-at 0 (head_faults s.head) c.head)
+      (none-append (book_faults (account_in s) s.rows s.prices) (from_lines s) (none-in_turn (at_holding (account_in s) s.rows s.prices) _ (λ k q. none-at k _ (c.holdings k q)))
+      (none-append (lines_faults (priced s) s.lines) (from_pairs s) (none-in_turn (at_line (priced s) s.lines) _ (λ k q. none-at k _ (c.lines k q)))
+      (none-append (uncovered_pairs (priced s)) (totals_faults (priced s) s.lines)
+      (none-in_turn (at_long (priced s)) _ (λ i p. none-in_turn (at_pair (priced s) i) _ (λ j q. (c.pairs i j p q, tt))))
       (c.totals, tt)))))
 
   -- every refusal has a number, from 1
-  pub book-numbered : Numbered number (bookFaults (accountIn s) s.rows s.prices)
-  unfolding bookFaults atHolding
-  book-numbered = numbered-in-turn number (atHolding (accountIn s) s.rows s.prices) (λ k. listed_at k _ (holding-listed _ _ _)) _
+  pub book_numbered : Numbered number (book_faults (account_in s) s.rows s.prices)
+  unfolding book_faults at_holding
+  book_numbered = numbered-in_turn number (at_holding (account_in s) s.rows s.prices) (λ k. listed_at k _ (holding-listed _ _ _)) _
 
-  pub lines-numbered : Numbered number (linesFaults (priced s) s.lines)
-  unfolding linesFaults atLine
-  lines-numbered = numbered-in-turn number (atLine (priced s) s.lines) (λ k. listed_at k _ (line-listed _ _ _)) _
+  pub lines_numbered : Numbered number (lines_faults (priced s) s.lines)
+  unfolding lines_faults at_line
+  lines_numbered = numbered-in_turn number (at_line (priced s) s.lines) (λ k. listed_at k _ (line-listed _ _ _)) _
 
-  pub uncovered-numbered : Numbered number (uncoveredPairs (priced s))
-  unfolding uncoveredPairs atLong atPair
-  uncovered-numbered = numbered-in-turn number (atLong (priced s)) (λ i. numbered-in-turn number (atPair (priced s) i) (λ j. (omega arith, tt)) _) _
+  pub uncovered_numbered : Numbered number (uncovered_pairs (priced s))
+  unfolding uncovered_pairs at_long at_pair
+  uncovered_numbered = numbered-in_turn number (at_long (priced s)) (λ i. numbered-in_turn number (at_pair (priced s) i) (λ j. (omega arith, tt)) _) _
 
   pub numbered : Numbered number (faults one two s)
-  unfolding faults sizeFaults totalsFaults
+  unfolding faults size_faults totals_faults
   numbered =
-      numbered-append number (at_place 0 sizes) (fromHead s) (listed_at 0 sizes (omega arith, (omega arith, (omega arith, (omega arith, tt)))))
-      (numbered-append number (at_place 0 (headFaults s.head)) (fromBook s) (listed_at 0 (headFaults s.head) (head-listed s.head))
-      (numbered-append number (bookFaults (accountIn s) s.rows s.prices) (fromLines s) book-numbered
-      (numbered-append number (linesFaults (priced s) s.lines) (fromPairs s) lines-numbered
-      (numbered-append number (uncoveredPairs (priced s)) (totalsFaults (priced s) s.lines) uncovered-numbered (omega arith, tt)))))
+      numbered-append number (at_place 0 sizes) (from_head s) (listed_at 0 sizes (omega arith, (omega arith, (omega arith, (omega arith, tt)))))
+      (numbered-append number (at_place 0 (head_faults s.head)) (from_book s) (listed_at 0 (head_faults s.head) (head-listed s.head))
+      (numbered-append number (book_faults (account_in s) s.rows s.prices) (from_lines s) book_numbered
+      (numbered-append number (lines_faults (priced s) s.lines) (from_pairs s) lines_numbered
+      (numbered-append number (uncovered_pairs (priced s)) (totals_faults (priced s) s.lines) uncovered_numbered (omega arith, tt)))))

@@ -3,24 +3,24 @@ use mathlib.Core.Path.{◌≡◌, ap}
 use mathlib.Core.List.{List}
 use Prim.Native.Nat.{ℕ, ◌-◌, ◌*◌}
 use native.Mathlib.Omega.{arith}
-use Rattle.lists.proofs.Sums.{sumTo-eq}
-use Rattle.pairing.specs.Pairing.{used, restUnits, sum_at}
+use Rattle.lists.proofs.Sums.{sum_to_eq}
+use Rattle.pairing.specs.Pairing.{used, rest_units, sum_at}
 use Rattle.pairing.specs.declared.Line.{Line}
-use Rattle.proposal.specs.Submission.{PricedBook, termsOf, remainder, margin, unitsOf, centsOf, RoundedUp}
+use Rattle.proposal.specs.Submission.{PricedBook, terms_of, remainder, margin, units_of, cents_of, RoundedUp}
 
-pub units-sum : (b : PricedBook) (lines : List Line) → sum_at (termsOf b) 1 lines ≡ unitsOf b lines
-unfolding sum_at restUnits unitsOf margin remainder termsOf
+pub units-sum : (b : PricedBook) (lines : List Line) → sum_at (terms_of b) 1 lines ≡ units_of b lines
+unfolding sum_at rest_units units_of margin remainder terms_of
 units-sum b lines =
     omega (
       arith,
-      sumTo-eq b.count (λ k. (b.leg k).rate * (1 * b.value k - used lines k)) (λ k. (b.leg k).rate * (b.value k - used lines k))
+      sum_to_eq b.count (λ k. (b.leg k).rate * (1 * b.value k - used lines k)) (λ k. (b.leg k).rate * (b.value k - used lines k))
           (λ k _. ap (λ (v : ℕ). (b.leg k).rate * (v - used lines k)) (omega arith)),
     )
 
 -- only one number is the smallest
-pub rounded-once : (units a b : ℕ) → RoundedUp units a → RoundedUp units b → a ≡ b
-rounded-once units a b f g = omega (arith, f.smallest b g.enough, g.smallest a f.enough)
+pub rounded_once : (units a b : ℕ) → RoundedUp units a → RoundedUp units b → a ≡ b
+rounded_once units a b f g = omega (arith, f.smallest b g.enough, g.smallest a f.enough)
 
-pub rounded : (units : ℕ) → RoundedUp units (centsOf units)
-unfolding centsOf
+pub rounded : (units : ℕ) → RoundedUp units (cents_of units)
+unfolding cents_of
 rounded units = record { enough = omega arith; smallest = λ other h. omega arith }

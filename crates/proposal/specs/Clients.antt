@@ -6,7 +6,7 @@ use Rattle.holding.specs.declared.{AccountKind.TheVariants.Client, AccountKind.T
 use Rattle.article.specs.Answer.{Answer}
 use Rattle.pairing.specs.Pairing.{IsPairing, sum_at}
 use Rattle.pairing.specs.declared.Line.{Line}
-use Rattle.proposal.specs.{Submission.Submission, Submission.accountIn, Submission.termsOf, Submission.priced, Outcome.outcome, Demands.Limits}
+use Rattle.proposal.specs.{Submission.Submission, Submission.account_in, Submission.terms_of, Submission.priced, Outcome.outcome, Demands.Limits}
 
 -- the same holdings on the same date, each with a proposal of its own: a client's, whose letter is 1, and an approved participant's, whose letter is 0
 module _ (date : ℕ) (rows : List Row) (prices prices' : List ℕ) (lines lines' : List Line) where
@@ -18,11 +18,11 @@ module _ (date : ℕ) (rows : List Row) (prices prices' : List ℕ) (lines lines
 
   pub record Clients : Type 0 where
     -- the two accounts are a client's and a participant's
-    pub a-client : (accountIn client).letter ≡ Client
-    pub a-participant : (accountIn participant).letter ≡ Participant
+    pub a_client : (account_in client).letter ≡ Client
+    pub a_participant : (account_in participant).letter ≡ Participant
     -- whatever a client may pair, in whole cents or finer, a participant may pair, and it adds up to the same
-    pub pairings : Limits client → Limits participant → (N : ℕ) (other : List Line) → IsPairing (termsOf (priced client)) N other
-        → IsPairing (termsOf (priced participant)) N other × (sum_at (termsOf (priced participant)) N other ≡ sum_at (termsOf (priced client)) N other)
+    pub pairings : Limits client → Limits participant → (N : ℕ) (other : List Line) → IsPairing (terms_of (priced client)) N other
+        → IsPairing (terms_of (priced participant)) N other × (sum_at (terms_of (priced participant)) N other ≡ sum_at (terms_of (priced client)) N other)
     -- so that where both are accepted, a client's units and cents are never below a participant's, whatever 1 and 2 are of what is lent for each
     pub units : (one two one' two' : Bool) → (outcome one two client).number ≡ 0 → (outcome one' two' participant).number ≡ 0
         → (outcome one' two' participant).first ≤ (outcome one two client).first

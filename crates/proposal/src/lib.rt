@@ -1,6 +1,6 @@
 // A book and a proposal on it, in specs/, and what is found of them.
 ghost use Rattle.std.specs.Prelude.{◌≡◌};
-ghost use Rattle.proposal.specs.Outcome.{makeFault};
+ghost use Rattle.proposal.specs.Outcome.{make_fault};
 
 // A refusal: its number, 0 for none, and two places.
 #[derive(Drop)]
@@ -12,7 +12,7 @@ pub struct Fault {
 
 // A refusal at two places, number 0 for none.
 pub fn fault_at(number: u64, place: usize, second: usize) -> Fault
-    ensures { result ≡ makeFault number place second }
+    ensures { result ≡ make_fault number place second }
 {
     Fault {
         number,

@@ -1,7 +1,7 @@
 // Article 7204 of the Bourse de Montréal, Groups I, II, V and XI paragraph 1: the period of a term, and the rate of a holding alone, margin units per
 // cent of market value, a unit being 1/146,000 of a cent.
 ghost use Rattle.std.specs.Prelude.{◌≡◌, ◌≤◌, ◌<◌};
-ghost use Rattle.rates.specs.Rate.{periodOf, class_of, bondRate, stripRate, rateOf};
+ghost use Rattle.rates.specs.Rate.{period_of, class_of, bond_rate, strip_rate, rate_of};
 
 use holding::{Account, Holding, Issuer, Kind};
 
@@ -14,7 +14,7 @@ const FLAT: [[u16; 5]; 3] = [
 
 // The period of a term, 1 to 5: from the valuation date to a maturity.
 pub fn period(account: Account, maturity: u32) -> u64
-    ensures { (result ≡ periodOf account maturity) × ((1 ≤ result) × (result ≤ 5)) }
+    ensures { (result ≡ period_of account maturity) × ((1 ≤ result) × (result ≤ 5)) }
 {
     let date = account.date;
     let end = maturity as u64;
@@ -47,8 +47,8 @@ fn class_of(issuer: Issuer) -> usize
 
 // What a bond of this issuer and term, in its period, has: in period 1 the year's fraction, of a government.
 fn bond_rate(account: Account, issuer: Issuer, maturity: u32, period: u64) -> u64
-    requires { (period ≡ periodOf account maturity) × ((1 ≤ period) × (period ≤ 5)) }
-    ensures { (result ≡ bondRate (class_of issuer) account maturity) × (result ≤ 8000000000) }
+    requires { (period ≡ period_of account maturity) × ((1 ≤ period) × (period ≤ 5)) }
+    ensures { (result ≡ bond_rate (class_of issuer) account maturity) × (result ≤ 8000000000) }
 {
     let class = class_of(issuer);
     let at = (period - 1) as usize;
@@ -65,7 +65,7 @@ fn bond_rate(account: Account, issuer: Issuer, maturity: u32, period: u64) -> u6
 // One and a half times the bond's rate, three times from 20 years.
 fn strip_rate(account: Account, bond: u64, maturity: u32) -> u64
     requires { bond ≤ 8000000000 }
-    ensures { result ≡ stripRate bond account maturity }
+    ensures { result ≡ strip_rate bond account maturity }
 {
     if (maturity as u64) < dates::anniversary(account.date, 20) {
         return bond * 3 / 2;
@@ -75,8 +75,8 @@ fn strip_rate(account: Account, bond: u64, maturity: u32) -> u64
 
 // The rate of a holding alone, whose period was worked out.
 pub fn rate_in(account: Account, h: Holding, period: u64) -> u64
-    requires { (period ≡ periodOf account h.maturity) × ((1 ≤ period) × (period ≤ 5)) }
-    ensures { result ≡ rateOf account h }
+    requires { (period ≡ period_of account h.maturity) × ((1 ≤ period) × (period ≤ 5)) }
+    ensures { result ≡ rate_of account h }
 {
     let kind = h.kind;
     let issuer = h.issuer;

@@ -11,17 +11,17 @@ use lib.Seq.{get_or-append_seam}
 use borrow.Author.Tests.{eq-eqb, ne_eqb, ltb-true, ltb-false}
 use Rattle.lists.specs.Tables.{Each}
 use Rattle.lists.proofs.Entries.{each_at, each_append}
-use Rattle.lists.proofs.Tables.{getD-map-in}
+use Rattle.lists.proofs.Tables.{get_or-map_in}
 use Rattle.lists.proofs.Tests.{by-test, either_way, same_or_not}
-use Rattle.lei.specs.Lei.{Key, noKey, IsLei, leiOf}
-use Rattle.lei.specs.Numbering.{sameLei, firstPlace}
-use Rattle.lei.proofs.Places.{first-here, first-least, enter-known, enter-new}
+use Rattle.lei.specs.Lei.{Key, no_key, IsLei, lei_of}
+use Rattle.lei.specs.Numbering.{same_lei, first_place}
+use Rattle.lei.proofs.Places.{first-here, first-least, enter-known, enter_new}
 use Rattle.lei.proofs.Identifiers.{identifiers}
 use Rattle.codes.specs.Codes.{Named}
-use Rattle.layout.specs.Layout.{corporation, issuerIn, IsValue}
+use Rattle.layout.specs.Layout.{corporation, issuer_in, IsValue}
 use Rattle.layout.specs.declared.Sort.TheVariants.{Issuer}
-use Rattle.reader.specs.File.{leiIn, issuerNumber, knownAfter}
-use Rattle.readable.specs.Readable.{Issued, government, known-corporation, new-corporation}
+use Rattle.reader.specs.File.{lei_in, issuer_number, known_after}
+use Rattle.readable.specs.Readable.{Issued, government, known_corporation, new_corporation}
 
 -- each is an LEI, and none stands at two places
 pub record Known (known : List (List ℕ)) : Type 0 where
@@ -47,71 +47,71 @@ known_more known t m is new =
 
 pub issued-known : {known then : List (List ℕ)} {t : List ℕ} {v n : ℕ} → Issued known t v n then → Known known → Known then
 issued-known (government named) m = m
-issued-known (known-corporation is at) m = m
-issued-known {known} {t = t} (new-corporation is new) m = known_more known t m is new
+issued-known (known_corporation is at) m = m
+issued-known {known} {t = t} (new_corporation is new) m = known_more known t m is new
 
 -- the first place of an LEI is in the list or at its end
-first-most : (x : Key) (ys : List Key) → firstPlace x ys ≤ length ys
-unfolding firstPlace
+first-most : (x : Key) (ys : List Key) → first_place x ys ≤ length ys
+unfolding first_place
 first-most x [] = omega arith
-first-most x (y ∷ ys) = by-test (λ (n : ℕ). n ≤ suc (length ys)) (sameLei x y) (λ _. omega arith) (λ _. omega (arith, first-most x ys))
+first-most x (y ∷ ys) = by-test (λ (n : ℕ). n ≤ suc (length ys)) (same_lei x y) (λ _. omega arith) (λ _. omega (arith, first-most x ys))
 
 -- a text and its numbers among those known
 module _ (known : List (List ℕ)) (m : Known known) (t : List ℕ) (is : IsLei t) where
   abbrev keys : List Key
-  keys = map leiOf known
+  keys = map lei_of known
 
   abbrev place : ℕ
-  place = firstPlace (leiOf t) keys
+  place = first_place (lei_of t) keys
 
   many : length keys ≡ length known
-  many = length-map known leiOf
+  many = length-map known lei_of
 
   -- the text stands where its numbers do
-  text_at : place < length known → get_or known place [] ≡ t
-  text_at h =
+  text_at_lem : place < length known → get_or known place [] ≡ t
+  text_at_lem h =
       (identifiers.two-numbers.equal (get_or known place []) t (each_at IsLei [] known m.each place h).form is.form).0
-      (sym (getD-map-in leiOf known place [] noKey h) ∙ first-here (leiOf t) keys (omega (arith, many)))
+      (sym (get_or-map_in lei_of known place [] no_key h) ∙ first-here (lei_of t) keys (omega (arith, many)))
 
   place_at : (k : ℕ) → k < length known → get_or known k [] ≡ t → place ≤ k
-  place_at k h e = first-least (leiOf t) keys k (omega (arith, many)) (getD-map-in leiOf known k [] noKey h ∙ ap leiOf e)
+  place_at k h e = first-least (lei_of t) keys k (omega (arith, many)) (get_or-map_in lei_of known k [] no_key h ∙ ap lei_of e)
 
   -- one that is known stands at its only place, and a new one is to join at the end
   place-known : (k : ℕ) → Named t known k → place ≡ k
   place-known k at =
       let low = place_at k at.inside (sym at.here) in
-      ⊎_elim (λ e. e) (λ l. absurd (m.once place k l at.inside (text_at (omega (arith, at.inside)) ∙ at.here))) (eq-or-lt_of_le low)
+      ⊎_elim (λ e. e) (λ l. absurd (m.once place k l at.inside (text_at_lem (omega (arith, at.inside)) ∙ at.here))) (eq-or-lt_of_le low)
 
-  place-new : ((k : ℕ) → k < length known → get_or known k [] ≢ t) → place ≡ length known
-  place-new new =
+  place_new : ((k : ℕ) → k < length known → get_or known k [] ≢ t) → place ≡ length known
+  place_new new =
       either_way (ltb place (length known))
-      (λ l. absurd (new place (ltb-true place (length known) l) (text_at (ltb-true place (length known) l))))
-      (λ l. omega (arith, ltb-false place (length known) l, first-most (leiOf t) keys, many))
+      (λ l. absurd (new place (ltb-true place (length known) l) (text_at_lem (ltb-true place (length known) l))))
+      (λ l. omega (arith, ltb-false place (length known) l, first-most (lei_of t) keys, many))
 
   corporate : (n : ℕ) × (then : List (List ℕ)) × Issued known t corporation n then
   corporate =
       either_way (ltb place (length known))
       (λ l.
       let h = ltb-true place (length known) l in
-      (100 + place, known, known-corporation is (record { inside = h; here = sym (text_at h) })))
-      (λ l. (100 + length known, known ++ (t ∷ []), new-corporation is (λ k h e. omega (arith, ltb-false place (length known) l, place_at k h e))))
+      (100 + place, known, known_corporation is (record { inside = h; here = sym (text_at_lem h) })))
+      (λ l. (100 + length known, known ++ (t ∷ []), new_corporation is (λ k h e. omega (arith, ltb-false place (length known) l, place_at k h e))))
 
 -- every issuer has a number
 pub issue : (known : List (List ℕ)) → Known known → (t : List ℕ) (v : ℕ) → IsValue Issuer t v → (n : ℕ) × (then : List (List ℕ)) × Issued known t v n then
 issue known m t v = ⊎_elim (λ named. (v, known, government named)) (λ (is, e). rw e (corporate known m t is))
 
 -- which is that of the values, and so are the LEIs that are known then
-pub issued-number : {known then : List (List ℕ)} {t : List ℕ} {v n : ℕ} → Issued known t v n then → Known known → (vs : List ℕ) → issuerIn vs ≡ v → leiIn vs ≡ leiOf t
-    → (issuerNumber (map leiOf known) vs ≡ n) × (knownAfter (map leiOf known) vs ≡ map leiOf then)
-unfolding issuerNumber knownAfter
+pub issued-number : {known then : List (List ℕ)} {t : List ℕ} {v n : ℕ} → Issued known t v n then → Known known → (vs : List ℕ) → issuer_in vs ≡ v → lei_in vs ≡ lei_of t
+    → (issuer_number (map lei_of known) vs ≡ n) × (known_after (map lei_of known) vs ≡ map lei_of then)
+unfolding issuer_number known_after
 issued-number (government named) m vs e f =
-    let no = ne_eqb (issuerIn vs) corporation (λ c. omega (arith, named.inside)) in
+    let no = ne_eqb (issuer_in vs) corporation (λ c. omega (arith, named.inside)) in
     (rw no e, rw no)
-issued-number {known} {t = t} (known-corporation {k = k} is at) m vs e f =
-    let yes = eq-eqb (issuerIn vs) corporation e in
+issued-number {known} {t = t} (known_corporation {k = k} is at) m vs e f =
+    let yes = eq-eqb (issuer_in vs) corporation e in
     let here = place-known known m t is k at in
-    (rw (yes, f, here), rw (yes, f) (enter-known (map leiOf known) (leiOf t) (omega (arith, many known m t is, at.inside))))
-issued-number {known} {t = t} (new-corporation is new) m vs e f =
-    let yes = eq-eqb (issuerIn vs) corporation e in
-    let end = place-new known m t is new in
-    (rw (yes, f, end), rw (yes, f) (enter-new (map leiOf known) (leiOf t) (omega (arith, many known m t is)) ∙ sym (map-append leiOf known (t ∷ []))))
+    (rw (yes, f, here), rw (yes, f) (enter-known (map lei_of known) (lei_of t) (omega (arith, many known m t is, at.inside))))
+issued-number {known} {t = t} (new_corporation is new) m vs e f =
+    let yes = eq-eqb (issuer_in vs) corporation e in
+    let end = place_new known m t is new in
+    (rw (yes, f, end), rw (yes, f) (enter_new (map lei_of known) (lei_of t) (omega (arith, many known m t is)) ∙ sym (map-append lei_of known (t ∷ []))))

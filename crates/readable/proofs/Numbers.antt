@@ -5,35 +5,35 @@ use mathlib.Core.List.{List}
 use Prim.Native.Nat.{ℕ, ◌<◌}
 use native.Mathlib.Omega.{arith}
 use lib.ListN.{length, get_or, length-map}
-use Rattle.lists.proofs.Tables.{getD-map-in}
-use Rattle.lists.proofs.Firsts.{None, Numbered, each-in-turn, none_first, first-of-none}
-use Rattle.article.specs.Answer.{makeAnswer}
+use Rattle.lists.proofs.Tables.{get_or-map_in}
+use Rattle.lists.proofs.Firsts.{None, Numbered, each-in_turn, none_first, first_of-none}
+use Rattle.article.specs.Answer.{make_answer}
 use Rattle.proposal.proofs.Clear.{number}
 use Rattle.codes.specs.declared.Place.{Place}
-use Rattle.csv.specs.Reading.{Read, broken, recordsOf}
+use Rattle.csv.specs.Reading.{Read, broken, records_of}
 use Rattle.layout.specs.Layout.{Meaning, good, refused, parse}
 use Rattle.layout.proofs.Letters.{parse-refused}
-use Rattle.reader.specs.File.{parsedIn, faultsOf, atRecord, fileFaults, fileFault}
+use Rattle.reader.specs.File.{parsed_in, faults_of, at_record, file_faults, file_fault}
 
 -- the refusals of a record: its own, or 22, 3 and 9
-numbered_of : (n : ℕ) (before : Place) (count : ℕ → ℕ) (r : Read) (m : Meaning) → parse r ≡ m → Numbered number (faultsOf n before count m)
+numbered_of : (n : ℕ) (before : Place) (count : ℕ → ℕ) (r : Read) (m : Meaning) → parse r ≡ m → Numbered number (faults_of n before count m)
 numbered_of n before count r (good k vs) e = (omega arith, (omega arith, (omega arith, tt)))
 numbered_of n before count r (refused k) e = (omega (arith, parse-refused r e), tt)
 
-numbered : (text : List ℕ) → Numbered number (fileFaults text)
-unfolding fileFaults atRecord parsedIn
+numbered : (text : List ℕ) → Numbered number (file_faults text)
+unfolding file_faults at_record parsed_in
 numbered text =
-    let records = recordsOf text in (
+    let records = records_of text in (
       omega arith,
       (
         omega arith,
-        each-in-turn _ (atRecord (parsedIn text)) (length (parsedIn text)) (λ n q.
+        each-in_turn _ (at_record (parsed_in text)) (length (parsed_in text)) (λ n q.
             let within : n < length records = omega (arith, length-map records parse) in
-            rw (getD-map-in parse records n broken (refused 0) within) (numbered_of n _ _ (get_or records n broken) _ refl)),
+            rw (get_or-map_in parse records n broken (refused 0) within) (numbered_of n _ _ (get_or records n broken) _ refl)),
       ),
     )
 
-pub none-exactly : (text : List ℕ) → ((fileFault text).number ≡ 0) ↔ None (fileFaults text)
-unfolding fileFault
+pub none-exactly : (text : List ℕ) → ((file_fault text).number ≡ 0) ↔ None (file_faults text)
+unfolding file_fault
 none-exactly text =
-    (λ e. (none_first number (fileFaults text) (makeAnswer 0 0 0) (numbered text) e).0, λ c. ap number (first-of-none (fileFaults text) (makeAnswer 0 0 0) c))
+    (λ e. (none_first number (file_faults text) (make_answer 0 0 0) (numbered text) e).0, λ c. ap number (first_of-none (file_faults text) (make_answer 0 0 0) c))

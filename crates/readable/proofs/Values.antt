@@ -12,16 +12,16 @@ use Rattle.codes.specs.Codes.{place_of}
 use Rattle.codes.specs.declared.Place.{Place}
 use Rattle.codes.specs.declared.Place.TheVariants.{At, Nowhere}
 use Rattle.codes.proofs.Places.{distinct-exactly}
-use Rattle.numerals.specs.Numerals.{numeralOf}
+use Rattle.numerals.specs.Numerals.{numeral_of}
 use Rattle.numerals.specs.declared.Numeral.{Numeral}
 use Rattle.numerals.specs.declared.Numeral.TheVariants.{Number, NotANumeral}
-use Rattle.numerals.proofs.Exactly.{numeral-exactly}
-use Rattle.dates.specs.Text.{readDate}
+use Rattle.numerals.proofs.Exactly.{numeral_exactly}
+use Rattle.dates.specs.Text.{read_date}
 use Rattle.dates.specs.declared.text.Reading.{Reading}
 use Rattle.dates.specs.declared.text.Reading.TheVariants.{Number as Dated, NotADate}
 use Rattle.dates.proofs.Texts.{read-exactly}
-use Rattle.layout.specs.Layout.{IsValue, AreValues, no-values, value-and, accounts, sides, kinds, currencies, ratings}
-use Rattle.layout.specs.Layout.{byPlace, byNumeral, byDate, value_of, Values, values, wrong, andValue, values_of}
+use Rattle.layout.specs.Layout.{IsValue, AreValues, no_values, value_and, accounts, sides, kinds, currencies, ratings}
+use Rattle.layout.specs.Layout.{by_place, by_numeral, by_date, value_of, Values, values, wrong, and_value, values_of}
 use Rattle.layout.specs.declared.Sort.{Sort}
 use Rattle.layout.specs.declared.Sort.TheVariants.{Account, Side, Kind, Issuer, Currency, Rating, Date, Six, Twelve, Empty}
 use Rattle.layout.specs.declared.Value.{Value}
@@ -29,15 +29,15 @@ use Rattle.layout.specs.declared.Value.TheVariants.{Of, Refused}
 use Rattle.layout.proofs.Issuers.{issuer-exactly}
 
 -- the value of a place, of a numeral or of a date is its number
-place-value : (p : Place) (v : ℕ) → (byPlace p ≡ Of v) ↔ (p ≡ At v)
+place-value : (p : Place) (v : ℕ) → (by_place p ≡ Of v) ↔ (p ≡ At v)
 place-value (At n) v = (λ e. cc, λ e. cc)
 place-value Nowhere v = (λ e. cc, λ e. cc)
 
-numeral-value : (n : Numeral) (v : ℕ) → (byNumeral n ≡ Of v) ↔ (n ≡ Number v)
-numeral-value (Number n) v = (λ e. cc, λ e. cc)
-numeral-value NotANumeral v = (λ e. cc, λ e. cc)
+numeral_value : (n : Numeral) (v : ℕ) → (by_numeral n ≡ Of v) ↔ (n ≡ Number v)
+numeral_value (Number n) v = (λ e. cc, λ e. cc)
+numeral_value NotANumeral v = (λ e. cc, λ e. cc)
 
-date-value : (r : Reading) (v : ℕ) → (byDate r ≡ Of v) ↔ (r ≡ Dated v)
+date-value : (r : Reading) (v : ℕ) → (by_date r ≡ Of v) ↔ (r ≡ Dated v)
 date-value (Dated n) v = (λ e. cc, λ e. cc)
 date-value NotADate v = (λ e. cc, λ e. cc)
 
@@ -61,9 +61,9 @@ value-exactly Kind t v = Iff.trans (place-value (place_of t kinds) v) (distinct-
 value-exactly Issuer t v = issuer-exactly t v
 value-exactly Currency t v = Iff.trans (place-value (place_of t currencies) v) (distinct-exactly t currencies refl v)
 value-exactly Rating t v = Iff.trans (place-value (place_of t ratings) v) (distinct-exactly t ratings refl v)
-value-exactly Date t v = Iff.trans (date-value (readDate t) v) (read-exactly t v)
-value-exactly Six t v = Iff.trans (numeral-value (numeralOf 6 t) v) (numeral-exactly 6 t v)
-value-exactly Twelve t v = Iff.trans (numeral-value (numeralOf 12 t) v) (numeral-exactly 12 t v)
+value-exactly Date t v = Iff.trans (date-value (read_date t) v) (read-exactly t v)
+value-exactly Six t v = Iff.trans (numeral_value (numeral_of 6 t) v) (numeral_exactly 6 t v)
+value-exactly Twelve t v = Iff.trans (numeral_value (numeral_of 12 t) v) (numeral_exactly 12 t v)
 value-exactly Empty t v = empty-value t v
 
 -- several texts, where they are read as values
@@ -73,21 +73,21 @@ Good ss ts (wrong number) = Unit {0}
 
 good-values : (ss : List Sort) (ts : List (List ℕ)) → Good ss ts (values_of ss ts)
 unfolding values_of
-good-values [] [] = no-values
+good-values [] [] = no_values
 good-values [] (t ∷ ts) = tt
 good-values (s ∷ ss) [] = tt
 good-values (s ∷ ss) (t ∷ ts) = by (value_of s t) (values_of ss ts) refl (good-values ss ts)
   where
-    by : (w : Value) (ws : Values) → value_of s t ≡ w → Good ss ts ws → Good (s ∷ ss) (t ∷ ts) (andValue w ws)
-    by (Of v) (values vs) e h = value-and ((value-exactly s t v).0 e) h
+    by : (w : Value) (ws : Values) → value_of s t ≡ w → Good ss ts ws → Good (s ∷ ss) (t ∷ ts) (and_value w ws)
+    by (Of v) (values vs) e h = value_and ((value-exactly s t v).0 e) h
     by (Of v) (wrong number) e h = tt
     by (Refused first) (values vs) e h = tt
     by (Refused first) (wrong number) e h = tt
 
 are-values : {ss : List Sort} {ts : List (List ℕ)} {vs : List ℕ} → AreValues ss ts vs → values_of ss ts ≡ values vs
 unfolding values_of
-are-values no-values = refl
-are-values (value-and {s} {t} {v} h hs) = rw ((value-exactly s t v).1 h, are-values hs)
+are-values no_values = refl
+are-values (value_and {s} {t} {v} h hs) = rw ((value-exactly s t v).1 h, are-values hs)
 
 pub values-exactly : (ss : List Sort) (ts : List (List ℕ)) (vs : List ℕ) → (values_of ss ts ≡ values vs) ↔ AreValues ss ts vs
 values-exactly ss ts vs = (λ e. subst (Good ss ts) e (good-values ss ts), are-values)

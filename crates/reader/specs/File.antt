@@ -4,151 +4,151 @@ use mathlib.Core.{Path.◌≡◌, Bool.Bool, Bool.true, Bool.false, Bool.cond, B
 use Rattle.std.specs.Prelude.{ℕ, zero, suc, ◌+◌, ◌-◌, ◌*◌, ◌≤◌, ◌<◌}
 use lib.{Dec.ltb, Dec.eqb, ListN.length, ListN.get_or, ListN.set, ListN.take}
 use Rattle.lists.specs.{Choice.first_of, Tables.in_turn}
-use Rattle.holding.specs.Holding.{headBy}
+use Rattle.holding.specs.Holding.{head_by}
 use Rattle.holding.specs.declared.Head.{Head}
-use Rattle.article.specs.Answer.{Answer, makeAnswer}
-use Rattle.proposal.specs.Submission.{Submission, pricedRow, rowPrice, lineBy}
+use Rattle.article.specs.Answer.{Answer, make_answer}
+use Rattle.proposal.specs.Submission.{Submission, priced_row, row_price, line_by}
 use Rattle.codes.specs.declared.Place.{Place, TheVariants.At, TheVariants.Nowhere}
-use Rattle.csv.specs.Reading.{fieldCount, recordsOf}
-use Rattle.lei.specs.{Lei.Key, Numbering.firstPlace, Numbering.enter, Numbering.table}
-use Rattle.layout.specs.Layout.{corporation, issuerIn, Meaning, good, refused, parse, mayFollow}
+use Rattle.csv.specs.Reading.{field_count, records_of}
+use Rattle.lei.specs.{Lei.Key, Numbering.first_place, Numbering.enter, Numbering.table}
+use Rattle.layout.specs.Layout.{corporation, issuer_in, Meaning, good, refused, parse, may_follow}
 use Rattle.columns.specs.Columns.{Entered}
 use Rattle.reader.specs.declared.Contents.{Contents, TheVariants.Read, TheVariants.Refused}
 
 -- the records of a text, parsed, up to the first that is outside the grammar
-unfoldable pub parsedIn : List ℕ → List Meaning
-parsedIn text = map parse (recordsOf text)
+unfoldable pub parsed_in : List ℕ → List Meaning
+parsed_in text = map parse (records_of text)
 
 -- the values of the good records of letter k, in the order of the records
-unfoldable pub valuesBy : ℕ → List Meaning → List (List ℕ)
-valuesBy k [] = []
-valuesBy k (good letter vs ∷ rest) = cond (eqb letter k) (vs ∷ valuesBy k rest) (valuesBy k rest)
-valuesBy k (refused number ∷ rest) = valuesBy k rest
+unfoldable pub values_by : ℕ → List Meaning → List (List ℕ)
+values_by k [] = []
+values_by k (good letter vs ∷ rest) = cond (eqb letter k) (vs ∷ values_by k rest) (values_by k rest)
+values_by k (refused number ∷ rest) = values_by k rest
 
 -- the LEI among the values of an H, behind those of its fields
-abbrev pub leiIn : List ℕ → Key
-leiIn vs = (get_or vs (fieldCount - 1) 0, get_or vs fieldCount 0)
+abbrev pub lei_in : List ℕ → Key
+lei_in vs = (get_or vs (field_count - 1) 0, get_or vs field_count 0)
 
 -- the number of its issuer: of a corporation 100 and the place of its LEI among those known, where a new one is to join
-unfoldable pub issuerNumber : List Key → List ℕ → ℕ
-issuerNumber known vs = cond (eqb (issuerIn vs) corporation) (100 + firstPlace (leiIn vs) known) (issuerIn vs)
+unfoldable pub issuer_number : List Key → List ℕ → ℕ
+issuer_number known vs = cond (eqb (issuer_in vs) corporation) (100 + first_place (lei_in vs) known) (issuer_in vs)
 
 -- the LEIs that are known after it
-unfoldable pub knownAfter : List Key → List ℕ → List Key
-knownAfter known vs = cond (eqb (issuerIn vs) corporation) (enter known (leiIn vs)) known
+unfoldable pub known_after : List Key → List ℕ → List Key
+known_after known vs = cond (eqb (issuer_in vs) corporation) (enter known (lei_in vs)) known
 
 -- an H with the number of its issuer
 abbrev pub with_number : List Key → List ℕ → List ℕ
-with_number known vs = set vs 2 (issuerNumber known vs)
+with_number known vs = set vs 2 (issuer_number known vs)
 
 -- all of them one after another, and the LEIs that are known after all, in the order of their numbers
-unfoldable pub numberedFrom : List Key → List (List ℕ) → List (List ℕ)
-numberedFrom known [] = []
-numberedFrom known (vs ∷ rest) = with_number known vs ∷ numberedFrom (knownAfter known vs) rest
+unfoldable pub numbered_from : List Key → List (List ℕ) → List (List ℕ)
+numbered_from known [] = []
+numbered_from known (vs ∷ rest) = with_number known vs ∷ numbered_from (known_after known vs) rest
 
-unfoldable pub leisFrom : List Key → List (List ℕ) → List Key
-leisFrom known [] = known
-leisFrom known (vs ∷ rest) = leisFrom (knownAfter known vs) rest
+unfoldable pub leis_from : List Key → List (List ℕ) → List Key
+leis_from known [] = known
+leis_from known (vs ∷ rest) = leis_from (known_after known vs) rest
 
 -- the values of the H, numbered from nothing known, and the LEIs of their corporations
-unfoldable pub holdingsOf : List Meaning → List (List ℕ)
-holdingsOf parsed = numberedFrom [] (valuesBy 1 parsed)
+unfoldable pub holdings_of : List Meaning → List (List ℕ)
+holdings_of parsed = numbered_from [] (values_by 1 parsed)
 
-unfoldable pub leisOf : List Meaning → List Key
-leisOf parsed = leisFrom [] (valuesBy 1 parsed)
+unfoldable pub leis_of : List Meaning → List Key
+leis_of parsed = leis_from [] (values_by 1 parsed)
 
 -- what they submit: of the first D the head, of each H a holding's row and its price, of each P a line
-unfoldable pub submissionOf : List Meaning → Submission
-submissionOf parsed = record {
-  head = headBy (get_or (valuesBy 0 parsed) 0 []);
-  rows = map pricedRow (holdingsOf parsed);
-  prices = map rowPrice (holdingsOf parsed);
-  lines = map lineBy (valuesBy 2 parsed);
+unfoldable pub submission_of : List Meaning → Submission
+submission_of parsed = record {
+  head = head_by (get_or (values_by 0 parsed) 0 []);
+  rows = map priced_row (holdings_of parsed);
+  prices = map row_price (holdings_of parsed);
+  lines = map line_by (values_by 2 parsed);
 }
 
 -- what a text submits by its records, and the LEIs of its corporations in the order of their numbers
-abbrev pub submissionIn : List ℕ → Submission
-submissionIn text = submissionOf (parsedIn text)
+abbrev pub submission_in : List ℕ → Submission
+submission_in text = submission_of (parsed_in text)
 
-abbrev pub leisIn : List ℕ → List Key
-leisIn text = leisOf (parsedIn text)
+abbrev pub leis_in : List ℕ → List Key
+leis_in text = leis_of (parsed_in text)
 
 -- of record n, by the letter before it and the count of each letter before: 19 to 21 and 25, 22 a letter that may not follow, 3 more than 256 H, 9 more than 512 P
-abbrev pub faultsOf : ℕ → Place → (ℕ → ℕ) → Meaning → List (Bool × Answer)
-faultsOf n before count (refused number) = (true, makeAnswer number n 0) ∷ []
-faultsOf n before count (good letter vs) =
-    (not (mayFollow before letter), makeAnswer 22 n 0)
-    ∷ (eqb letter 1 && eqb (count 1) 256, makeAnswer 3 0 0)
-    ∷ (eqb letter 2 && eqb (count 2) 512, makeAnswer 9 0 0)
+abbrev pub faults_of : ℕ → Place → (ℕ → ℕ) → Meaning → List (Bool × Answer)
+faults_of n before count (refused number) = (true, make_answer number n 0) ∷ []
+faults_of n before count (good letter vs) =
+    (not (may_follow before letter), make_answer 22 n 0)
+    ∷ (eqb letter 1 && eqb (count 1) 256, make_answer 3 0 0)
+    ∷ (eqb letter 2 && eqb (count 2) 512, make_answer 9 0 0)
     ∷ []
 
 -- the letter of a record, and the letter before record n
-abbrev pub letterOf : Meaning → Place
-letterOf (good letter vs) = At letter
-letterOf (refused number) = Nowhere
+abbrev pub letter_of : Meaning → Place
+letter_of (good letter vs) = At letter
+letter_of (refused number) = Nowhere
 
-abbrev pub letterBefore : List Meaning → ℕ → Place
-letterBefore parsed zero = Nowhere
-letterBefore parsed (suc n) = letterOf (get_or parsed n (refused 0))
+abbrev pub letter_before : List Meaning → ℕ → Place
+letter_before parsed zero = Nowhere
+letter_before parsed (suc n) = letter_of (get_or parsed n (refused 0))
 
-unfoldable pub atRecord : List Meaning → ℕ → List (Bool × Answer)
-atRecord parsed n = faultsOf n (letterBefore parsed n) (λ k. length (valuesBy k (take n parsed))) (get_or parsed n (refused 0))
+unfoldable pub at_record : List Meaning → ℕ → List (Bool × Answer)
+at_record parsed n = faults_of n (letter_before parsed n) (λ k. length (values_by k (take n parsed))) (get_or parsed n (refused 0))
 
 -- the most bytes that a file may have
-abbrev pub fileLimit : ℕ
-fileLimit = 65536
+abbrev pub file_limit : ℕ
+file_limit = 65536
 
 -- 18 longer than 65,536 bytes; an empty file has no D, 22; each record in turn
-unfoldable pub fileFaults : List ℕ → List (Bool × Answer)
-fileFaults text =
-    (ltb fileLimit (length text), makeAnswer 18 0 0)
-    ∷ (eqb (length text) 0, makeAnswer 22 0 0)
-    ∷ in_turn (length (parsedIn text)) (atRecord (parsedIn text))
+unfoldable pub file_faults : List ℕ → List (Bool × Answer)
+file_faults text =
+    (ltb file_limit (length text), make_answer 18 0 0)
+    ∷ (eqb (length text) 0, make_answer 22 0 0)
+    ∷ in_turn (length (parsed_in text)) (at_record (parsed_in text))
 
 -- the first of them that holds, number 0 for none
-unfoldable pub fileFault : List ℕ → Answer
-fileFault text = first_of (fileFaults text) (makeAnswer 0 0 0)
+unfoldable pub file_fault : List ℕ → Answer
+file_fault text = first_of (file_faults text) (make_answer 0 0 0)
 
 -- what is answered of a text: the first refusal, 2 in its turn if `two`, a lent list is too short, or the answer to a text that is read
-unfoldable pub answerTo : Bool → Answer → List ℕ → Answer
-answerTo two read text = first_of (fileFaults text ++ ((two, makeAnswer 2 0 0) ∷ [])) read
+unfoldable pub answer_to : Bool → Answer → List ℕ → Answer
+answer_to two read text = first_of (file_faults text ++ ((two, make_answer 2 0 0) ∷ [])) read
 
 -- what the reader answers: of a text that is read the number of holdings and of lines
-unfoldable pub readAnswer : Bool → List ℕ → Answer
-readAnswer two text = answerTo two (makeAnswer 0 (length (submissionIn text).rows) (length (submissionIn text).lines)) text
+unfoldable pub read_answer : Bool → List ℕ → Answer
+read_answer two text = answer_to two (make_answer 0 (length (submission_in text).rows) (length (submission_in text).lines)) text
 
 -- the paper's number and values of each case: 0 with the number of holdings and of lines, or the refusal's number with its place
-abbrev pub contentsAnswer : Contents → Answer
-contentsAnswer (Read head holdings lines corporations) = makeAnswer 0 holdings lines
-contentsAnswer (Refused number place) = makeAnswer number place 0
+abbrev pub contents_answer : Contents → Answer
+contents_answer (Read head holdings lines corporations) = make_answer 0 holdings lines
+contents_answer (Refused number place) = make_answer number place 0
 
 -- the case of an answer, with the head and the count of corporations that were read: read for the number 0 and for no other
-unfoldable pub contentsOf : Answer → Head → ℕ → Contents
-contentsOf a head corporations = cond (eqb a.number 0) (Read head a.first a.second corporations) (Refused a.number a.first)
+unfoldable pub contents_of : Answer → Head → ℕ → Contents
+contents_of a head corporations = cond (eqb a.number 0) (Read head a.first a.second corporations) (Refused a.number a.first)
 
 -- tables for a file: a column for each field of an H after its letter, three for a P, each with an entry for any record that the file can have; and a list for
 -- each of the two numbers of an LEI, with an entry for any holding
 pub record TableRoom (rows : ℕ) (text book lines high low : List ℕ) : Type 0 where
-  pub whole-book : length book ≡ 8 * (rows * (fieldCount - 1))
-  pub whole-lines : length lines ≡ 8 * (rows * 3)
+  pub whole_book : length book ≡ 8 * (rows * (field_count - 1))
+  pub whole_lines : length lines ≡ 8 * (rows * 3)
   pub enough : rows < 512 → length text ≤ rows
-  pub room-high : 256 ≤ length high
-  pub room-low : 256 ≤ length low
+  pub room_high : 256 ≤ length high
+  pub room_low : 256 ≤ length low
 
 -- what numbering the issuer of an H promises, of its values and of the LEIs that are known
 pub record NumbersIssuer (known after : List Key) (vs vs' : List ℕ) : Type 0 where
   pub number : vs' ≡ with_number known vs
-  pub entered : after ≡ knownAfter known vs
+  pub entered : after ≡ known_after known vs
 
 -- what reading a file into two tables promises; after a refusal what they hold is free
 pub record ReadsFile (text : List ℕ) (rows : ℕ) (book lines book' lines' high' low' : List ℕ) (r : Contents) : Type 0 where
   -- the first refusal in the reader's order, or the counts
-  pub answer : contentsAnswer r ≡ readAnswer false text
+  pub answer : contents_answer r ≡ read_answer false text
   -- read is a case of its own, and has the head of what is submitted
-  pub contents : r ≡ contentsOf (readAnswer false text) (submissionIn text).head (length (leisIn text))
+  pub contents : r ≡ contents_of (read_answer false text) (submission_in text).head (length (leis_in text))
   -- the values of each H, with the number of its issuer, and of each P, are in the columns of their tables
-  pub each-holding : (contentsAnswer r).number ≡ 0 → Entered (fieldCount - 1) rows (holdingsOf (parsedIn text)) book book'
-  pub each_line : (contentsAnswer r).number ≡ 0 → Entered 3 rows (valuesBy 2 (parsedIn text)) lines lines'
+  pub each_holding : (contents_answer r).number ≡ 0 → Entered (field_count - 1) rows (holdings_of (parsed_in text)) book book'
+  pub each_line : (contents_answer r).number ≡ 0 → Entered 3 rows (values_by 2 (parsed_in text)) lines lines'
   -- the LEIs of the corporations are in their lists, no more than 256
-  pub each-lei : (contentsAnswer r).number ≡ 0 → table (length (leisIn text)) high' low' ≡ leisIn text
-  pub few-leis : (contentsAnswer r).number ≡ 0 → length (leisIn text) ≤ 256
+  pub each_lei : (contents_answer r).number ≡ 0 → table (length (leis_in text)) high' low' ≡ leis_in text
+  pub few_leis : (contents_answer r).number ≡ 0 → length (leis_in text) ≤ 256

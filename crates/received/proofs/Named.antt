@@ -9,40 +9,40 @@ use lib.Dec.{ltb, eqb}
 use lib.ListN.{length, get_or, take, drop, length-map}
 use borrow.Author.Tests.{ne_eqb, le-ltb, ltb-false}
 use Rattle.lists.specs.Tables.{front}
-use Rattle.lists.proofs.Tables.{getD-map-in}
+use Rattle.lists.proofs.Tables.{get_or-map_in}
 use Rattle.lists.proofs.Tests.{neither}
 use Rattle.holding.specs.declared.Head.{Head}
-use Rattle.article.specs.Answer.{Answer, makeAnswer}
+use Rattle.article.specs.Answer.{Answer, make_answer}
 use Rattle.proposal.specs.Submission.{Submission}
 use Rattle.proposal.proofs.Clear.{number}
-use Rattle.lei.specs.Lei.{Key, noKey, leiText}
+use Rattle.lei.specs.Lei.{Key, no_key, lei_text}
 use Rattle.lei.specs.Numbering.{table}
 use Rattle.lent.specs.Boundary.{Answers}
-use Rattle.reader.specs.File.{submissionIn, leisIn, TableRoom, ReadsFile}
+use Rattle.reader.specs.File.{submission_in, leis_in, TableRoom, ReadsFile}
 use Rattle.reader.specs.declared.Contents.{Contents}
 use Rattle.reader.specs.declared.Contents.TheVariants.{Read, Refused}
-use Rattle.readable.specs.Readable.{Submits, textAt, number_at}
-use Rattle.readable.proofs.Answered.{to-refused, to_none, to-exactly, refusal-known, no-fault, leis-counted, leis-held, few-corporations}
+use Rattle.readable.specs.Readable.{Submits, text_at, number_at}
+use Rattle.readable.proofs.Answered.{to-refused, to_none, to-exactly, refusal-known, no_fault, leis-counted, leis-held, few-corporations}
 use Rattle.readable.proofs.Exactly.{read-exactly}
-use Rattle.received.specs.Naming.{leiTexts, leisTooShort, LeisRoom, namingAnswer, naming, Names}
+use Rattle.received.specs.Naming.{lei_texts, leis_too_short, LeisRoom, naming_answer, naming, Names}
 use Rattle.received.proofs.Written.{text-read}
 
 -- a text, the list for its LEIs, and an answer slice
 module _ (text leis slice : List ℕ) where
   abbrev keys : List Key
-  keys = leisIn text
+  keys = leis_in text
 
   abbrev counted : Answer
-  counted = makeAnswer 0 (length keys) 0
+  counted = make_answer 0 (length keys) 0
 
   abbrev pub short : Bool
-  short = leisTooShort (length keys) (length leis) (length slice)
+  short = leis_too_short (length keys) (length leis) (length slice)
 
   abbrev Room : Type 0
   Room = LeisRoom (length keys) (length leis) (length slice)
 
   room-exactly : (short ≡ false) ↔ Room
-  unfolding leisTooShort
+  unfolding leis_too_short
   room-exactly = (
     λ e.
         let (a, b) = neither (ltb (length leis) (20 * length keys)) (ltb (length slice) 16) e in
@@ -50,88 +50,88 @@ module _ (text leis slice : List ℕ) where
     λ h. rw (le-ltb (length leis) (20 * length keys) h.each, le-ltb (length slice) 16 h.answer),
   )
 
-  written-when : ((namingAnswer text leis slice).number ≡ 0) ↔ (Submits text (submissionIn text) × Room)
-  unfolding namingAnswer
-  written-when =
+  written_when : ((naming_answer text leis slice).number ≡ 0) ↔ (Submits text (submission_in text) × Room)
+  unfolding naming_answer
+  written_when =
       let both = to-exactly text short counted refl in
       let file = (read-exactly text).read in
       (λ e. (file.0 (both.0 e).0, room-exactly.0 (both.0 e).1), λ h. both.1 (file.1 h.0, room-exactly.1 h.1))
 
   -- on a refusal nothing is written
-  naming-by : {t : Bool} → eqb (namingAnswer text leis slice).number 0 ≡ t → naming text leis slice ≡ cond t (leiTexts keys) []
+  naming_by : {t : Bool} → eqb (naming_answer text leis slice).number 0 ≡ t → naming text leis slice ≡ cond t (lei_texts keys) []
   unfolding naming
-  naming-by e = ap (λ (read : Bool). cond read (leiTexts keys) []) e
+  naming_by e = ap (λ (read : Bool). cond read (lei_texts keys) []) e
 
-  none-front : leis ≡ front [] leis
+  none_front : leis ≡ front [] leis
   unfolding front
-  none-front = refl
+  none_front = refl
 
-  refused : (a : Answer) (slice' : List ℕ) (r : ℕ) → namingAnswer text leis slice ≡ a → a.number ≢ 0 → Answers a slice slice' r → Names text leis leis slice slice' r
+  refused : (a : Answer) (slice' : List ℕ) (r : ℕ) → naming_answer text leis slice ≡ a → a.number ≢ 0 → Answers a slice slice' r → Names text leis leis slice slice' r
   refused a slice' r e h t =
-      let not-zero : eqb (namingAnswer text leis slice).number 0 ≡ false = rw e (ne_eqb a.number 0 h) in
+      let not-zero : eqb (naming_answer text leis slice).number 0 ≡ false = rw e (ne_eqb a.number 0 h) in
       let not-read : r ≢ 0 = λ z. h (sym t.number ∙ z) in
       record {
         returned = rw e t;
-        written = rw (naming-by not-zero) none-front;
+        written = rw (naming_by not-zero) none_front;
         untouched = λ _. refl;
         lei = λ z. absurd (not-read z);
         many = λ z. absurd (not-read z);
-        exactly = rw (t.number ∙ sym (ap number e)) written-when;
+        exactly = rw (t.number ∙ sym (ap number e)) written_when;
       }
 
   -- an LEI is read back where its number says
-  read_back : {leis' : List ℕ} → leis' ≡ front (leiTexts keys) leis → (s : Submission) (h : Submits text s) (i k : ℕ) → i < length s.rows → number_at s.rows i ≡ 100 + k
-      → take 20 (drop (20 * k) leis') ≡ textAt h.holdings i
+  read_back : {leis' : List ℕ} → leis' ≡ front (lei_texts keys) leis → (s : Submission) (h : Submits text s) (i k : ℕ) → i < length s.rows → number_at s.rows i ≡ 100 + k
+      → take 20 (drop (20 * k) leis') ≡ text_at h.holdings i
   unfolding front
   read_back e s h i k l n =
       let named = (read-exactly text).lei s h i k l n in
       let all = (read-exactly text).leis s h in
-      let inside : k < length keys = omega (arith, named.inside, ap (λ (ts : List (List ℕ)). length ts) all, length-map keys leiText) in
+      let inside : k < length keys = omega (arith, named.inside, ap (λ (ts : List (List ℕ)). length ts) all, length-map keys lei_text) in
       rw e (text-read keys k _ inside)
-      ∙ sym (named.here ∙ ap (λ (ts : List (List ℕ)). get_or ts k []) all ∙ getD-map-in leiText keys k noKey [] inside)
+      ∙ sym (named.here ∙ ap (λ (ts : List (List ℕ)). get_or ts k []) all ∙ get_or-map_in lei_text keys k no_key [] inside)
 
   module _ {rows : ℕ} {book lines book' lines' high' low' : List ℕ} {d : Contents} (from-file : ReadsFile text rows book lines book' lines' high' low' d) where
-    pub record-refused : {n place : ℕ} (slice' : List ℕ) (r : ℕ) → d ≡ Refused n place → Answers (makeAnswer n place 0) slice slice' r → Names text leis leis slice slice' r
-    unfolding namingAnswer
-    record-refused {n} {place} slice' r e t =
+    pub record_refused : {n place : ℕ} (slice' : List ℕ) (r : ℕ) → d ≡ Refused n place → Answers (make_answer n place 0) slice slice' r → Names text leis leis slice slice' r
+    unfolding naming_answer
+    record_refused {n} {place} slice' r e t =
         let (other, fault) = refusal-known from-file e in
-        refused (makeAnswer n place 0) slice' r (to-refused text short counted refl (λ z. other (sym (ap number fault) ∙ z)) ∙ fault) other t
+        refused (make_answer n place 0) slice' r (to-refused text short counted refl (λ z. other (sym (ap number fault) ∙ z)) ∙ fault) other t
 
     -- nothing is refused
     module _ {h : Head} {n m corporations : ℕ} (e : d ≡ Read h n m corporations) where
       -- the list is measured for what the text has
-      pub measured : {two : Bool} → two ≡ leisTooShort corporations (length leis) (length slice) → two ≡ short
+      pub measured : {two : Bool} → two ≡ leis_too_short corporations (length leis) (length slice) → two ≡ short
       measured t = t ∙ rw (← leis-counted from-file e)
 
       module _ {two : Bool} (same : two ≡ short) where
-        pub list-refused : (slice' : List ℕ) (r : ℕ) → two ≡ true → Answers (makeAnswer 2 0 0) slice slice' r → Names text leis leis slice slice' r
-        unfolding namingAnswer
-        list-refused slice' r t answered =
-            refused (makeAnswer 2 0 0) slice' r (to_none text short counted (no-fault from-file e) ∙ rw (sym same ∙ t)) (λ w. omega arith) answered
+        pub list_refused : (slice' : List ℕ) (r : ℕ) → two ≡ true → Answers (make_answer 2 0 0) slice slice' r → Names text leis leis slice slice' r
+        unfolding naming_answer
+        list_refused slice' r t answered =
+            refused (make_answer 2 0 0) slice' r (to_none text short counted (no_fault from-file e) ∙ rw (sym same ∙ t)) (λ w. omega arith) answered
 
         module _ (fits : two ≡ false) where
-          pub put-room : {high low : List ℕ} → TableRoom rows text book lines high low → length high' ≡ length high → length low' ≡ length low
+          pub put_room : {high low : List ℕ} → TableRoom rows text book lines high low → length high' ≡ length high → length low' ≡ length low
               → (corporations ≤ length high') × (corporations ≤ length low') × (20 * corporations ≤ length leis)
-          put-room room a b =
+          put_room room a b =
               let few = few-corporations from-file e in
               let enough = (room-exactly.0 (sym same ∙ fits)).each in
-              (omega (arith, room.room-high), omega (arith, room.room-low), omega (arith, leis-counted from-file e, enough))
+              (omega (arith, room.room_high), omega (arith, room.room_low), omega (arith, leis-counted from-file e, enough))
 
-          pub all_named : {leis' : List ℕ} (slice' : List ℕ) (r : ℕ) → leis' ≡ front (leiTexts (table corporations high' low')) leis
-              → Answers (makeAnswer 0 corporations 0) slice slice' r → Names text leis leis' slice slice' r
-          unfolding namingAnswer
+          pub all_named : {leis' : List ℕ} (slice' : List ℕ) (r : ℕ) → leis' ≡ front (lei_texts (table corporations high' low')) leis
+              → Answers (make_answer 0 corporations 0) slice slice' r → Names text leis leis' slice slice' r
+          unfolding naming_answer
           all_named {leis'} slice' r put answered =
-              let whole : namingAnswer text leis slice ≡ makeAnswer 0 corporations 0 =
-              to_none text short counted (no-fault from-file e) ∙ rw (sym same ∙ fits, leis-counted from-file e) in
-              let zero : eqb (namingAnswer text leis slice).number 0 ≡ true = rw whole in
-              let texts : leis' ≡ front (leiTexts keys) leis = put ∙ rw (leis-held from-file e) in
+              let whole : naming_answer text leis slice ≡ make_answer 0 corporations 0 =
+              to_none text short counted (no_fault from-file e) ∙ rw (sym same ∙ fits, leis-counted from-file e) in
+              let zero : eqb (naming_answer text leis slice).number 0 ≡ true = rw whole in
+              let texts : leis' ≡ front (lei_texts keys) leis = put ∙ rw (leis-held from-file e) in
               record {
                 returned = rw whole answered;
-                written = rw (naming-by zero) texts;
+                written = rw (naming_by zero) texts;
                 untouched = λ h. absurd (h answered.number);
                 lei = λ _. read_back texts;
                 many = λ _ s h.
                     ap (λ (a : Answer). a.first) whole
-                    ∙ sym (ap (λ (ts : List (List ℕ)). length ts) ((read-exactly text).leis s h) ∙ length-map keys leiText ∙ leis-counted from-file e);
-                exactly = rw (answered.number ∙ sym (ap number whole)) written-when;
+                    ∙ sym (ap (λ (ts : List (List ℕ)). length ts) ((read-exactly text).leis s h) ∙ length-map keys lei_text ∙ leis-counted from-file e);
+                exactly = rw (answered.number ∙ sym (ap number whole)) written_when;
               }

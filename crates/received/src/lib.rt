@@ -2,10 +2,10 @@
 ghost use Rattle.std.specs.Prelude.{◌≡◌, [], ◌∷◌, ◌*◌, ◌≤◌, length};
 ghost use Rattle.lists.specs.Tables.{front};
 ghost use Rattle.lei.specs.Numbering.{table};
-ghost use Rattle.columns.specs.Columns.{makeColumns};
+ghost use Rattle.columns.specs.Columns.{make_columns};
 ghost use Rattle.reader.specs.File.{TableRoom};
 ghost use Rattle.received.specs.Reading.{Reads};
-ghost use Rattle.received.specs.Naming.{leiTexts, leisTooShort, Names};
+ghost use Rattle.received.specs.Naming.{lei_texts, leis_too_short, Names};
 
 use reader::Contents;
 
@@ -34,11 +34,11 @@ pub fn read_into(
 ) -> u64
     requires { TableRoom rows text.now book.old lines.old high.old low.old }
     ensures { Reads text.now head.old head.new
-        (makeColumns
+        (make_columns
         (side.old ∷ kind.old ∷ issuer.old ∷ maturity.old ∷ value.old ∷ currency.old ∷ rating.old ∷ [])
         price.old
         (long.old ∷ short.old ∷ amount.old ∷ []))
-        (makeColumns
+        (make_columns
         (side.new ∷ kind.new ∷ issuer.new ∷ maturity.new ∷ value.new ∷ currency.new ∷ rating.new ∷ [])
         price.new
         (long.new ∷ short.new ∷ amount.new ∷ []))
@@ -85,7 +85,7 @@ pub fn read_into(
 
 // Whether a list of bytes has fewer than 20 for each LEI, or an answer slice fewer than 16.
 fn leis_too_short(count: usize, leis: usize, answer: usize) -> bool
-    ensures { result ≡ leisTooShort count leis answer }
+    ensures { result ≡ leis_too_short count leis answer }
 {
     if leis / 20 < count {
         return true;
@@ -96,7 +96,7 @@ fn leis_too_short(count: usize, leis: usize, answer: usize) -> bool
 // Writes the first `count` LEIs of two lists one after another at the front of a list of bytes; the others are kept.
 fn put_leis(high: &[u64], low: &[u64], count: usize, out: &mut [u8])
     requires { (count ≤ length high.now) × (count ≤ length low.now) × (20 * count ≤ length out.old) }
-    ensures { out.new ≡ front (leiTexts (table count high.now low.now)) out.old }
+    ensures { out.new ≡ front (lei_texts (table count high.now low.now)) out.old }
 {
     let mut i = 0;
     while i < count {

@@ -10,27 +10,27 @@ use lib.Seq.{take_all, drop-length, length-take-le}
 use borrow.Author.Tests.{eqb-true, ltb-false, ne_eqb}
 use Rattle.lists.specs.Choice.{first_of}
 use Rattle.lists.specs.Tables.{front}
-use Rattle.lists.proofs.Firsts.{Numbered, first-of-none, none_first, numbered-append, numbered-in-turn}
+use Rattle.lists.proofs.Firsts.{Numbered, first_of-none, none_first, numbered-append, numbered-in_turn}
 use Rattle.lists.proofs.Tables.{length_to}
 use Rattle.lists.proofs.Tests.{by-test, by_end, either_way, neither}
-use Rattle.holding.specs.Holding.{headFaults}
+use Rattle.holding.specs.Holding.{head_faults}
 use Rattle.holding.specs.declared.{Head.Head, Row.Row}
-use Rattle.article.specs.Answer.{Answer, makeAnswer}
+use Rattle.article.specs.Answer.{Answer, make_answer}
 use Rattle.proposal.specs.Outcome.{at_place}
 use Rattle.proposal.proofs.Places.{listed_at}
 use Rattle.words.specs.Words.{word_at, encode}
 use Rattle.lent.specs.Boundary.{Answers}
-use Rattle.daybook.specs.Book.{valued, heldIn, totalsOf, accountAt, Book, makeBook, holdingsIn}
-use Rattle.daybook.specs.Orders.{descriptionFaults, sumFaults, joinFaults, takingFaults, dateFaults, atMatured, maturedFaults, orderFaults, fromTotals, fromRows}
-use Rattle.daybook.specs.Orders.{answer_of, lentFaults, rowsFaults, totalsFaults, faults}
-use Rattle.daybook.specs.Orders.{holdingsAfter, dateAfter, stored, dayAfter, bookAfter, acceptedAnswer, outcome, accepted, booked}
+use Rattle.daybook.specs.Book.{valued, held_in, totals_of, account_at, Book, make_book, holdings_in}
+use Rattle.daybook.specs.Orders.{description_faults, sum_faults, join_faults, taking_faults, date_faults, at_matured, matured_faults, order_faults, from_totals, from_rows}
+use Rattle.daybook.specs.Orders.{answer_of, lent_faults, rows_faults, totals_faults, faults}
+use Rattle.daybook.specs.Orders.{holdings_after, date_after, stored, day_after, book_after, accepted_answer, outcome, accepted, booked}
 use Rattle.daybook.specs.declared.{Day.Day}
 use Rattle.daybook.specs.declared.Order.{Order, TheVariants.Add, TheVariants.Take, TheVariants.MoveTo}
 use Rattle.daybook.proofs.Described.{description-listed}
-use Rattle.booking.specs.Seeing.{tradeOf, changed, Concluded}
+use Rattle.booking.specs.Seeing.{trade_of, changed, Concluded}
 use Rattle.booking.specs.declared.Outcome.{Outcome}
 use Rattle.booking.proofs.Seen.{rows-numbered}
-use Rattle.records.specs.Records.{recordsIn, rowsIn, encodeRows, totalsIn, tooShort, Slices, makeSlices, shortIn, dayIn, lentBook, headAfter, Books}
+use Rattle.records.specs.Records.{records_in, rows_in, encode_rows, totals_in, too_short, Slices, make_slices, short_in, day_in, lent_book, head_after, Books}
 use Rattle.records.specs.Writing.{Rewritten, Stored, Writable, Replied}
 use Rattle.records.proofs.Lent.{lent-numbers}
 use Rattle.records.proofs.Bytes.{Bytes}
@@ -38,8 +38,8 @@ use Rattle.records.proofs.Rows.{length-rows, rows_back, front-rows}
 use Rattle.records.proofs.Rewriting.{still}
 
 -- a list lent with too little is refused with 3 or 2, whatever its totals are
-short-refused : (b : Book) (o : Order) → outcome true b o ≡ cond (ltb 256 b.day.count) (makeAnswer 3 0 0) (makeAnswer 2 0 0)
-unfolding outcome faults lentFaults at_place first_of
+short-refused : (b : Book) (o : Order) → outcome true b o ≡ cond (ltb 256 b.day.count) (make_answer 3 0 0) (make_answer 2 0 0)
+unfolding outcome faults lent_faults at_place first_of
 short-refused b o = rw (or-true (ltb (length b.list) b.day.count))
 
 short-number : (b : Book) (o : Order) → accepted true b o ≡ false
@@ -48,57 +48,57 @@ short-number b o = rw (short-refused b o) (either_way (ltb 256 b.day.count) (λ 
 
 -- rows that were written over the list's: none, or at its front
 module _ {before after : List ℕ} (own : Bytes before) (its : Bytes after) where
-  rewritten-all : {rows : List Row} → Rewritten rows before after → after ≡ encodeRows rows ++ drop (56 * recordsIn before) before
-  unfolding recordsIn
-  rewritten-all w =
-      let same : recordsIn after ≡ recordsIn before = ap (◌/ 56) w.long in
+  rewritten_all : {rows : List Row} → Rewritten rows before after → after ≡ encode_rows rows ++ drop (56 * records_in before) before
+  unfolding records_in
+  rewritten_all w =
+      let same : records_in after ≡ records_in before = ap (◌/ 56) w.long in
       sym (rows_back after its) ∙ rw (w.rows, same, w.rest)
 
-  rewritten-same : Rewritten (rowsIn before) before after → after ≡ before
-  rewritten-same w = rewritten-all w ∙ rows_back before own
+  rewritten_same : Rewritten (rows_in before) before after → after ≡ before
+  rewritten_same w = rewritten_all w ∙ rows_back before own
 
-  rewritten-front : (hs : List Row) → Rewritten (front hs (rowsIn before)) before after → after ≡ front (encodeRows hs) before
-  unfolding front recordsIn
-  rewritten-front hs w =
-      let rows = rowsIn before in
-      let same : recordsIn after ≡ recordsIn before = ap (◌/ 56) w.long in
-      let long : length (hs ++ drop (length hs) rows) ≡ recordsIn before = ap (length {A = Row}) (sym w.rows) ∙ length-rows after ∙ same in
-      let few : length hs ≤ recordsIn before = omega (arith, long, length-append hs (drop (length hs) rows), length-drop (length hs) rows) in
-      rewritten-all w ∙ front-rows before own hs few
+  rewritten_front : (hs : List Row) → Rewritten (front hs (rows_in before)) before after → after ≡ front (encode_rows hs) before
+  unfolding front records_in
+  rewritten_front hs w =
+      let rows = rows_in before in
+      let same : records_in after ≡ records_in before = ap (◌/ 56) w.long in
+      let long : length (hs ++ drop (length hs) rows) ≡ records_in before = ap (length {A = Row}) (sym w.rows) ∙ length-rows after ∙ same in
+      let few : length hs ≤ records_in before = omega (arith, long, length-append hs (drop (length hs) rows), length-drop (length hs) rows) in
+      rewritten_all w ∙ front-rows before own hs few
 
 -- a refusal has a number, so that an accepted order has the answer of one
 abbrev number : Answer → ℕ
 number a = a.number
 
-order-numbered : (room : ℕ) (d : Day) (rows : List Row) (o : Order) → Numbered number (orderFaults room d rows o)
-unfolding orderFaults sumFaults joinFaults takingFaults dateFaults maturedFaults atMatured
+order-numbered : (room : ℕ) (d : Day) (rows : List Row) (o : Order) → Numbered number (order_faults room d rows o)
+unfolding order_faults sum_faults join_faults taking_faults date_faults matured_faults at_matured
 order-numbered room d rows (Add t) =
-    let described = descriptionFaults (accountAt d) t in
-    let summed = sumFaults (heldIn rows t) t.value in
-    let listed = numbered-append (λ n. n) described summed (description-listed (accountAt d) t) (omega arith, tt) in
-    listed_at 0 _ (numbered-append (λ n. n) (described ++ summed) (joinFaults room rows t) listed (omega arith, (omega arith, tt)))
+    let described = description_faults (account_at d) t in
+    let summed = sum_faults (held_in rows t) t.value in
+    let listed = numbered-append (λ n. n) described summed (description-listed (account_at d) t) (omega arith, tt) in
+    listed_at 0 _ (numbered-append (λ n. n) (described ++ summed) (join_faults room rows t) listed (omega arith, (omega arith, tt)))
 order-numbered room d rows (Take t) =
-    let described = descriptionFaults (accountAt d) t in
-    listed_at 0 _ (numbered-append (λ n. n) described (takingFaults (heldIn rows t) t.value) (description-listed (accountAt d) t) (omega arith, tt))
+    let described = description_faults (account_at d) t in
+    listed_at 0 _ (numbered-append (λ n. n) described (taking_faults (held_in rows t) t.value) (description-listed (account_at d) t) (omega arith, tt))
 order-numbered room d rows (MoveTo to) =
-    numbered-append number (at_place 0 (dateFaults d.date to)) (maturedFaults rows to) (listed_at 0 _ (omega arith, (omega arith, tt)))
-    (numbered-in-turn number (atMatured rows to) (λ k. listed_at k _ (omega arith, tt)) (length rows))
+    numbered-append number (at_place 0 (date_faults d.date to)) (matured_faults rows to) (listed_at 0 _ (omega arith, (omega arith, tt)))
+    (numbered-in_turn number (at_matured rows to) (λ k. listed_at k _ (omega arith, tt)) (length rows))
 
 faults-numbered : (short : Bool) (b : Book) (o : Order) → Numbered number (faults short b o)
-unfolding faults lentFaults headFaults totalsFaults
+unfolding faults lent_faults head_faults totals_faults
 faults-numbered short b o =
     let room = length b.list in
     let d = b.day in
-    let rows = holdingsIn b in
-    let off = at_place 0 (totalsFaults d rows) in
-    let from-totals = numbered-append number off (orderFaults room d rows o) (listed_at 0 _ (omega arith, tt)) (order-numbered room d rows o) in
-    numbered-append number (at_place 0 (lentFaults short room d)) (fromRows room d rows o) (listed_at 0 _ (omega arith, (omega arith, (omega arith, (omega arith, tt)))))
-    (numbered-append number (rowsFaults (accountAt d) rows) (fromTotals room d rows o) (rows-numbered (accountAt d) rows) from-totals)
+    let rows = holdings_in b in
+    let off = at_place 0 (totals_faults d rows) in
+    let from-totals = numbered-append number off (order_faults room d rows o) (listed_at 0 _ (omega arith, tt)) (order-numbered room d rows o) in
+    numbered-append number (at_place 0 (lent_faults short room d)) (from_rows room d rows o) (listed_at 0 _ (omega arith, (omega arith, (omega arith, (omega arith, tt)))))
+    (numbered-append number (rows_faults (account_at d) rows) (from_totals room d rows o) (rows-numbered (account_at d) rows) from-totals)
 
-accepted-answer : (short : Bool) (b : Book) (o : Order) → (outcome short b o).number ≡ 0 → outcome short b o ≡ acceptedAnswer (holdingsIn b) o
+accepted_answer_lem : (short : Bool) (b : Book) (o : Order) → (outcome short b o).number ≡ 0 → outcome short b o ≡ accepted_answer (holdings_in b) o
 unfolding outcome
-accepted-answer short b o z =
-    first-of-none (faults short b o) _ (none_first number (faults short b o) (acceptedAnswer (holdingsIn b) o) (faults-numbered short b o) z).0
+accepted_answer_lem short b o z =
+    first_of-none (faults short b o) _ (none_first number (faults short b o) (accepted_answer (holdings_in b) o) (faults-numbered short b o) z).0
 
 -- the first entries of a list at its front
 front-taken : (n : ℕ) (xs : List Row) → front (take n xs) xs ≡ xs
@@ -114,36 +114,36 @@ front-taken n xs =
 
 -- an order to what is lent, which the core judged with what was read as stored
 module _ (before : Slices) {s : Bool} {o : Order} {count : ℕ} {h : Head} {d : Day} {out : Outcome}
-    (is : s ≡ tooShort (length before.totals) (length before.answer))
-    (st : Stored count before.totals h d) (judged : Concluded s (makeBook d (rowsIn before.list)) o out) where
+    (is : s ≡ too_short (length before.totals) (length before.answer))
+    (st : Stored count before.totals h d) (judged : Concluded s (make_book d (rows_in before.list)) o out) where
   abbrev short : Bool
-  short = shortIn before
+  short = short_in before
 
   abbrev lent : Book
-  lent = lentBook count h before
+  lent = lent_book count h before
 
   abbrev read : Book
-  read = makeBook d (rowsIn before.list)
+  read = make_book d (rows_in before.list)
 
   con : Concluded short read o out
-  unfolding shortIn
+  unfolding short_in
   con = subst (λ (x : Bool). Concluded x read o out) is judged
 
   -- where nothing else is too short, that is the book
   long-totals : short ≡ false → 40 ≤ length before.totals
-  unfolding shortIn tooShort
+  unfolding short_in too_short
   long-totals e = ltb-false (length before.totals) 40 (neither (ltb (length before.totals) 40) (ltb (length before.answer) 16) e).0
 
   long-answer : short ≡ false → 16 ≤ length before.answer
-  unfolding shortIn tooShort
+  unfolding short_in too_short
   long-answer e = ltb-false (length before.answer) 16 (neither (ltb (length before.totals) 40) (ltb (length before.answer) 16) e).1
 
   same-book : short ≡ false → read ≡ lent
-  unfolding lentBook
-  same-book e = λ i. makeBook (st.whole (long-totals e) i) (rowsIn before.list)
+  unfolding lent_book
+  same-book e = λ i. make_book (st.whole (long-totals e) i) (rows_in before.list)
 
   same_outcome : outcome short read o ≡ outcome short lent o
-  unfolding lentBook dayIn
+  unfolding lent_book day_in
   same_outcome =
       either_way short
       (λ e. rw e (short-refused read o ∙ rw st.count (sym (short-refused lent o))))
@@ -155,24 +155,24 @@ module _ (before : Slices) {s : Bool} {o : Order} {count : ℕ} {h : Head} {d : 
 
   -- there is room for its totals
   pub room : Writable out.reply.finding out.reply.day.totals before.totals
-  unfolding accepted booked bookAfter dayAfter stored totalsOf
+  unfolding accepted booked book_after day_after stored totals_of
   room z =
       let y : accepted short read o ≡ true = rw (sym (ap number con.answer) ∙ z) in
-      let five : out.reply.day.totals ≡ (bookAfter read o).day.totals = ap (λ (x : Day). x.totals) con.day ∙ rw y in
+      let five : out.reply.day.totals ≡ (book_after read o).day.totals = ap (λ (x : Day). x.totals) con.day ∙ rw y in
       (rw five (length_to 5 _), long-totals (not_short read y))
 
   -- a change that was written leaves the book's rows, and so does a move, which changes none
-  abbrev change-by : Row → List Row
-  change-by t = changed out.change (valued t out.change.value) (rowsIn before.list)
+  abbrev change_by : Row → List Row
+  change_by t = changed out.change (valued t out.change.value) (rows_in before.list)
 
-  as-booked : {t : Row} {after : List ℕ} → t ≡ tradeOf o → Rewritten (change-by t) before.list after → Rewritten (booked short read o).list before.list after
-  as-booked {after = after} e w =
-      subst (λ (xs : List Row). Rewritten xs before.list after) (ap change-by e ∙ con.list) w
+  as_booked : {t : Row} {after : List ℕ} → t ≡ trade_of o → Rewritten (change_by t) before.list after → Rewritten (booked short read o).list before.list after
+  as_booked {after = after} e w =
+      subst (λ (xs : List Row). Rewritten xs before.list after) (ap change_by e ∙ con.list) w
 
   as_moved : (to : ℕ) → o ≡ MoveTo to → Rewritten (booked short read o).list before.list before.list
-  unfolding booked bookAfter holdingsAfter holdingsIn
+  unfolding booked book_after holdings_after holdings_in
   as_moved to e =
-      let rows = rowsIn before.list in
+      let rows = rows_in before.list in
       rw e (still (by-test (λ (x : Book). x.list ≡ rows) (accepted short read (MoveTo to)) (λ _. front-taken d.count rows) (λ _. refl)))
 
   -- what is written
@@ -189,23 +189,23 @@ module _ (before : Slices) {s : Bool} {o : Order} {count : ℕ} {h : Head} {d : 
       long : short ≡ false
       long = not_short lent y
 
-      left : booked short read o ≡ bookAfter lent o
+      left : booked short read o ≡ book_after lent o
       unfolding booked
       left = ap (λ (x : Book). booked short x o) (same-book long) ∙ rw y
 
-      list_written : after.list ≡ front (encodeRows (holdingsAfter o (holdingsIn lent))) before.list
-      unfolding bookAfter lentBook
-      list_written = rewritten-front own its (holdingsAfter o (holdingsIn lent)) (rw left at w)
+      list_written : after.list ≡ front (encode_rows (holdings_after o (holdings_in lent))) before.list
+      unfolding book_after lent_book
+      list_written = rewritten_front own its (holdings_after o (holdings_in lent)) (rw left at w)
 
-      five : out.reply.day.totals ≡ (dayAfter lent.day (holdingsIn lent) o).totals
-      unfolding bookAfter
+      five : out.reply.day.totals ≡ (day_after lent.day (holdings_in lent) o).totals
+      unfolding book_after
       five = ap (λ (x : Day). x.totals) (con.day ∙ ap (λ (x : Book). x.day) left)
 
       zero_number : (outcome short lent o).number ≡ 0
       unfolding accepted
       zero_number = eqb-true (outcome short lent o).number 0 y
 
-      totals-written : after.totals ≡ front (encode (dayAfter lent.day (holdingsIn lent) o).totals) before.totals
+      totals-written : after.totals ≡ front (encode (day_after lent.day (holdings_in lent) o).totals) before.totals
       totals-written = p.written ∙ rw (same_number, zero_number, five)
 
     -- of a refused one nothing
@@ -213,25 +213,25 @@ module _ (before : Slices) {s : Bool} {o : Order} {count : ℕ} {h : Head} {d : 
       list-kept : after.list ≡ before.list
       unfolding accepted booked
       list-kept =
-          let kept : (booked short read o).list ≡ rowsIn before.list = rw (same_outcome, n) in
-          rewritten-same own its (rw kept at w)
+          let kept : (booked short read o).list ≡ rows_in before.list = rw (same_outcome, n) in
+          rewritten_same own its (rw kept at w)
 
       totals-kept : after.totals ≡ before.totals
       unfolding accepted
       totals-kept = p.written ∙ rw (same_number, n)
 
     -- the book that is lent next
-    lent-next : r ≡ 0 → lentBook (word_at after.answer 0) (headAfter o h) after ≡ booked short lent o
-    unfolding lentBook dayIn headAfter booked bookAfter dayAfter stored accepted acceptedAnswer
+    lent-next : r ≡ 0 → lent_book (word_at after.answer 0) (head_after o h) after ≡ booked short lent o
+    unfolding lent_book day_in head_after booked book_after day_after stored accepted accepted_answer
     lent-next z =
         let zero : (outcome short lent o).number ≡ 0 = sym answered.number ∙ z in
         let y : accepted short lent o ≡ true = rw zero in
-        let new : word_at after.answer 0 ≡ length (holdingsAfter o (holdingsIn lent)) =
-        ap (λ (a : Answer). a.first) (answered.reads (long-answer (long y)) ∙ accepted-answer short lent o zero) in
-        let totals : totalsIn after.totals ≡ (dayAfter lent.day (holdingsIn lent) o).totals = p.back (same_number ∙ zero) ∙ five y in
-        let rows : rowsIn after.list ≡ (bookAfter lent o).list = w.rows ∙ ap (λ (x : Book). x.list) (left y) in
-        let next : lentBook (word_at after.answer 0) (headAfter o h) after ≡ bookAfter lent o =
-        λ i. makeBook (record { date = dateAfter o h.date; letter = h.letter; count = new i; totals = totals i }) (rows i) in
+        let new : word_at after.answer 0 ≡ length (holdings_after o (holdings_in lent)) =
+        ap (λ (a : Answer). a.first) (answered.reads (long-answer (long y)) ∙ accepted_answer_lem short lent o zero) in
+        let totals : totals_in after.totals ≡ (day_after lent.day (holdings_in lent) o).totals = p.back (same_number ∙ zero) ∙ five y in
+        let rows : rows_in after.list ≡ (book_after lent o).list = w.rows ∙ ap (λ (x : Book). x.list) (left y) in
+        let next : lent_book (word_at after.answer 0) (head_after o h) after ≡ book_after lent o =
+        λ i. make_book (record { date = date_after o h.date; letter = h.letter; count = new i; totals = totals i }) (rows i) in
         next ∙ rw zero
 
     books : Books o count h before after r
@@ -247,11 +247,11 @@ module _ (before : Slices) {s : Bool} {o : Order} {count : ℕ} {h : Head} {d : 
     }
 
   -- a change that was written, and a move, which writes none
-  pub books-written : {after : Slices} {r : ℕ} {t : Row} → Bytes before.list → Bytes after.list → t ≡ tradeOf o → Rewritten (change-by t) before.list after.list
+  pub books_written : {after : Slices} {r : ℕ} {t : Row} → Bytes before.list → Bytes after.list → t ≡ trade_of o → Rewritten (change_by t) before.list after.list
       → Replied out.reply.finding out.reply.day.totals before.totals after.totals before.answer after.answer r → Books o count h before after r
-  books-written own its e w p = books own its (as-booked e w) p
+  books_written own its e w p = books own its (as_booked e w) p
 
-  pub books-moved : {totals answer : List ℕ} {r : ℕ} (to : ℕ) → o ≡ MoveTo to → Bytes before.list
+  pub books_moved : {totals answer : List ℕ} {r : ℕ} (to : ℕ) → o ≡ MoveTo to → Bytes before.list
       → Replied out.reply.finding out.reply.day.totals before.totals totals before.answer answer r
-      → Books o count h before (makeSlices before.list totals answer) r
-  books-moved to e own p = books own own (as_moved to e) p
+      → Books o count h before (make_slices before.list totals answer) r
+  books_moved to e own p = books own own (as_moved to e) p

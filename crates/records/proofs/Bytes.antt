@@ -5,17 +5,17 @@ use Prim.Native.Nat.{ℕ, zero, suc, ◌+◌, ◌-◌, ◌*◌, ◌/◌, ◌%◌
 use native.Mathlib.Omega.{arith}
 use lib.ListN.{length, take, drop, length-drop, take-append-drop}
 use lib.Seq.{drop_at, take-take, take-add, take_all, drop-drop, length-take-le}
-use Rattle.lists.specs.Tables.{Each, listTo}
+use Rattle.lists.specs.Tables.{Each, list_to}
 use Rattle.lists.proofs.Entries.{each-parts}
-use Rattle.words.specs.Words.{number, littleEndian, word_at, entries, decode, encode}
+use Rattle.words.specs.Words.{number, little_endian, word_at, entries, decode, encode}
 
 -- numbers that one byte holds
 abbrev pub Bytes : List ℕ → Type 0
 Bytes xs = Each (λ x. x < 256) xs
 
 -- digits are those of their number
-digits-back : (ds : List ℕ) → Bytes ds → littleEndian (length ds) (number ds) ≡ ds
-unfolding number littleEndian
+digits-back : (ds : List ℕ) → Bytes ds → little_endian (length ds) (number ds) ≡ ds
+unfolding number little_endian
 digits-back [] h = refl
 digits-back (d ∷ ds) h =
     let low : (d + 256 * number ds) % 256 ≡ d = omega (arith, h.0) in
@@ -25,7 +25,7 @@ digits-back (d ∷ ds) h =
 pub encode-append : (xs ys : List ℕ) → encode (xs ++ ys) ≡ encode xs ++ encode ys
 unfolding encode
 encode-append [] ys = refl
-encode-append (x ∷ xs) ys = rw (encode-append xs ys) (sym (append_assoc (littleEndian 8 x) (encode xs) (encode ys)))
+encode-append (x ∷ xs) ys = rw (encode-append xs ys) (sym (append_assoc (little_endian 8 x) (encode xs) (encode ys)))
 
 -- a part of bytes
 pub bytes_take : (n : ℕ) (xs : List ℕ) → Bytes xs → Bytes (take n xs)
@@ -48,23 +48,23 @@ part-part at m n k xs h l =
     ∙ rw (take-add m (n - m) ys, drop_at (take m ys) (take (n - m) (drop m ys)) m long, take-take k (n - m) (drop m ys) (omega arith), drop-drop m at xs)
 
 -- the digits of the number in the i-th eight bytes are these
-eight-back : (bytes : List ℕ) (i : ℕ) → Bytes bytes → 8 * i + 8 ≤ length bytes → littleEndian 8 (word_at bytes i) ≡ take 8 (drop (8 * i) bytes)
+eight-back : (bytes : List ℕ) (i : ℕ) → Bytes bytes → 8 * i + 8 ≤ length bytes → little_endian 8 (word_at bytes i) ≡ take 8 (drop (8 * i) bytes)
 unfolding word_at
 eight-back bytes i b h =
     let part = take 8 (drop (8 * i) bytes) in
     rw (length_part (8 * i) 8 bytes h) at (digits-back part (bytes_take 8 (drop (8 * i) bytes) (bytes_drop (8 * i) bytes b)))
 
 -- numbers that were read of bytes have these bytes
-encode-words : (n : ℕ) (bytes : List ℕ) → Bytes bytes → 8 * n ≤ length bytes → encode (listTo n (word_at bytes)) ≡ take (8 * n) bytes
-unfolding listTo encode
-encode-words zero bytes b h = refl
-encode-words (suc n) bytes b h =
+encode_words : (n : ℕ) (bytes : List ℕ) → Bytes bytes → 8 * n ≤ length bytes → encode (list_to n (word_at bytes)) ≡ take (8 * n) bytes
+unfolding list_to encode
+encode_words zero bytes b h = refl
+encode_words (suc n) bytes b h =
     let more : 8 * suc n ≡ 8 * n + 8 = omega arith in
-    rw (encode-append (listTo n (word_at bytes)) (word_at bytes n ∷ []), append-nil, encode-words n bytes b (omega arith))
+    rw (encode-append (list_to n (word_at bytes)) (word_at bytes n ∷ []), append-nil, encode_words n bytes b (omega arith))
     (rw (eight-back bytes n b (omega arith), more, take-add (8 * n) 8 bytes))
 
 pub encode-decode : (n : ℕ) (bytes : List ℕ) → Bytes bytes → length bytes ≡ 8 * n → encode (decode bytes) ≡ bytes
 unfolding decode entries
 encode-decode n bytes b e =
     let many : length bytes / 8 ≡ n = omega arith in
-    rw many (encode-words n bytes b (omega arith) ∙ take_all (8 * n) bytes (omega arith))
+    rw many (encode_words n bytes b (omega arith) ∙ take_all (8 * n) bytes (omega arith))

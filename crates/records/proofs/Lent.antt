@@ -6,16 +6,16 @@ use lib.ListN.{length}
 use borrow.Author.Tests.{ltb-false, le-ltb}
 use Rattle.lists.proofs.Tests.{neither}
 use Rattle.holding.specs.declared.Head.{Head}
-use Rattle.records.specs.Records.{Slices, recordsIn, tooShort, shortIn, dayIn, lentBook, LentNumbers}
+use Rattle.records.specs.Records.{Slices, records_in, too_short, short_in, day_in, lent_book, LentNumbers}
 use Rattle.records.proofs.Rows.{length-rows, row_read, whole}
-use Rattle.records.proofs.Rewriting.{row-of}
+use Rattle.records.proofs.Rewriting.{row_of_lem}
 use Rattle.records.proofs.Totals.{five-read}
 
 pub lent-numbers : (count : ℕ) (h : Head) (s : Slices) → LentNumbers count h s
-unfolding lentBook dayIn recordsIn shortIn tooShort
+unfolding lent_book day_in records_in short_in too_short
 lent-numbers count h s = record {
   records = length-rows s.list;
-  each = λ k q. row-of s.list k q ∙ sym (row_read s.list k (7 * k) (whole s.list k q) refl refl refl refl refl refl refl refl);
+  each = λ k q. row_of_lem s.list k q ∙ sym (row_read s.list k (7 * k) (whole s.list k q) refl refl refl refl refl refl refl refl);
   totals = λ l. sym (five-read s.totals l refl refl refl refl refl);
   counted = refl;
   date = refl;

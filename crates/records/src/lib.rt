@@ -1,10 +1,10 @@
 // A book as the host lends it: one list of bytes, 56 for each record, changed in place.
 ghost use Rattle.std.specs.Prelude.{◌≡◌, true, ◌+◌, ◌*◌, ◌≤◌, ◌<◌, length, take, set};
-ghost use Rattle.booking.specs.Seeing.{Seen, movedUp, changed, Fits, Concluded};
-ghost use Rattle.dates.specs.Calendar.{isDate};
-ghost use Rattle.daybook.specs.{Book.valued, Book.makeBook, Orders.answer_of};
+ghost use Rattle.booking.specs.Seeing.{Seen, moved_up, changed, Fits, Concluded};
+ghost use Rattle.dates.specs.Calendar.{is_date};
+ghost use Rattle.daybook.specs.{Book.valued, Book.make_book, Orders.answer_of};
 ghost use Rattle.daybook.specs.declared.Order.{TheVariants.MoveTo};
-ghost use Rattle.records.specs.Records.{recordsIn, row_at, rowsIn, tooShort, makeSlices, Books};
+ghost use Rattle.records.specs.Records.{records_in, row_at, rows_in, too_short, make_slices, Books};
 ghost use Rattle.records.specs.Writing.{Rewritten, Stored, Writable, Replied};
 
 use booking::{Change, Outcome, Scan};
@@ -31,7 +31,7 @@ fn row_at(list: &[u8], i: usize) -> Row
 // Writes a row as record i; all other bytes are kept.
 fn put_row(list: &mut [u8], i: usize, row: Row)
     requires { 56 * i + 56 ≤ length list.old }
-    ensures { Rewritten (set (rowsIn list.old) i row) list.old list.new }
+    ensures { Rewritten (set (rows_in list.old) i row) list.old list.new }
 {
     let w = 7 * i;
     words::put_word(list, w, row.side);
@@ -45,8 +45,8 @@ fn put_row(list: &mut [u8], i: usize, row: Row)
 
 // The first n records, seen one after another.
 fn see_rows(list: &[u8], n: usize, account: Account, trade: Row) -> Scan
-    requires { (56 * n ≤ length list.now) × (n ≤ 256) × (isDate account.date ≡ true) }
-    ensures { Seen account trade (take n (rowsIn list.now)) result }
+    requires { (56 * n ≤ length list.now) × (n ≤ 256) × (is_date account.date ≡ true) }
+    ensures { Seen account trade (take n (rows_in list.now)) result }
 {
     let mut scan = booking::unseen();
     let mut i: usize = 0;
@@ -59,7 +59,7 @@ fn see_rows(list: &[u8], n: usize, account: Account, trade: Row) -> Scan
 
 // The outcome of an order to a book whose records these are.
 fn judge(list: &[u8], day: Day, order: Order, short: bool) -> Outcome
-    ensures { Fits (recordsIn list.now) result.change × Concluded short (makeBook day (rowsIn list.now)) order result }
+    ensures { Fits (records_in list.now) result.change × Concluded short (make_book day (rows_in list.now)) order result }
 {
     let room = list.len() / 56;
     let opening = booking::open(day, room, short);
@@ -73,7 +73,7 @@ fn judge(list: &[u8], day: Day, order: Order, short: bool) -> Outcome
 // Records from `first` to before `end` move up by one place.
 fn move_up(list: &mut [u8], first: usize, end: usize)
     requires { (1 ≤ first) × (56 * end ≤ length list.old) }
-    ensures { Rewritten (movedUp first end (rowsIn list.old)) list.old list.new }
+    ensures { Rewritten (moved_up first end (rows_in list.old)) list.old list.new }
 {
     if first >= end {
         return;
@@ -88,8 +88,8 @@ fn move_up(list: &mut [u8], first: usize, end: usize)
 
 // Changes the list: records move up, and then the trade with the change's value is written, where the list has that record.
 fn write(list: &mut [u8], change: Change, trade: Row)
-    requires { Fits (recordsIn list.old) change }
-    ensures { Rewritten (changed change (valued trade change.value) (rowsIn list.old)) list.old list.new }
+    requires { Fits (records_in list.old) change }
+    ensures { Rewritten (changed change (valued trade change.value) (rows_in list.old)) list.old list.new }
 {
     move_up(list, change.first, change.end);
     let at = change.at;
@@ -102,7 +102,7 @@ fn write(list: &mut [u8], change: Change, trade: Row)
 
 // Whether totals have fewer than 40 bytes, or an answer slice fewer than 16.
 fn too_short(totals: usize, answer: usize) -> bool
-    ensures { result ≡ tooShort totals answer }
+    ensures { result ≡ too_short totals answer }
 {
     if totals < 40 {
         return true;
@@ -185,8 +185,8 @@ pub fn book(
     answer: &mut [u8],
 ) -> u64
     ensures { Books order count head
-        (makeSlices list.old totals.old answer.old)
-        (makeSlices list.new totals.new answer.new) result }
+        (make_slices list.old totals.old answer.old)
+        (make_slices list.new totals.new answer.new) result }
 {
     let short = too_short(totals.len(), answer.len());
     let day = day_of(count, totals, head);
@@ -206,8 +206,8 @@ pub fn move_to(
     answer: &mut [u8],
 ) -> u64
     ensures { Books (MoveTo to) count head
-        (makeSlices list.now totals.old answer.old)
-        (makeSlices list.now totals.new answer.new) result }
+        (make_slices list.now totals.old answer.old)
+        (make_slices list.now totals.new answer.new) result }
 {
     let short = too_short(totals.len(), answer.len());
     let day = day_of(count, totals, head);

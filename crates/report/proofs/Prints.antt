@@ -9,8 +9,8 @@ use borrow.Author.Tests.{lt-ltb, le-ltb, ltb-true, ltb-false}
 use Rattle.lists.specs.Tables.{front}
 use Rattle.lists.proofs.Overwrite.{overwrite-front}
 use Rattle.lists.proofs.Tests.{either_way}
-use Rattle.article.specs.Answer.{makeAnswer}
-use Rattle.report.specs.Report.{Written, printedAnswer, Prints}
+use Rattle.article.specs.Answer.{make_answer}
+use Rattle.report.specs.Report.{Written, printed_answer, Prints}
 use Rattle.report.specs.declared.Printed.{Printed}
 use Rattle.report.specs.declared.Printed.TheVariants.{Written as Put, Refused}
 use Rattle.report.proofs.Written.{written-part, written-counted, written-few}
@@ -23,15 +23,15 @@ module _ (text old : List ℕ) where
       record { case = rw t; bytes = rw t e }
 
   -- left alone, where there is not
-  pub refused-prints : length old < length text → Prints text old old (Refused 2)
-  refused-prints h =
+  pub refused_prints : length old < length text → Prints text old old (Refused 2)
+  refused_prints h =
       let t = lt-ltb (length old) (length text) h in
       record { case = rw t; bytes = rw t }
 
 -- written into a buffer and printed from there: no longer than the buffer
-pub buffer-prints : {text blank buffer old now : List ℕ} {n room : ℕ} {r : Printed} → length buffer ≤ room → Written text 0 n blank buffer → Prints (take n buffer) old now r
+pub buffer_prints : {text blank buffer old now : List ℕ} {n room : ℕ} {r : Printed} → length buffer ≤ room → Written text 0 n blank buffer → Prints (take n buffer) old now r
     → Prints text old now r × (length text ≤ room)
-buffer-prints h w p = (rw (written-part w) at p, omega (arith, w.ends, written-few w))
+buffer_prints h w p = (rw (written-part w) at p, omega (arith, w.ends, written-few w))
 
 module _ {text old now : List ℕ} {r : Printed} (p : Prints text old now r) where
   put-case : length text ≤ length old → (r ≡ Put (length text)) × Written text 0 (length text) old now
@@ -44,13 +44,13 @@ module _ {text old now : List ℕ} {r : Printed} (p : Prints text old now r) whe
       let t = lt-ltb (length old) (length text) h in
       (rw t at p.case, rw t at p.bytes)
 
-  pub prints-written : length text ≤ length old → (printedAnswer r ≡ makeAnswer 0 (length text) 0) × (now ≡ front text old)
+  pub prints-written : length text ≤ length old → (printed_answer r ≡ make_answer 0 (length text) 0) × (now ≡ front text old)
   prints-written h =
       let (e, w) = put-case h in
       (rw e, w.bytes ∙ overwrite-front text old)
 
-  pub prints-too-short : length old < length text → (printedAnswer r ≡ makeAnswer 2 0 0) × (now ≡ old)
-  prints-too-short h =
+  pub prints-too_short : length old < length text → (printed_answer r ≡ make_answer 2 0 0) × (now ≡ old)
+  prints-too_short h =
       let (e, same) = refused-case h in
       (rw e, same)
 

@@ -1,10 +1,10 @@
 // What is printed of a verdict: its lines, as bytes in a lent list.
 ghost use Rattle.std.specs.Prelude.{◌≡◌, ◌+◌, ◌*◌, ◌≤◌, ◌<◌, length, get_or, take};
 ghost use mathlib.Core.List.{[], ◌∷◌, flat_map};
-ghost use Rattle.lists.specs.Tables.{listTo};
-ghost use Rattle.article.specs.Answer.{makeAnswer};
+ghost use Rattle.lists.specs.Tables.{list_to};
+ghost use Rattle.article.specs.Answer.{make_answer};
 ghost use Rattle.verdict.specs.Judges.{answer_of};
-ghost use Rattle.report.specs.Report.{Written, reportRoom, Prints, afterComma, line_of, answerNumbers, refusalLine, judgedLine, reportOf};
+ghost use Rattle.report.specs.Report.{Written, report_room, Prints, after_comma, line_of, answer_numbers, refusal_line, judged_line, report_of};
 
 use verdict::Verdict;
 
@@ -30,7 +30,7 @@ fn put_byte(byte: u8, at: usize, out: &mut [u8]) -> usize
 // Writes a comma and the numeral of x from `at` on, and returns the place after them.
 fn put_number(x: u64, at: usize, out: &mut [u8]) -> usize
     requires { at + 21 ≤ length out.old }
-    ensures { Written (afterComma x) at result out.old out.new × (result ≤ at + 21) }
+    ensures { Written (after_comma x) at result out.old out.new × (result ≤ at + 21) }
 {
     let next = put_byte(b',', at, out);
     numerals::put_digits(x, next, out)
@@ -53,7 +53,7 @@ fn put_line(letter: u8, numbers: [u64; 3], count: usize, at: usize, out: &mut [u
 
 // The paper's number and values of a verdict.
 fn numbers_of(verdict: Verdict) -> [u64; 3]
-    ensures { result ≡ answerNumbers (answer_of verdict) }
+    ensures { result ≡ answer_numbers (answer_of verdict) }
 {
     match verdict {
         Verdict::Accepted { units, cents } => [0, units, cents],
@@ -87,7 +87,7 @@ fn put_remainders(
 ) -> usize
     requires { at + 66 * 256 ≤ length out.old }
     ensures { Written
-        (flat_map (judgedLine left.now margins.now) (take count (listTo 256 (λ k. get_or ranks.now k 0))))
+        (flat_map (judged_line left.now margins.now) (take count (list_to 256 (λ k. get_or ranks.now k 0))))
         at result out.old out.new }
 {
     let mut next = at;
@@ -114,8 +114,8 @@ fn put_report(
     ranks: &[u64],
     out: &mut [u8],
 ) -> usize
-    requires { reportRoom ≤ length out.old }
-    ensures { Written (reportOf verdict count left.now margins.now ranks.now)
+    requires { report_room ≤ length out.old }
+    ensures { Written (report_of verdict count left.now margins.now ranks.now)
         0 result out.old out.new }
 {
     let numbers = numbers_of(verdict);
@@ -147,9 +147,9 @@ pub fn report(
     ranks: &[u64],
     out: &mut [u8],
 ) -> Printed
-    ensures prints { Prints (reportOf verdict count left.now margins.now ranks.now)
+    ensures prints { Prints (report_of verdict count left.now margins.now ranks.now)
         out.old out.new result }
-    ensures ranks_len_bound { length (reportOf verdict count left.now margins.now ranks.now) ≤ reportRoom }
+    ensures ranks_len_bound { length (report_of verdict count left.now margins.now ranks.now) ≤ report_room }
 {
     let mut lines = [0u8; ROOM];
     let n = put_report(verdict, count, left, margins, ranks, &mut lines);
@@ -158,8 +158,8 @@ pub fn report(
 
 // Prints the line of a refusal.
 pub fn refusal(number: u64, place: u64, second: u64, out: &mut [u8]) -> Printed
-    ensures prints { Prints (refusalLine (makeAnswer number place second)) out.old out.new result }
-    ensures second_len_bound { length (refusalLine (makeAnswer number place second)) ≤ reportRoom }
+    ensures prints { Prints (refusal_line (make_answer number place second)) out.old out.new result }
+    ensures second_len_bound { length (refusal_line (make_answer number place second)) ≤ report_room }
 {
     let mut line = [0u8; 66];
     let n = put_line(b'X', [number, place, second], 3, 0, &mut line);

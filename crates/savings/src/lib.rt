@@ -1,15 +1,15 @@
 // What two legs save as a pair.
 ghost use Rattle.std.specs.Prelude.{◌≡◌, ◌≤◌};
-ghost use Rattle.article.specs.Pair.{rateLimit, savingLimit, RateInRange};
-ghost use Rattle.savings.specs.Savings.{ruleSaving, savingOf};
+ghost use Rattle.article.specs.Pair.{rate_limit, saving_limit, RateInRange};
+ghost use Rattle.savings.specs.Savings.{rule_saving, saving_of};
 
 use article::pair;
 use article::pair::{Leg, Rule};
 
 // What a rule saves of two rates, without the rate that it makes of them.
 fn rule_saving(rule: Rule, long: u64, short: u64) -> u64
-    requires { (long ≤ rateLimit) × (short ≤ rateLimit) }
-    ensures { result ≡ ruleSaving rule long short }
+    requires { (long ≤ rate_limit) × (short ≤ rate_limit) }
+    ensures { result ≡ rule_saving rule long short }
 {
     match rule {
         Rule::Difference => { if short < long { 2 * short } else { 2 * long } }
@@ -22,7 +22,7 @@ fn rule_saving(rule: Rule, long: u64, short: u64) -> u64
 // What two legs save as a pair, 0 where the article does not allow it.
 pub fn saving(long: Leg, short: Leg) -> u64
     requires { RateInRange long × RateInRange short }
-    ensures { (result ≡ savingOf long short) × (result ≤ savingLimit) }
+    ensures { (result ≡ saving_of long short) × (result ≤ saving_limit) }
 {
     if long.side == 0 && short.side == 1 && long.period == short.period {
         let rule = pair::rule_of(long, short);

@@ -3,19 +3,19 @@ use mathlib.Core.{Path.◌≡◌, Bool.Bool, Bool.not, Bool.◌||◌, List.List}
 use Rattle.std.specs.Prelude.{ℕ, ◌*◌, ◌/◌, ◌≤◌}
 use lib.{Dec.ltb, Dec.eqb, ListN.get_or}
 use Rattle.lists.specs.{Choice.first_of, Choice.some, Tables.Each}
-use Rattle.proposal.specs.Outcome.{sizeFaults}
+use Rattle.proposal.specs.Outcome.{size_faults}
 
 -- as many entries as the first of several columns has whole eight bytes
-unfoldable pub entriesOf : List ℕ → ℕ
-entriesOf columns = get_or columns 0 0 / 8
+unfoldable pub entries_of : List ℕ → ℕ
+entries_of columns = get_or columns 0 0 / 8
 
 -- each has eight bytes for each of them, and none besides
 abbrev pub Equal : List ℕ → Type 0
-Equal columns = Each (λ size. size ≡ 8 * entriesOf columns) columns
+Equal columns = Each (λ size. size ≡ 8 * entries_of columns) columns
 
 -- 1 holding columns, or line columns, differ in length, or a byte length is no multiple of eight
 unfoldable pub unequal : List ℕ → Bool
-unequal columns = some (λ size. not (eqb size (8 * entriesOf columns))) columns
+unequal columns = some (λ size. not (eqb size (8 * entries_of columns))) columns
 
 unfoldable pub differ : List ℕ → List ℕ → Bool
 differ holdings lines = unequal holdings || unequal lines
@@ -26,15 +26,15 @@ pub record Room (lists : List (ℕ × ℕ)) (slice : ℕ) : Type 0 where
   pub answer : 16 ≤ slice
 
 -- 2 a lent list is shorter than what must be written
-unfoldable pub tooShort : List (ℕ × ℕ) → ℕ → Bool
-tooShort lists slice = some (λ list. ltb (list.1 / 8) list.0) lists || ltb slice 16
+unfoldable pub too_short : List (ℕ × ℕ) → ℕ → Bool
+too_short lists slice = some (λ list. ltb (list.1 / 8) list.0) lists || ltb slice 16
 
 -- the lengths: neither 1 nor 2 holds of what is lent, by the byte lengths of the columns, the lists to be written and the answer slice
 pub record Lengths (holdings lines : List ℕ) (lists : List (ℕ × ℕ)) (slice : ℕ) : Type 0 where
-  pub equal-holdings : Equal holdings
-  pub equal-lines : Equal lines
+  pub equal_holdings : Equal holdings
+  pub equal_lines : Equal lines
   pub room : Room lists slice
 
 -- the first that holds of 1, 3, 9, 2, or 0; `two` says whether 2 holds of what is lent
-unfoldable pub lengthFault : List ℕ → List ℕ → Bool → ℕ
-lengthFault holdings lines two = first_of (sizeFaults (differ holdings lines) two (entriesOf holdings) (entriesOf lines)) 0
+unfoldable pub length_fault : List ℕ → List ℕ → Bool → ℕ
+length_fault holdings lines two = first_of (size_faults (differ holdings lines) two (entries_of holdings) (entries_of lines)) 0

@@ -1,6 +1,6 @@
 // The byte lengths of what the host lends.
 ghost use Rattle.std.specs.Prelude.{◌≡◌, [], ◌∷◌};
-ghost use Rattle.sizes.specs.Sizes.{tooShort, lengthFault};
+ghost use Rattle.sizes.specs.Sizes.{too_short, length_fault};
 
 // The refusal by the lengths of what is lent, in document 01's order 1, 3, 9, 2, or 0; `two` says whether 2 holds.
 pub fn lengths(
@@ -17,7 +17,7 @@ pub fn lengths(
     amount: usize,
     two: bool,
 ) -> u64
-    ensures { result ≡ lengthFault (side ∷ kind ∷ issuer ∷ maturity ∷ value ∷ currency ∷ rating ∷ price ∷ []) (long ∷ short ∷ amount ∷ []) two }
+    ensures { result ≡ length_fault (side ∷ kind ∷ issuer ∷ maturity ∷ value ∷ currency ∷ rating ∷ price ∷ []) (long ∷ short ∷ amount ∷ []) two }
 {
     let n = side / 8;
     let m = long / 8;
@@ -51,7 +51,7 @@ pub fn lengths(
 
 // Whether a list that the check writes is shorter than what must be written: an entry for each of n holdings, and the answer slice's 16 bytes.
 pub fn lists_too_short(n: usize, remainder: usize, ranking: usize, answer: usize) -> bool
-    ensures { result ≡ tooShort ((n, remainder) ∷ (n, ranking) ∷ []) answer }
+    ensures { result ≡ too_short ((n, remainder) ∷ (n, ranking) ∷ []) answer }
 {
     (remainder / 8 < n) | (ranking / 8 < n) | (answer < 16)
 }
@@ -74,7 +74,7 @@ pub fn columns_too_short(
     amount: usize,
     answer: usize,
 ) -> bool
-    ensures { result ≡ tooShort ((2, head)
+    ensures { result ≡ too_short ((2, head)
         ∷ (holdings, side) ∷ (holdings, kind) ∷ (holdings, issuer) ∷ (holdings, maturity)
         ∷ (holdings, value) ∷ (holdings, currency) ∷ (holdings, rating) ∷ (holdings, price)
         ∷ (lines, long) ∷ (lines, short) ∷ (lines, amount) ∷ []) answer }

@@ -10,25 +10,25 @@ use borrow.Author.Tests.{not-false, ltb-false}
 use Rattle.lists.specs.Choice.{first_of}
 use Rattle.lists.proofs.Tests.{neither}
 use Rattle.lists.proofs.Firsts.{None, Listed}
-use Rattle.holding.specs.Holding.{valueLimit}
-use Rattle.article.specs.Pair.{allowed, pairRateOf, savingRateOf, rateLimit, savingLimit}
+use Rattle.holding.specs.Holding.{value_limit}
+use Rattle.article.specs.Pair.{allowed, pair_rate_of, saving_rate_of, rate_limit, saving_limit}
 use Rattle.article.specs.declared.pair.Leg.{Leg}
-use Rattle.article.proofs.Legs.{allowed-meets, allowed-high}
+use Rattle.article.proofs.Legs.{allowed_meets, allowed_high}
 use Rattle.article.proofs.Saved.{saving-high}
-use Rattle.proposal.specs.Submission.{marginLimit, savedLimit}
-use Rattle.proposal.specs.Outcome.{pairFaults}
+use Rattle.proposal.specs.Submission.{margin_limit, saved_limit}
+use Rattle.proposal.specs.Outcome.{pair_faults}
 use Rattle.proposal.proofs.Places.{pair-listed}
-use Rattle.tally.specs.Lines.{refusals, taken, appliedOf, Ready}
+use Rattle.tally.specs.Lines.{refusals, taken, applied_of, Ready}
 use Rattle.tally.specs.declared.Tally.{Tally}
 use Rattle.tally.specs.declared.Applied.{Applied}
 use Rattle.tally.specs.declared.Applied.TheVariants.{Taken, Refused}
 
 -- one line adds no more units and no more saving than the highest rates times the highest value
 pub record High (amount rate save : ℕ) : Type 0 where
-  pub units : rate * amount ≤ marginLimit
-  pub saving : save * amount ≤ savedLimit
+  pub units : rate * amount ≤ margin_limit
+  pub saving : save * amount ≤ saved_limit
 
-pub high : {amount rate save : ℕ} → amount ≤ valueLimit → rate ≤ rateLimit → save ≤ savingLimit → High amount rate save
+pub high : {amount rate save : ℕ} → amount ≤ value_limit → rate ≤ rate_limit → save ≤ saving_limit → High amount rate save
 high amount rate save = record { units = mul-le-mul rate amount; saving = mul-le-mul save amount }
 
 -- what is answered by a number is the first refusal, whatever follows; what is answered by a tally, no refusal
@@ -53,33 +53,33 @@ first_taken ((false, m) ∷ fs) t t' e =
     ((refl, n), s)
 
 -- no refusal holds: the pair is allowed, and its long has the amount
-passed : (l s : Leg) (amount a b : ℕ) → None (pairFaults l s amount a b) → (allowed l s ≡ true) × (amount ≤ a)
-unfolding pairFaults
+passed : (l s : Leg) (amount a b : ℕ) → None (pair_faults l s amount a b) → (allowed l s ≡ true) × (amount ≤ a)
+unfolding pair_faults
 passed l s amount a b none =
     (not-false (allowed l s) none.1.0, ltb-false a amount (neither (ltb a amount) (ltb b amount) none.1.1.1.0).0)
 
 -- a line taken off: no refusal holds, the new tally, two legs, and bounds of what the line adds
 pub record Took (t : Tally) (amount : ℕ) (long short : Leg) (after : Tally) : Type 0 where
-  pub none : None (pairFaults long short amount t.long t.short)
+  pub none : None (pair_faults long short amount t.long t.short)
   pub tally : after ≡ taken t amount long short
   pub apart : long ≡ short → ⊥
-  pub high : High amount (pairRateOf long short) (savingRateOf long short)
+  pub high : High amount (pair_rate_of long short) (saving_rate_of long short)
 
-module _ (t : Tally) (amount : ℕ) (long short : Leg) {r : Applied} (applies : r ≡ appliedOf t amount long short) where
-  pub refused : {n : ℕ} → r ≡ Refused n → (n ≡ first_of (pairFaults long short amount t.long t.short) 0) × (1 ≤ n)
-  unfolding appliedOf
+module _ (t : Tally) (amount : ℕ) (long short : Leg) {r : Applied} (applies : r ≡ applied_of t amount long short) where
+  pub refused : {n : ℕ} → r ≡ Refused n → (n ≡ first_of (pair_faults long short amount t.long t.short) 0) × (1 ≤ n)
+  unfolding applied_of
   refused {n} e = first-refused _ (taken t amount long short) n (rw e at applies) (pair-listed _ _ _ _ _)
 
   pub took : {after : Tally} → Ready t long short → r ≡ Taken after → Took t amount long short after
-  unfolding appliedOf
+  unfolding applied_of
   took {after} ready e =
-      let (none, is) = first_taken (pairFaults long short amount t.long t.short) (taken t amount long short) after (rw e at applies) in
+      let (none, is) = first_taken (pair_faults long short amount t.long t.short) (taken t amount long short) after (rw e at applies) in
       let (may, within) = passed long short amount _ _ none in
-      let meets = allowed-meets long short may in
+      let meets = allowed_meets long short may in
       record {
         none = none;
         tally = is;
         apart = λ same. omega (arith, meets.long, meets.short, ap (λ (x : Leg). x.side) same);
         high = high (le_trans within ready.left)
-            (allowed-high long short may ready.long-rate ready.short-rate) (saving-high long short ready.long-rate ready.short-rate);
+            (allowed_high long short may ready.long_rate ready.short_rate) (saving-high long short ready.long_rate ready.short_rate);
       }

@@ -2,16 +2,16 @@
 use mathlib.Core.{Path.◌≡◌, Bool.Bool, Bool.cond, List.List, List.map}
 use Rattle.std.specs.Prelude.{ℕ, ◌+◌, ◌-◌, ◌*◌, ◌≤◌}
 use Rattle.lists.specs.{Choice.first_of, Tables.Each, Tables.front}
-use Rattle.holding.specs.Holding.{valueLimit}
-use Rattle.article.specs.Pair.{pairRateOf, savingRateOf, RateInRange}
+use Rattle.holding.specs.Holding.{value_limit}
+use Rattle.article.specs.Pair.{pair_rate_of, saving_rate_of, RateInRange}
 use Rattle.article.specs.declared.pair.Leg.{Leg}
-use Rattle.proposal.specs.{Submission.marginLimit, Submission.savedLimit, Submission.remaindersOf, Outcome.pairFaults, Outcome.makeFault, Outcome.faultAnswer, Outcome.linesFaults}
-use Rattle.proposal.specs.{Outcome.firstFault, Submission.PricedBook, Submission.termsOf}
+use Rattle.proposal.specs.{Submission.margin_limit, Submission.saved_limit, Submission.remainders_of, Outcome.pair_faults, Outcome.make_fault, Outcome.fault_answer, Outcome.lines_faults}
+use Rattle.proposal.specs.{Outcome.first_fault, Submission.PricedBook, Submission.terms_of}
 use Rattle.tally.specs.declared.{Tally.Tally, Applied.Applied, Applied.TheVariants.Taken, Applied.TheVariants.Refused, Walked.Walked}
 use lib.{Dec.eqb, ListN.length, ListN.take}
 use Rattle.pairing.specs.Pairing as pairing
 use Rattle.pairing.specs.declared.Line.{Line}
-use Rattle.columns.specs.Columns.{countIn}
+use Rattle.columns.specs.Columns.{count_in}
 use Rattle.packed.specs.Packed.{Legs, LegsOf, Same, AtMost, entry}
 
 -- refusals, each with its test, as answers on a line
@@ -23,47 +23,47 @@ unfoldable pub taken : Tally → ℕ → Leg → Leg → Tally
 taken t amount long short = record {
   long = t.long - amount;
   short = t.short - amount;
-  units = t.units + pairRateOf long short * amount;
-  saving = t.saving + savingRateOf long short * amount;
+  units = t.units + pair_rate_of long short * amount;
+  saving = t.saving + saving_rate_of long short * amount;
 }
 
 -- the answer on one line: the first of 12 to 15 that holds against what the tally has left, by its number, or the new tally
-unfoldable pub appliedOf : Tally → ℕ → Leg → Leg → Applied
-appliedOf t amount long short = first_of (refusals (pairFaults long short amount t.long t.short)) (Taken (taken t amount long short))
+unfoldable pub applied_of : Tally → ℕ → Leg → Leg → Applied
+applied_of t amount long short = first_of (refusals (pair_faults long short amount t.long t.short)) (Taken (taken t amount long short))
 
 -- a tally of at most 511 lines, and two legs
 pub record Ready (t : Tally) (long short : Leg) : Type 0 where
-  pub long-rate : RateInRange long
-  pub short-rate : RateInRange short
-  pub left : t.long ≤ valueLimit
-  pub units : t.units ≤ 511 * marginLimit
-  pub saving : t.saving ≤ 511 * savedLimit
+  pub long_rate : RateInRange long
+  pub short_rate : RateInRange short
+  pub left : t.long ≤ value_limit
+  pub units : t.units ≤ 511 * margin_limit
+  pub saving : t.saving ≤ 511 * saved_limit
 
 -- what is lent: packed legs and values of n holdings within the limits, and columns of at most 512 lines
 pub record LinesLent (n : ℕ) (legs left : List ℕ) (columns : List (List ℕ)) : Type 0 where
   pub bounded : Legs n legs
   pub held : n ≤ length left
-  pub high : AtMost valueLimit n (entry left)
-  pub few : countIn columns ≤ 512
-  pub each : Each (λ c. 8 * countIn columns ≤ length c) columns
+  pub high : AtMost value_limit n (entry left)
+  pub few : count_in columns ≤ 512
+  pub each : Each (λ c. 8 * count_in columns ≤ length c) columns
 
 -- a fault at a place, or 0 for none, beside units and saving
-unfoldable pub stoppedAt : ℕ → ℕ → ℕ → ℕ → Walked
-stoppedAt number place units saving = record { fault = makeFault number place 0; units = units; saving = saving }
+unfoldable pub stopped_at : ℕ → ℕ → ℕ → ℕ → Walked
+stopped_at number place units saving = record { fault = make_fault number place 0; units = units; saving = saving }
 
 -- the lines that were taken off: all, or those before the one at fault
-unfoldable pub takenLines : Walked → List Line → List Line
-takenLines r lines = cond (eqb r.fault.number 0) lines (take r.fault.place lines)
+unfoldable pub taken_lines : Walked → List Line → List Line
+taken_lines r lines = cond (eqb r.fault.number 0) lines (take r.fault.place lines)
 
 -- what the walk over a book's lines finds: the first fault; units and saving of the lines taken off; and what they leave of each holding
 pub record Walks (b : PricedBook) (lines : List Line) (before after : List ℕ) (r : Walked) : Type 0 where
-  pub fault : faultAnswer r.fault ≡ firstFault (linesFaults b lines)
-  pub units : r.units ≡ pairing.pairUnits (termsOf b) (takenLines r lines)
-  pub saving : r.saving ≡ pairing.saving (termsOf b) (takenLines r lines)
-  pub left : after ≡ front (remaindersOf b (takenLines r lines)) before
+  pub fault : fault_answer r.fault ≡ first_fault (lines_faults b lines)
+  pub units : r.units ≡ pairing.pair_units (terms_of b) (taken_lines r lines)
+  pub saving : r.saving ≡ pairing.saving (terms_of b) (taken_lines r lines)
+  pub left : after ≡ front (remainders_of b (taken_lines r lines)) before
 
 -- what taking the lines in turn promises, of whichever book the lent lists hold; and bounds
 pub record Takes (n : ℕ) (legs before : List ℕ) (lines : List Line) (after : List ℕ) (r : Walked) : Type 0 where
   pub walks : (b : PricedBook) → LegsOf b n legs → Same n (entry before) b.value → Walks b lines before after r
-  pub units-high : r.units ≤ 512 * marginLimit
-  pub left-high : AtMost valueLimit n (entry after)
+  pub units-high : r.units ≤ 512 * margin_limit
+  pub left_high : AtMost value_limit n (entry after)

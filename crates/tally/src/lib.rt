@@ -1,7 +1,7 @@
 // The lines of a proposal in turn, each against what is unpaired of its two holdings.
 ghost use Rattle.std.specs.Prelude.{◌≡◌, [], ◌∷◌};
-ghost use Rattle.columns.specs.Columns.{linesIn};
-ghost use Rattle.tally.specs.Lines.{Ready, appliedOf, LinesLent, stoppedAt, Takes};
+ghost use Rattle.columns.specs.Columns.{lines_in};
+ghost use Rattle.tally.specs.Lines.{Ready, applied_of, LinesLent, stopped_at, Takes};
 
 use article::pair;
 use article::pair::{Leg, Pair};
@@ -35,7 +35,7 @@ impl Tally {
     // One pair line of an amount on its two legs.
     pub fn apply(self, amount: u64, long: Leg, short: Leg) -> Applied
         requires { Ready self long short }
-        ensures { result ≡ appliedOf self amount long short }
+        ensures { result ≡ applied_of self amount long short }
     {
         if long.side != 0 {
             return Applied::Refused(12);
@@ -69,7 +69,7 @@ impl Tally {
 
 // A fault at a line, or 0 for none, beside the units and the saving of the lines taken off.
 fn stopped(number: u64, place: usize, units: u64, saving: u64) -> Walked
-    ensures { result ≡ stoppedAt number place units saving }
+    ensures { result ≡ stopped_at number place units saving }
 {
     Walked {
         fault: proposal::fault_at(number, place, 0),
@@ -88,7 +88,7 @@ pub fn take_lines(
     amount: &[u8],
 ) -> Walked
     requires { LinesLent n legs.now left.old (long.now ∷ short.now ∷ amount.now ∷ []) }
-    ensures { Takes n legs.now left.old (linesIn (long.now ∷ short.now ∷ amount.now ∷ [])) left.new result }
+    ensures { Takes n legs.now left.old (lines_in (long.now ∷ short.now ∷ amount.now ∷ [])) left.new result }
 {
     let m = long.len() / 8;
     let mut units: u64 = 0;

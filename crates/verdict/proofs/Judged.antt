@@ -6,16 +6,16 @@ use Prim.Native.Nat.{ℕ}
 use lib.ListN.{length}
 use borrow.Author.Tests.{ne_eqb}
 use Rattle.ranking.proofs.Ranking.{ranking, ranking-length}
-use Rattle.article.specs.Answer.{Answer, makeAnswer}
+use Rattle.article.specs.Answer.{Answer, make_answer}
 use Rattle.holding.specs.declared.Head.{Head}
-use Rattle.columns.specs.Columns.{Columns, submission, holdingSizes, lineSizes}
+use Rattle.columns.specs.Columns.{Columns, submission, holding_sizes, line_sizes}
 use Rattle.sizes.specs.Sizes.{differ}
-use Rattle.proposal.specs.Submission.{Submission, priced, margin, unitsOf, ranked, InRankingOrder, centsOf, RoundedUp}
-use Rattle.proposal.specs.Outcome.{faultAnswer, accepted}
+use Rattle.proposal.specs.Submission.{Submission, priced, margin, units_of, ranked, InRankingOrder, cents_of, RoundedUp}
+use Rattle.proposal.specs.Outcome.{fault_answer, accepted}
 use Rattle.proposal.specs.declared.Fault.{Fault}
 use Rattle.proposal.proofs.Demands.{demands}
-use Rattle.proposal.proofs.Figures.{rounded, rounded-once}
-use Rattle.verdict.specs.Judges.{verdictOf, written, refusalOf, outcomeIn, Scratch, Worked, Judges}
+use Rattle.proposal.proofs.Figures.{rounded, rounded_once}
+use Rattle.verdict.specs.Judges.{verdict_of, written, refusal_of, outcome_in, Scratch, Worked, Judges}
 use Rattle.verdict.specs.declared.Verdict.TheVariants.{Accepted}
 
 -- a refusal writes nothing into a list
@@ -34,25 +34,25 @@ module _ (s : Submission) where
   all-ranked = (ranking (margin (priced s) s.lines) (priced s).count).order
 
 module _ (two : Bool) (h : Head) (c : Columns) (before after : Scratch) where
-  pub refusal-judged : (f : Fault) → (f.number ≡ 0 → ⊥) → outcomeIn two h c ≡ faultAnswer f → Judges two h c before after (refusalOf f)
-  unfolding faultAnswer verdictOf outcomeIn
+  pub refusal-judged : (f : Fault) → (f.number ≡ 0 → ⊥) → outcome_in two h c ≡ fault_answer f → Judges two h c before after (refusal_of f)
+  unfolding fault_answer verdict_of outcome_in
   refusal-judged f n e = record {
     answer = sym e;
     verdict = rw (e, ne_eqb f.number 0 n);
     worked = λ z. absurd (n z);
     order = all-ranked (submission h c);
-    keeps = rw (← e) (demands (differ (holdingSizes c) (lineSizes c)) two (submission h c));
+    keeps = rw (← e) (demands (differ (holding_sizes c) (line_sizes c)) two (submission h c));
   }
 
-  pub figures-judged : (units cents : ℕ) → outcomeIn two h c ≡ accepted (priced (submission h c)) (submission h c).lines → units ≡ unitsOf (priced (submission h c)) (submission h c).lines
+  pub figures-judged : (units cents : ℕ) → outcome_in two h c ≡ accepted (priced (submission h c)) (submission h c).lines → units ≡ units_of (priced (submission h c)) (submission h c).lines
       → RoundedUp units cents → Worked h c before after → Judges two h c before after (Accepted units cents)
-  unfolding accepted verdictOf outcomeIn
+  unfolding accepted verdict_of outcome_in
   figures-judged units cents e u r w =
-      let answered : makeAnswer 0 units cents ≡ outcomeIn two h c = rw (rounded-once units cents (centsOf units) r (rounded units), u) (sym e) in
+      let answered : make_answer 0 units cents ≡ outcome_in two h c = rw (rounded_once units cents (cents_of units) r (rounded units), u) (sym e) in
       record {
         answer = answered;
         verdict = rw (← answered);
         worked = λ _. w;
         order = all-ranked (submission h c);
-        keeps = rw answered (demands (differ (holdingSizes c) (lineSizes c)) two (submission h c));
+        keeps = rw answered (demands (differ (holding_sizes c) (line_sizes c)) two (submission h c));
       }

@@ -1,8 +1,8 @@
 // The check: columns in, the answer out. Nothing is presumed of the columns; what it works on are lists that are lent to it.
 ghost use Rattle.std.specs.Prelude.{◌≡◌, [], ◌∷◌};
 ghost use Rattle.words.specs.Words.{entries};
-ghost use Rattle.columns.specs.Columns.{makeColumns};
-ghost use Rattle.verdict.specs.Judges.{refusalOf, ScratchRoom, makeScratch, Judges};
+ghost use Rattle.columns.specs.Columns.{make_columns};
+ghost use Rattle.verdict.specs.Judges.{refusal_of, ScratchRoom, make_scratch, Judges};
 
 use holding::{Head, Headed};
 use proposal::Fault;
@@ -22,7 +22,7 @@ pub enum Verdict {
 }
 
 fn refused(fault: Fault) -> Verdict
-    ensures { result ≡ refusalOf fault }
+    ensures { result ≡ refusal_of fault }
 {
     Verdict::Refused {
         number: fault.number,
@@ -53,12 +53,12 @@ pub fn check(
     ranks: &mut [u64],
 ) -> Verdict
     requires { ScratchRoom (entries side.now) legs.old left.old margins.old ranks.old }
-    ensures { Judges two head (makeColumns
+    ensures { Judges two head (make_columns
         (side.now ∷ kind.now ∷ issuer.now ∷ maturity.now ∷ value.now ∷ currency.now ∷ rating.now ∷ [])
         price.now
         (long.now ∷ short.now ∷ amount.now ∷ []))
-        (makeScratch left.old margins.old ranks.old)
-        (makeScratch left.new margins.new ranks.new) result }
+        (make_scratch left.old margins.old ranks.old)
+        (make_scratch left.new margins.new ranks.new) result }
 {
     let number = sizes::lengths(
         side.len(),

@@ -1,7 +1,7 @@
 // Eight-byte little-endian numbers in byte slices.
 ghost use Rattle.std.specs.Prelude.{◌≡◌, ◌+◌, ◌*◌, ◌/◌, ◌%◌, ◌≤◌, ◌<◌, ◌^◌, length, take, set};
 ghost use Rattle.lists.specs.Tables.{front};
-ghost use Rattle.words.specs.Words.{encode, word_at, withWord};
+ghost use Rattle.words.specs.Words.{encode, word_at, with_word};
 
 // A lowest digit, and the number above it.
 fn join(low: u8, high: u64) -> u64
@@ -46,7 +46,7 @@ fn split(bytes: &mut [u8], o: usize, v: u64) -> u64
 // Writes the i-th number; all other bytes are kept.
 pub fn put_word(bytes: &mut [u8], i: usize, v: u64)
     requires { 8 * i + 8 ≤ length bytes.old }
-    ensures { bytes.new ≡ withWord bytes.old i v }
+    ensures { bytes.new ≡ with_word bytes.old i v }
 {
     let o = 8 * i;
     let o1 = o + 1;

@@ -1,4 +1,4 @@
--- `accepted` is `acceptanceOf`. Assumes nothing.
+-- `accepted` is `acceptance_of`. Assumes nothing.
 use borrow.Author.Rules.{rules}
 use Rattle.booking.proofs.accepted.Statement.{statement}
 use Rattle.booking.proofs.accepted.Tie as tie

@@ -7,8 +7,8 @@ use borrow.Author.Rules.{rules}
 use borrow.Author.Tests.{eqb-true, eqb-false}
 use lib.Dec.{eqb}
 use Rattle.lists.specs.Choice.{first_of}
-use Rattle.booking.specs.Settling.{addingFaults}
-use Rattle.proposal.specs.Submission.{marginLimit}
+use Rattle.booking.specs.Settling.{adding_faults}
+use Rattle.proposal.specs.Submission.{margin_limit}
 use Rattle.booking.proofs.Tested.{adds-value, adds-sum, adds-few}
 use Rattle.booking.proofs.Settled.{fits-put, refusal-fits, place-there, adding-refused, adding-there, adding-joined}
 use Rattle.booking.proofs.adding.Statement.{statement}
@@ -25,14 +25,14 @@ module _ (c : tie.Else1) where
   abbrev start : tie.Start
   start = c.before.before
 
-  none : ◌≡◌ {A = ℕ} (first_of (addingFaults start.args.scan.held start.args.t.value
+  none : ◌≡◌ {A = ℕ} (first_of (adding_faults start.args.scan.held start.args.t.value
       (eqb start.args.scan.at start.args.day.count) start.args.day.count start.args.room) 0) 0
   none = sym c.before.adding-fault.ensures ∙ c.if1.false
 
   sum : start.args.scan.held + start.args.t.value ≤ 100000000000
   sum = adds-sum _ _ _ _ _ none
 
-  margin : start.args.rate * start.args.t.value ≤ marginLimit
+  margin : start.args.rate * start.args.t.value ≤ margin_limit
   margin = mul-le-mul start.pre.high (adds-value _ _ _ _ _ none)
 
 add-next : tie.Need-overflow-add-next

@@ -2,21 +2,21 @@
 use mathlib.Core.Path.{refl, sym, ◌∙◌}
 use borrow.Author.Rules.{rules}
 use borrow.Author.Tests.{not-true, not-false}
-use Rattle.booking.specs.Seeing.{onDate}
-use Rattle.booking.proofs.Opened.{again-none, no-move-adding, no-move-taking, no-date, again-moved, date-fits}
+use Rattle.booking.specs.Seeing.{on_date}
+use Rattle.booking.proofs.Opened.{again-none, no_move_adding, no_move_taking, no_date, again-moved, date-fits}
 use Rattle.booking.proofs.again.Statement.{statement}
 use Rattle.booking.proofs.again.Tie as tie
 
 returns : tie.Need-returns
-returns c = again-none (no-move-adding c.before.before.order.given.1) c.closed.ensures
+returns c = again-none (no_move_adding c.before.before.order.given.1) c.closed.ensures
 
 returns-2 : tie.Need-returns-2
-returns-2 c = again-none (no-move-taking c.before.before.order2.given.1) c.closed2.ensures
+returns-2 c = again-none (no_move_taking c.before.before.order2.given.1) c.closed2.ensures
 
 returns-3 : tie.Need-returns-3
 returns-3 c =
     let asked = c.before.before in
-    again-none (no-date asked.before.before.order3.given.1 (sym asked.is-date.ensures ∙ not-true _ c.before.if1.true)) c.closed3.ensures
+    again-none (no_date asked.before.before.order3.given.1 (sym asked.is-date.ensures ∙ not-true _ c.before.if1.true)) c.closed3.ensures
 
 cast-t11 : tie.Need-overflow-cast-t11
 cast-t11 c =
@@ -25,7 +25,7 @@ cast-t11 c =
     search (rules, fits)
 
 returns-4 : tie.Need-returns-4
-unfolding onDate
+unfolding on_date
 returns-4 c =
     let asked = c.before.before in
     again-moved asked.before.before.order3.given.1 (sym asked.is-date.ensures ∙ not-false _ c.before.if1.false) refl refl

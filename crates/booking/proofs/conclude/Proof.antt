@@ -5,9 +5,9 @@ use mathlib.Core.Bool.{true}
 use borrow.Author.Rules.{rules}
 use borrow.Author.Tests.{not-true, not-false}
 use Rattle.lists.specs.Choice.{same}
-use Rattle.booking.specs.Settling.{tradeOrder}
+use Rattle.booking.specs.Settling.{trade_order}
 use Rattle.booking.proofs.Settled.{refusal-fits}
-use Rattle.booking.proofs.Concluded.{concluded-before, concluded-row, concluded-totals, concluded-adding, concluded-taking, concluded-moving, known-trade}
+use Rattle.booking.proofs.Concluded.{concluded-before, concluded-row, concluded-totals, concluded-adding, concluded-taking, concluded_moving, known-trade}
 use Rattle.booking.proofs.conclude.Statement.{statement}
 use Rattle.booking.proofs.conclude.Tie as tie
 
@@ -58,7 +58,7 @@ traded-requires-2 c κs =
     known-trade (start here).requires (inr c.before.order2.given.1) (clear (at here)).before.if1.false (clear (at here)).if2.false (right here)
 
 returns-4 : tie.Need-returns-4
-unfolding tradeOrder
+unfolding trade_order
 returns-4 c =
     let here = c.before.before.before.before in
     let none = (clear (at here)).before.if1.false in
@@ -69,7 +69,7 @@ returns-4 c =
     }
 
 returns-5 : tie.Need-returns-5
-unfolding tradeOrder
+unfolding trade_order
 returns-5 c =
     let here = c.before.before.before.before in
     let none = (clear (at here)).before.if1.false in
@@ -85,7 +85,7 @@ returns-6 c =
     record {
       fits = c.moving.ensures.fits;
       concluded = λ short list l e.
-          concluded-moving e (clear (at here)).before.if1.false (clear (at here)).if2.false (right here) c.before.before.order3.given.1 (rw l c.moving.ensures.settled);
+          concluded_moving e (clear (at here)).before.if1.false (clear (at here)).if2.false (right here) c.before.before.order3.given.1 (rw l c.moving.ensures.settled);
     }
 
 pub conclude-spec : {M : Type 1} → statement M

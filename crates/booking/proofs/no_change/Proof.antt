@@ -1,4 +1,4 @@
--- `no_change` is `noChange`. Assumes nothing.
+-- `no_change` is `no_change`. Assumes nothing.
 use borrow.Author.Rules.{rules}
 use Rattle.booking.proofs.no_change.Statement.{statement}
 use Rattle.booking.proofs.no_change.Tie as tie

@@ -3,7 +3,7 @@ use mathlib.Core.Path.{refl, sym, ◌∙◌}
 use native.Mathlib.Omega.{arith}
 use borrow.Author.Rules.{rules}
 use Rattle.daybook.specs.Book.{head_of}
-use Rattle.booking.proofs.Opened.{opens-refused, many, no-list, no_other, opens-headless, opens-all}
+use Rattle.booking.proofs.Opened.{opens-refused, many, no_list, no_other, opens_headless, opens-all}
 use Rattle.booking.proofs.open.Statement.{statement}
 use Rattle.booking.proofs.open.Tie as tie
 
@@ -11,7 +11,7 @@ returns : tie.Need-returns
 returns c = opens-refused _ _ _ (many _ _ _ (omega arith)) (λ z. omega arith) c.closed.ensures
 
 returns-2 : tie.Need-returns-2
-returns-2 c = opens-refused _ _ _ (no-list _ _ _ (omega arith) (omega arith)) (λ z. omega arith) c.closed2.ensures
+returns-2 c = opens-refused _ _ _ (no_list _ _ _ (omega arith) (omega arith)) (λ z. omega arith) c.closed2.ensures
 
 returns-3 : tie.Need-returns-3
 returns-3 c = opens-refused _ _ _ (no_other _ _ _ (omega arith) (omega arith) c.before.if3.true) (λ z. omega arith) c.closed3.ensures
@@ -26,7 +26,7 @@ returns-5 : tie.Need-returns-5
 unfolding head_of
 returns-5 c =
     let head = c.before.before.before.before in
-    opens-headless _ _ _ (omega arith) (omega arith) head.before.if3.false c.before.head-fault.ensures (sym head.account-of.ensures ∙ c.before.before.enum_told.given.1)
+    opens_headless _ _ _ (omega arith) (omega arith) head.before.if3.false c.before.head-fault.ensures (sym head.account-of.ensures ∙ c.before.before.enum_told.given.1)
     c.closed4.ensures
 
 pub open_spec : {M : Type 1} → statement M

@@ -1,4 +1,4 @@
--- `refused` is `refusalOf`. Assumes nothing.
+-- `refused` is `refusal_of`. Assumes nothing.
 use borrow.Author.Rules.{rules}
 use Rattle.booking.proofs.refused.Statement.{statement}
 use Rattle.booking.proofs.refused.Tie as tie

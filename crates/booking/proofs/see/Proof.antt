@@ -4,9 +4,9 @@ use Prim.Native.Nat.{◌-◌, ◌*◌, ◌≤◌}
 use native.Mathlib.Omega.{arith}
 use borrow.Author.Rules.{rules}
 use Rattle.holding.proofs.Rows.{made_row, refused-row}
-use Rattle.proposal.specs.Submission.{marginLimit}
+use Rattle.proposal.specs.Submission.{margin_limit}
 use Rattle.booking.proofs.Rows.{made-margin, made-high, made-period}
-use Rattle.booking.proofs.Seen.{seen-refused, seen-fault, seen-counted, totals-next, counted-here, counted-past, counted-later}
+use Rattle.booking.proofs.Seen.{seen-refused, seen-fault, seen-counted, totals-next, counted-here, counted_past, counted_later}
 use Rattle.booking.proofs.see.Statement.{statement}
 use Rattle.booking.proofs.see.Tie as tie
 
@@ -27,7 +27,7 @@ abbrev start : tie.After-rate-in → tie.Start
 start c = (made c).before.before.before
 
 module _ (c : tie.After-rate-in) where
-  margin-low : c.rate-in.result * c.before.before.before.built2.given.0.0.value ≤ marginLimit
+  margin-low : c.rate-in.result * c.before.before.before.built2.given.0.0.value ≤ margin_limit
   margin-low = made-high (made c).holding-of.ensures c.before.before.before.built2.given.1 (start c).requires.valued c.rate-in.ensures
 
 mul-margin : tie.Need-overflow-mul-margin
@@ -58,7 +58,7 @@ returns-4 c = λ rows l seen.
     let built = at.before.before.before.built2.given.1 in
     let builds = (made at).holding-of.ensures in
     seen-counted seen _ none (made_row builds built).1 refl refl
-    (counted-past seen _ none l c.before.before.if2.true (sym c.before.is-alike.ensures ∙ c.if3.false) refl refl
+    (counted_past seen _ none l c.before.before.if2.true (sym c.before.is-alike.ensures ∙ c.if3.false) refl refl
     (totals-next seen _ none (omega (arith, at.before.period.ensures)) (made-period builds built at.before.period.ensures.0 (omega (arith, at.before.period.ensures)))
     (made-margin builds built at.rate-in.ensures)))
 
@@ -69,7 +69,7 @@ returns-5 c = λ rows l seen.
     let built = at.before.before.before.built2.given.1 in
     let builds = (made at).holding-of.ensures in
     seen-counted seen _ none (made_row builds built).1 refl refl
-    (counted-later seen _ none l c.if2.false refl refl
+    (counted_later seen _ none l c.if2.false refl refl
     (totals-next seen _ none (omega (arith, at.before.period.ensures)) (made-period builds built at.before.period.ensures.0 (omega (arith, at.before.period.ensures)))
     (made-margin builds built at.rate-in.ensures)))
 

@@ -4,14 +4,14 @@ use Prim.Native.Nat.{◌-◌, ◌*◌, ◌≤◌, ◌<◌}
 use native.Mathlib.Nat.{mul-le-mul_left}
 use native.Mathlib.Omega.{arith}
 use borrow.Author.Rules.{rules}
-use Rattle.booking.proofs.Settled.{fits-put, refusal-fits, takes-zero, takes-more, taking-refused, taking-there, taking-whole}
+use Rattle.booking.proofs.Settled.{fits-put, refusal-fits, takes_zero, takes-more, taking-refused, taking-there, taking-whole}
 use Rattle.booking.proofs.taking.Statement.{statement}
 use Rattle.booking.proofs.taking.Tie as tie
 
 returns : tie.Need-returns
 returns c = record {
   fits = λ _. refusal-fits c.refused.ensures;
-  settled = λ rows traded rated. taking-refused traded rated (takes-zero _ _ c.before.if1.true) c.refused.ensures;
+  settled = λ rows traded rated. taking-refused traded rated (takes_zero _ _ c.before.if1.true) c.refused.ensures;
 }
 
 returns-2 : tie.Need-returns-2

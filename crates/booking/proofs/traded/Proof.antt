@@ -6,14 +6,14 @@ use borrow.Author.Rules.{rules}
 use Rattle.lists.proofs.Tests.{by-test}
 use Rattle.holding.specs.declared.Account.{Account}
 use Rattle.daybook.specs.declared.Order.{Order}
-use Rattle.booking.specs.Settling.{tradeOrder, Settles, Rated}
+use Rattle.booking.specs.Settling.{trade_order, Settles, Rated}
 use Rattle.booking.proofs.Settled.{refusal-fits}
-use Rattle.booking.proofs.Tradable.{adding-undescribed, taking-undescribed, described-rated, raisable, lowerable}
+use Rattle.booking.proofs.Tradable.{adding_undescribed, taking_undescribed, described-rated, raisable, lowerable}
 use Rattle.booking.proofs.traded.Statement.{statement}
 use Rattle.booking.proofs.traded.Tie as tie
 
 returns : tie.Need-returns
-unfolding tradeOrder
+unfolding trade_order
 returns c =
     let made = c.before.before.before.before in
     let refused = c.before.before.built.given.1 in
@@ -22,8 +22,8 @@ returns c =
       fits = λ _. refusal-fits c.refused.ensures;
       settled = λ w rows traded.
           by-test (λ (o : Order). Settles args.day args.room rows o c.refused.result) args.adds
-          (λ _. adding-undescribed _ made.described.ensures refused w c.refused.ensures)
-          (λ _. taking-undescribed _ made.described.ensures refused w c.refused.ensures);
+          (λ _. adding_undescribed _ made.described.ensures refused w c.refused.ensures)
+          (λ _. taking_undescribed _ made.described.ensures refused w c.refused.ensures);
     }
 
 -- where its rate is known
@@ -53,7 +53,7 @@ taking-requires c κs =
     (omega (arith, at.before.period.ensures)) at.rate-in.ensures (start at).requires (omega (arith, at.before.period.ensures))
 
 returns-2 : tie.Need-returns-2
-unfolding tradeOrder
+unfolding trade_order
 returns-2 c =
     let at = c.before.before in
     record {
@@ -63,7 +63,7 @@ returns-2 c =
     }
 
 returns-3 : tie.Need-returns-3
-unfolding tradeOrder
+unfolding trade_order
 returns-3 c =
     let at = c.before.before in
     record {

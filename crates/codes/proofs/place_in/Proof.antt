@@ -2,7 +2,7 @@
 use Prim.Native.Nat.{◌-◌}
 use native.Mathlib.Omega.{arith}
 use borrow.Author.Rules.{rules}
-use Rattle.codes.proofs.Cells.{Sought, sought-none, sought-room, sought-here, sought-more, sought-all}
+use Rattle.codes.proofs.Cells.{Sought, sought_none, sought_room, sought_here, sought_more, sought_all}
 use Rattle.codes.proofs.place_in.Statement.{statement}
 use Rattle.codes.proofs.place_in.Tie as tie
 
@@ -18,14 +18,14 @@ place-in-spec =
     (tie.spec
     invariant-loop
     decreases-loop
-    (λ c. sought-none _ _ _ _)
-    (λ c. omega (arith, sought-room _ _ _ _ c.before.loop.invariant (search rules) (search rules)))
+    (λ c. sought_none _ _ _ _)
+    (λ c. omega (arith, sought_room _ _ _ _ c.before.loop.invariant (search rules) (search rules)))
     (λ c. search rules)
     (λ c. search rules)
-    (λ c. search (rules, sought-room))
+    (λ c. search (rules, sought_room))
     (λ c κs. search rules)
-    (λ c. sought-here _ _ _ _ c.before.before.before.before.loop.invariant (search rules) _ c.before.same.ensures (search rules))
+    (λ c. sought_here _ _ _ _ c.before.before.before.before.loop.invariant (search rules) _ c.before.same.ensures (search rules))
     (λ c. search rules)
     (λ c. search rules)
-    (λ c. sought-more _ _ _ _ c.before.before.before.before.loop.invariant (search rules) _ c.before.same.ensures (search rules))
-    (λ c. sought-all _ _ _ _ _ _ c.before.loop.invariant (search rules)))
+    (λ c. sought_more _ _ _ _ c.before.before.before.before.loop.invariant (search rules) _ c.before.same.ensures (search rules))
+    (λ c. sought_all _ _ _ _ _ _ c.before.loop.invariant (search rules)))

@@ -3,7 +3,7 @@ use Prim.Native.Nat.{◌-◌}
 use native.Mathlib.Omega.{arith}
 use lib.ListN.{length}
 use borrow.Author.Rules.{rules}
-use Rattle.codes.proofs.Alike.{Alike, alike-none, alike-more, alike_all, other_length, other_byte}
+use Rattle.codes.proofs.Alike.{Alike, alike_none, alike_more, alike_all, other_length, other_byte}
 use Rattle.codes.proofs.same.Statement.{statement}
 use Rattle.codes.proofs.same.Tie as tie
 
@@ -20,11 +20,11 @@ same_spec =
     invariant-loop
     decreases-loop
     (λ c. other_length _ _ (λ e. omega arith))
-    (λ c. alike-none _ _)
+    (λ c. alike_none _ _)
     (λ c. search rules)
     (λ c. search rules)
     (λ c. other_byte _ _ _ c.if2.true)
     (λ c. search rules)
     (λ c. search rules)
-    (λ c. search (rules, alike-more))
+    (λ c. search (rules, alike_more))
     (λ c. alike_all _ _ _ c.before.loop.invariant (search rules) (search rules)))

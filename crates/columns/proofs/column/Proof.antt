@@ -1,12 +1,12 @@
 -- `column` hands out the first entries of a column. Assumes nothing.
 use native.Mathlib.Nat.{add-sub_cancel_left}
 use borrow.Author.Rules.{rules}
-use Rattle.columns.specs.Columns.{columnIn}
+use Rattle.columns.specs.Columns.{column_in}
 use Rattle.columns.proofs.column.Statement.{statement}
 use Rattle.columns.proofs.column.Tie as tie
 
 returns : tie.Need-returns
-unfolding columnIn
+unfolding column_in
 returns c = simp add-sub_cancel_left
 
 pub column-spec : {M : Type 1} → statement M

@@ -2,7 +2,7 @@
 use Prim.Native.Nat.{◌+◌, ◌*◌, ◌-◌, ◌≤◌}
 use lib.ListN.{length}
 use borrow.Author.Rules.{rules}
-use Rattle.columns.proofs.Entry.{Putting, putting-none, value_there, putting-more, putting-all}
+use Rattle.columns.proofs.Entry.{Putting, putting_none, value_there, putting_more, putting_all}
 use Rattle.columns.proofs.put_entry.Statement.{statement}
 use Rattle.columns.proofs.put_entry.Tie as tie
 
@@ -21,7 +21,7 @@ there c = value_there (start c).requires c.loop-test.true c.before.loop.invarian
 loop-again : tie.Need-loop-preserved invariant-loop decreases-loop
 loop-again c =
     let at = c.before.before.before.before.before in
-    putting-more (start at).requires at.loop-test.true at.before.loop.invariant _ c.before.before.put_word.ensures
+    putting_more (start at).requires at.loop-test.true at.before.loop.invariant _ c.before.before.put_word.ensures
 
 pub put-entry-spec : {M : Type 1} → statement M
 put-entry-spec =
@@ -29,7 +29,7 @@ put-entry-spec =
     (tie.spec
     invariant-loop
     decreases-loop
-    (λ c. search (rules, putting-none))
+    (λ c. search (rules, putting_none))
     (λ c. let room = there c.before in search rules)
     (λ c. let room = there c.before in search rules)
     (λ c. search rules)
@@ -39,4 +39,4 @@ put-entry-spec =
     (λ c. search rules)
     loop-again
     (λ c. search rules)
-    (λ c. search (rules, putting-all)))
+    (λ c. search (rules, putting_all)))

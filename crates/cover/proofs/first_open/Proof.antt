@@ -53,15 +53,15 @@ add-if2 : tie.Need-overflow-add-if2 invariant-loop decreases-loop
 add-if2 c =
     let turn = c.before.before.before in
     let at-price = turn.before.before in
-    let (priced, in-book) = at-price.before.before.before.before.before.before.before.requires in
-    omega (arith, at-price.word.ensures, c.word2.ensures, priced.high _ in-book, priced.high _ turn.loop-test.true)
+    let (priced, in_book) = at-price.before.before.before.before.before.before.before.requires in
+    omega (arith, at-price.word.ensures, c.word2.ensures, priced.high _ in_book, priced.high _ turn.loop-test.true)
 
 saving-requires : tie.Need-saving-requires invariant-loop decreases-loop
 saving-requires c κs =
     let turn = c.before.before.before in
     let at_long = turn.before.before.before.before.before in
-    let (priced, in-book) = at_long.before.before.before.before.requires in
-    (rate-low _ priced in-book at_long.leg-in.ensures, rate-low _ priced turn.loop-test.true c.before.leg-in2.ensures)
+    let (priced, in_book) = at_long.before.before.before.before.requires in
+    (rate-low _ priced in_book at_long.leg-in.ensures, rate-low _ priced turn.loop-test.true c.before.leg-in2.ensures)
 
 returns-2 : tie.Need-returns-2 invariant-loop decreases-loop
 returns-2 c =

@@ -1,7 +1,7 @@
 -- `part_open` finds a part of a row closed only where it is covered, as `row_open` does. Assumes nothing.
 use Prim.Native.Nat.{◌-◌}
 use borrow.Author.Rules.{rules}
-use Rattle.cover.proofs.Rows.{Missing, missing-none, missing-more, missing-all}
+use Rattle.cover.proofs.Rows.{Missing, missing_none, missing_more, missing_all}
 use Rattle.cover.proofs.part_open.Statement.{statement}
 use Rattle.cover.proofs.part_open.Tie as tie
 
@@ -12,7 +12,7 @@ abbrev decreases-loop : tie.decreases-loop
 decreases-loop from to marks rates prices mark rate price worst₀ j₀ worst j = to - j
 
 loop-holds : tie.Need-loop-init invariant-loop decreases-loop
-loop-holds c = missing-none
+loop-holds c = missing_none
 
 mul-asked : tie.Need-overflow-mul-asked invariant-loop decreases-loop
 mul-asked c = search rules
@@ -55,11 +55,11 @@ loop-less c = search rules
 loop-again : tie.Need-loop-preserved invariant-loop decreases-loop
 loop-again c =
     let at-asked = c.before.before.before.before in
-    missing-more at-asked.before.before.before.before.loop.invariant at-asked.asked.ensures c.before.before.before.above.ensures
+    missing_more at-asked.before.before.before.before.loop.invariant at-asked.asked.ensures c.before.before.before.above.ensures
     c.before.above2.ensures c.greater.ensures
 
 returns : tie.Need-returns invariant-loop decreases-loop
-returns c = missing-all c.before.loop.invariant c.loop-test.false
+returns c = missing_all c.before.loop.invariant c.loop-test.false
 
 pub part-open-spec : {M : Type 1} → statement M
 part-open-spec =

@@ -4,7 +4,7 @@ use Prim.Native.Nat.{◌-◌}
 use native.Mathlib.Omega.{arith}
 use borrow.Author.Rules.{rules}
 use Rattle.words.specs.Words.{entries}
-use Rattle.cover.proofs.Totals.{Added, priced-high, added_none, added-high, added_more, added-all}
+use Rattle.cover.proofs.Totals.{Added, priced-high, added_none, added_high, added_more, added_all}
 use Rattle.cover.proofs.priced_total.Statement.{statement}
 use Rattle.cover.proofs.priced_total.Tie as tie
 
@@ -37,7 +37,7 @@ add_total c =
     let turn = c.before.before in
     let bounds = turn.before.before.before.before.requires in
     rw (c.before.word.ensures, c.word2.ensures)
-    (omega (arith, bounds.count, priced-high _ _ bounds _ turn.loop-test.true, added-high _ _ turn.before.loop.invariant bounds))
+    (omega (arith, bounds.count, priced-high _ _ bounds _ turn.loop-test.true, added_high _ _ turn.before.loop.invariant bounds))
 
 add-k : tie.Need-overflow-add-k invariant-loop decreases-loop
 add-k c = search rules
@@ -53,7 +53,7 @@ loop-again c =
 
 returns : tie.Need-returns invariant-loop decreases-loop
 unfolding entries
-returns c = added-all _ _ c.before.loop.invariant c.loop-test.false
+returns c = added_all _ _ c.before.loop.invariant c.loop-test.false
 
 pub priced-total-spec : {M : Type 1} → statement M
 priced-total-spec =

@@ -5,8 +5,8 @@ use Prim.Native.Nat.{◌-◌}
 use native.Mathlib.Omega.{arith}
 use borrow.Author.Rules.{rules}
 use Rattle.cover.proofs.Written.{rate-low}
-use Rattle.cover.proofs.Filled.{scan-closed}
-use Rattle.cover.proofs.Uncovered.{Closed, closed_none, other-covered, closed-row, closed-more, finds-open, finds-none}
+use Rattle.cover.proofs.Filled.{scan_closed}
+use Rattle.cover.proofs.Uncovered.{Closed, closed_none, other-covered, closed_row, closed_more, finds_open, finds_none}
 use Rattle.cover.proofs.scanned.Statement.{statement}
 use Rattle.cover.proofs.scanned.Tie as tie
 
@@ -42,7 +42,7 @@ long-open-requires c κs =
     let turn = c.before.before.before.before.before in
     let leg = c.before.before.before.leg-in.ensures in
     let (priced, shorts) = turn.before.before.before.before.requires in
-    (omega (arith, shorts.few, priced.bounded.few), (rate-low _ priced turn.loop-test.true leg, shorts.rates-high))
+    (omega (arith, shorts.few, priced.bounded.few), (rate-low _ priced turn.loop-test.true leg, shorts.rates_high))
 
 first-open-requires : tie.Need-first-open-requires invariant-loop decreases-loop
 first-open-requires c κs = search rules
@@ -53,7 +53,7 @@ fault-at-requires c κs = search rules
 returns : tie.Need-returns invariant-loop decreases-loop
 returns c =
     let turn = c.before.before.before.before.before.before.before.before.before.before in
-    rw c.fault-at.ensures (finds-open turn.before.loop.invariant turn.loop-test.true c.before.before.first-open.ensures c.before.if3.true)
+    rw c.fault-at.ensures (finds_open turn.before.loop.invariant turn.loop-test.true c.before.before.first-open.ensures c.before.if3.true)
 
 add-i : tie.Need-overflow-add-i invariant-loop decreases-loop
 add-i c = search rules
@@ -71,17 +71,17 @@ loop-again c =
     let shorts = start.requires.1 in
     let low = rate-low _ start.requires.0 taken leg in
     ⊎_elim
-    (λ w. closed-row closed taken w.4.ensures w.5.left)
+    (λ w. closed_row closed taken w.4.ensures w.5.left)
     (⊎_elim
-    (λ w. closed-more closed taken (scan-closed start.args.legs.now start.args.price.now _ leg w.1.ensures (shorts.all _ _ low (w.2.ensures w.3.left))))
-    (λ w. closed-more closed taken (λ j _. other-covered start.args.legs.now _ _ leg w.left j)))
+    (λ w. closed_more closed taken (scan_closed start.args.legs.now start.args.price.now _ leg w.1.ensures (shorts.all _ _ low (w.2.ensures w.3.left))))
+    (λ w. closed_more closed taken (λ j _. other-covered start.args.legs.now _ _ leg w.left j)))
     c.if1.branch
 
 fault-at-requires-2 : tie.Need-fault-at-requires-2 invariant-loop decreases-loop
 fault-at-requires-2 c κs = search rules
 
 returns-2 : tie.Need-returns-2 invariant-loop decreases-loop
-returns-2 c = rw c.fault-at2.ensures (finds-none c.before.before.loop.invariant c.before.loop-test.false)
+returns-2 c = rw c.fault-at2.ensures (finds_none c.before.before.loop.invariant c.before.loop-test.false)
 
 pub scanned-spec : {M : Type 1} → statement M
 scanned-spec =

@@ -4,8 +4,8 @@ use Prim.Native.Nat.{◌-◌}
 use native.Mathlib.Omega.{arith}
 use borrow.Author.Rules.{rules}
 use Rattle.cover.proofs.Written.{rate-low}
-use Rattle.cover.proofs.Rows.{part-few, part-closed}
-use Rattle.cover.proofs.Uncovered.{Closed, closed_none, other-covered, closed-row, closed-more, finds-open, finds-none}
+use Rattle.cover.proofs.Rows.{part-few, part_closed}
+use Rattle.cover.proofs.Uncovered.{Closed, closed_none, other-covered, closed_row, closed_more, finds_open, finds_none}
 use Rattle.cover.proofs.scanned_by_part.Statement.{statement}
 use Rattle.cover.proofs.scanned_by_part.Tie as tie
 
@@ -70,8 +70,8 @@ long-part-open-requires c κs =
     let leg = c.before.before.before.before.before.leg-in.ensures in
     let (priced, (parts, shorts)) = turn.before.before.before.before.before.before.before.before.before.requires in
     let few = part-few shorts _ leg priced in
-    rw (parts.marks-held, parts.strips-held, parts.rates-held, parts.prices-held)
-    (few, (few, (few, (few, (rate-low _ priced turn.loop-test.true leg, λ k h. parts.rates-high k (omega arith))))))
+    rw (parts.marks_held, parts.strips_held, parts.rates_held, parts.prices_held)
+    (few, (few, (few, (few, (rate-low _ priced turn.loop-test.true leg, λ k h. parts.rates_high k (omega arith))))))
 
 first-open-requires : tie.Need-first-open-requires invariant-loop decreases-loop
 first-open-requires c κs =
@@ -84,7 +84,7 @@ fault-at-requires c κs = search rules
 returns : tie.Need-returns invariant-loop decreases-loop
 returns c =
     let turn = c.before.before.before.before.before.before.before.before.before.before.before.before in
-    rw c.fault-at.ensures (finds-open turn.before.loop.invariant turn.loop-test.true c.before.before.first-open.ensures c.before.if3.true)
+    rw c.fault-at.ensures (finds_open turn.before.loop.invariant turn.loop-test.true c.before.before.first-open.ensures c.before.if3.true)
 
 add-i : tie.Need-overflow-add-i invariant-loop decreases-loop
 add-i c = search rules
@@ -101,17 +101,17 @@ loop-again c =
     let leg = c.before.before.leg-in.ensures in
     let shorts = start.requires.1.1 in
     ⊎_elim
-    (λ w. closed-row closed taken w.6.ensures w.7.left)
+    (λ w. closed_row closed taken w.6.ensures w.7.left)
     (⊎_elim
-    (λ w. closed-more closed taken (part-closed shorts _ leg (rate-low _ start.requires.0 taken leg) w.3.ensures (w.4.ensures w.5.left)))
-    (λ w. closed-more closed taken (λ j _. other-covered start.args.legs.now _ _ leg w.left j)))
+    (λ w. closed_more closed taken (part_closed shorts _ leg (rate-low _ start.requires.0 taken leg) w.3.ensures (w.4.ensures w.5.left)))
+    (λ w. closed_more closed taken (λ j _. other-covered start.args.legs.now _ _ leg w.left j)))
     c.if1.branch
 
 fault-at-requires-2 : tie.Need-fault-at-requires-2 invariant-loop decreases-loop
 fault-at-requires-2 c κs = search rules
 
 returns-2 : tie.Need-returns-2 invariant-loop decreases-loop
-returns-2 c = rw c.fault-at2.ensures (finds-none c.before.before.loop.invariant c.before.loop-test.false)
+returns-2 c = rw c.fault-at2.ensures (finds_none c.before.before.loop.invariant c.before.loop-test.false)
 
 pub scanned-by-part-spec : {M : Type 1} → statement M
 scanned-by-part-spec =

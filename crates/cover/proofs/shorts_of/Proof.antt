@@ -4,7 +4,7 @@ use Prim.{tt}
 use Prim.Native.Nat.{◌-◌}
 use native.Mathlib.Omega.{arith}
 use borrow.Author.Rules.{rules}
-use Rattle.article.specs.Pair.{isBond}
+use Rattle.article.specs.Pair.{is_bond}
 use Rattle.cover.proofs.Written.{rate-low}
 use Rattle.cover.proofs.Filled.{Filling, filling-none, filling-other, filling-more, filling-all}
 use Rattle.cover.proofs.shorts_of.Statement.{statement}
@@ -86,7 +86,7 @@ loop-less : tie.Need-loop-smaller invariant-loop decreases-loop
 loop-less c = search rules
 
 loop-again : tie.Need-loop-preserved invariant-loop decreases-loop
-unfolding isBond
+unfolding is_bond
 loop-again c =
     let turn = c.before.before.before.before in
     let filling = turn.before.loop.invariant in

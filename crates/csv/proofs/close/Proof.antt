@@ -3,13 +3,13 @@ use mathlib.Core.Path.{◌≡◌, refl}
 use Prim.Native.Nat.{◌-◌}
 use lib.ListN.{length}
 use borrow.Author.Rules.{rules}
-use Rattle.csv.specs.Reading.{closeAt}
-use Rattle.csv.proofs.Scan.{close-past, close_more, close-stop, close-last, close-found, close-pair}
+use Rattle.csv.specs.Reading.{close_at}
+use Rattle.csv.proofs.Scan.{close_past, close_more, close_stop, close_last, close_found, close_pair}
 use Rattle.csv.proofs.close.Statement.{statement}
 use Rattle.csv.proofs.close.Tie as tie
 
 abbrev invariant-loop : tie.invariant-loop
-invariant-loop text at i₀ i = closeAt text i ≡ closeAt text at
+invariant-loop text at i₀ i = close_at text i ≡ close_at text at
 
 abbrev decreases-loop : tie.decreases-loop
 decreases-loop text at i₀ i = length text - i
@@ -26,12 +26,12 @@ close_spec =
     (λ c. search rules)
     (λ c. search rules)
     (λ c. search rules)
-    (λ c. search (rules, close-pair))
-    (λ c. search (rules, close-found))
-    (λ c. search (rules, close-last))
+    (λ c. search (rules, close_pair))
+    (λ c. search (rules, close_found))
+    (λ c. search (rules, close_last))
     (λ c κs. search rules)
     (λ c. search rules)
     (λ c. search rules)
     (λ c. search (rules, close_more))
-    (λ c. search (rules, close-stop))
-    (λ c. search (rules, close-past)))
+    (λ c. search (rules, close_stop))
+    (λ c. search (rules, close_past)))

@@ -1,7 +1,7 @@
 -- `field` is the part of the text between the places of field k, in the lists and so in the record. Assumes nothing.
 use native.Mathlib.Omega.{arith}
 use borrow.Author.Rules.{rules}
-use Rattle.csv.proofs.Places.{hands-part, hands_none}
+use Rattle.csv.proofs.Places.{hands_part, hands_none}
 use Rattle.csv.proofs.field.Statement.{statement}
 use Rattle.csv.proofs.field.Tie as tie
 
@@ -18,4 +18,4 @@ field-spec =
     (λ c. search rules)
     (λ c. search rules)
     (λ c κs. search rules)
-    (λ c. search (rules, hands-part)))
+    (λ c. search (rules, hands_part)))

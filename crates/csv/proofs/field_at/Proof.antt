@@ -3,8 +3,8 @@ use Prim.Native.Nat.{◌<◌}
 use native.Mathlib.Omega.{arith}
 use lib.ListN.{length}
 use borrow.Author.Rules.{rules}
-use Rattle.csv.proofs.Scan.{opens_in, field_plain, field_open, field-shut}
-use Rattle.csv.proofs.Pieces.{close-in-text}
+use Rattle.csv.proofs.Scan.{opens_in, field_plain, field_open, field_shut}
+use Rattle.csv.proofs.Pieces.{close_in_text}
 use Rattle.csv.proofs.field_at.Statement.{statement}
 use Rattle.csv.proofs.field_at.Tie as tie
 
@@ -24,6 +24,6 @@ field-at-spec =
     (λ c. search rules)
     (λ c. search rules)
     (λ c. search (rules, field_open))
-    (λ c. omega (arith, close-in-text _ _ _ _ c.before.before.before.close.ensures c.before.found.given.1))
+    (λ c. omega (arith, close_in_text _ _ _ _ c.before.before.before.close.ensures c.before.found.given.1))
     (λ c κs. search rules)
-    (λ c. search (rules, field-shut)))
+    (λ c. search (rules, field_shut)))

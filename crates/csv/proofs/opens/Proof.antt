@@ -1,6 +1,6 @@
 -- `opens` decides whether a quote stands at a place. Assumes nothing.
 use borrow.Author.Rules.{rules}
-use Rattle.csv.proofs.Scan.{opens-here, opens-past}
+use Rattle.csv.proofs.Scan.{opens-here, opens_past}
 use Rattle.csv.proofs.opens.Statement.{statement}
 use Rattle.csv.proofs.opens.Tie as tie
 
@@ -10,4 +10,4 @@ opens-spec =
     (tie.spec
     (λ c. search rules)
     (λ c. search (rules, opens-here))
-    (λ c. search (rules, opens-past)))
+    (λ c. search (rules, opens_past)))

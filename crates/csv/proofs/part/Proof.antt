@@ -1,6 +1,6 @@
 -- `part` is the part of the text between two places. Assumes nothing.
 use borrow.Author.Rules.{rules}
-use Rattle.csv.proofs.Scan.{part-whole, part-rest, part-empty, part-past}
+use Rattle.csv.proofs.Scan.{part-whole, part-rest, part-empty, part_past}
 use Rattle.csv.proofs.part.Statement.{statement}
 use Rattle.csv.proofs.part.Tie as tie
 
@@ -9,7 +9,7 @@ part-spec =
     tie.close
     (tie.spec
     (λ c. search rules)
-    (λ c. search (rules, part-past))
+    (λ c. search (rules, part_past))
     (λ c. search rules)
     (λ c. search (rules, part-empty))
     (λ c. search rules)

@@ -1,12 +1,12 @@
 -- `quotable` decides what may stand in quotes beside doubled quotes. Assumes nothing.
 use borrow.Author.Rules.{rules}
 use Rattle.lists.proofs.Tests.{tests}
-use Rattle.csv.specs.Grammar.{isQuotable}
+use Rattle.csv.specs.Grammar.{is_quotable}
 use Rattle.csv.proofs.quotable.Statement.{statement}
 use Rattle.csv.proofs.quotable.Tie as tie
 
 pub quotable-spec : {M : Type 1} → statement M
-unfolding isQuotable
+unfolding is_quotable
 quotable-spec =
     tie.close
     (tie.spec
@@ -14,4 +14,4 @@ quotable-spec =
     (λ c. search tests)
     (λ c. search tests)
     (λ c κs. search rules)
-    (λ c. rw c.text-data.ensures (search tests)))
+    (λ c. rw c.text_data.ensures (search tests)))

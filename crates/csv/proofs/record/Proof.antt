@@ -4,7 +4,7 @@ use Prim.Native.Nat.{◌-◌}
 use lib.ListN.{length}
 use borrow.Author.Rules.{rules}
 use Rattle.csv.specs.declared.Piece.TheVariants.{Broken}
-use Rattle.csv.proofs.Filling.{Filling, filling-none, filling-broken, filling-last, filling-less, filling-more}
+use Rattle.csv.proofs.Filling.{Filling, filling-none, filling-broken, filling-last, filling_less, filling-more}
 use Rattle.csv.proofs.record.Statement.{statement}
 use Rattle.csv.proofs.record.Tie as tie
 
@@ -40,7 +40,7 @@ returns c =
 loop-less : tie.Need-loop-smaller invariant-loop decreases-loop
 loop-less c =
     let t = c.before in
-    filling-less (read t).before.loop.invariant (read t).field_at.ensures (found t).piece.given.1 c.if1.false
+    filling_less (read t).before.loop.invariant (read t).field_at.ensures (found t).piece.given.1 c.if1.false
 
 loop-again : tie.Need-loop-preserved invariant-loop decreases-loop
 loop-again c =

@@ -1,6 +1,6 @@
 -- `text_data` decides TEXTDATA. Assumes nothing.
 use borrow.Author.Rules.{rules}
-use Rattle.csv.proofs.Text.{text-quote, text-comma, text-printable, text-under, text-over}
+use Rattle.csv.proofs.Text.{text_quote, text-comma, text_printable, text_under, text-over}
 use Rattle.csv.proofs.text_data.Statement.{statement}
 use Rattle.csv.proofs.text_data.Tie as tie
 
@@ -8,8 +8,8 @@ pub text-data-spec : {M : Type 1} → statement M
 text-data-spec =
     tie.close
     (tie.spec
-    (λ c. search (rules, text-quote))
+    (λ c. search (rules, text_quote))
     (λ c. search (rules, text-comma))
-    (λ c. search (rules, text-printable))
-    (λ c. search (rules, text-under))
+    (λ c. search (rules, text_printable))
+    (λ c. search (rules, text_under))
     (λ c. search (rules, text-over)))

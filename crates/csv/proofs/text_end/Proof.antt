@@ -3,13 +3,13 @@ use mathlib.Core.Path.{◌≡◌, refl}
 use Prim.Native.Nat.{◌-◌}
 use lib.ListN.{length}
 use borrow.Author.Rules.{rules}
-use Rattle.csv.specs.Reading.{textEnd}
-use Rattle.csv.proofs.Scan.{text-more, text-stop, text-past}
+use Rattle.csv.specs.Reading.{text_end}
+use Rattle.csv.proofs.Scan.{text-more, text_stop, text_past}
 use Rattle.csv.proofs.text_end.Statement.{statement}
 use Rattle.csv.proofs.text_end.Tie as tie
 
 abbrev invariant-loop : tie.invariant-loop
-invariant-loop text at i₀ i = textEnd text i ≡ textEnd text at
+invariant-loop text at i₀ i = text_end text i ≡ text_end text at
 
 abbrev decreases-loop : tie.decreases-loop
 decreases-loop text at i₀ i = length text - i
@@ -23,8 +23,8 @@ text-end-spec =
     (λ c. refl)
     (λ c. search rules)
     (λ c κs. search rules)
-    (λ c. search (rules, text-stop))
+    (λ c. search (rules, text_stop))
     (λ c. search rules)
     (λ c. search rules)
     (λ c. search (rules, text-more))
-    (λ c. search (rules, text-past)))
+    (λ c. search (rules, text_past)))

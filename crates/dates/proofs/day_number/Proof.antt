@@ -1,11 +1,11 @@
--- `day_number` is `dayNumber`: the days before the year, before the month, and the day. Assumes nothing.
+-- `day_number` is `day_number`: the days before the year, before the month, and the day. Assumes nothing.
 use mathlib.Core.Path.{◌≡◌}
 use mathlib.Core.Logic.{⊎_elim}
 use Prim.Native.Nat.{ℕ, ◌+◌, ◌*◌}
 use native.Mathlib.Omega.{arith}
 use borrow.Author.Rules.{rules}
-use Rattle.dates.specs.Calendar.{year, month, yearStart, monthStart, dayNumber}
-use Rattle.dates.proofs.Coded.{number-early, number-late}
+use Rattle.dates.specs.Calendar.{year, month, year_start, month_start, day_number}
+use Rattle.dates.proofs.Coded.{number_early, number_late}
 use Rattle.dates.proofs.day_number.Statement.{statement}
 use Rattle.dates.proofs.day_number.Tie as tie
 
@@ -17,17 +17,17 @@ module _ (c : tie.After-month-start) where
   abbrev d : ℕ
   d = c.before.before.before.args.d
 
-  starts : 365 * year d + c.before.leap-days.result + c.month-start.result ≡ yearStart (year d) + monthStart (year d) (month d)
+  starts : 365 * year d + c.before.leap-days.result + c.month-start.result ≡ year_start (year d) + month_start (year d) (month d)
   starts =
       let leap = c.before.leap-days.ensures.0 in
       let month = c.month-start.ensures.0 in
       ⊎_elim
-      (λ w. number-early _ _ _ _ _ leap month (omega (arith, w.0.taken)) w.1)
-      (λ w. number-late _ _ _ _ _ leap month (omega (arith, w.0.left)) w.1)
+      (λ w. number_early _ _ _ _ _ leap month (omega (arith, w.0.taken)) w.1)
+      (λ w. number_late _ _ _ _ _ leap month (omega (arith, w.0.left)) w.1)
       c.before.before.if1.branch
 
 returns : tie.Need-returns
-unfolding dayNumber
+unfolding day_number
 returns c = (omega (arith, starts c), omega arith)
 
 pub day-number-spec : {M : Type 1} → statement M

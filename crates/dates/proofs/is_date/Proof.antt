@@ -1,33 +1,33 @@
--- `is_date` is `isDate`: the tests made on the way to a return decide it. Assumes nothing.
+-- `is_date` is `is_date`: the tests made on the way to a return decide it. Assumes nothing.
 use mathlib.Core.Path.{◌≡◌, sym}
 use mathlib.Core.Bool.{true, false}
 use Prim.Native.Nat.{ℕ, ◌≤◌, ◌<◌}
 use native.Mathlib.Omega.{arith}
 use borrow.Author.Rules.{rules}
-use Rattle.lists.proofs.Tests.{tests, either_way, true-within}
+use Rattle.lists.proofs.Tests.{tests, either_way, true_within}
 use Rattle.lists.specs.Choice.{within}
-use Rattle.dates.specs.Calendar.{year, isReal, isDate}
+use Rattle.dates.specs.Calendar.{year, is_real, is_date}
 use Rattle.dates.proofs.Tested.{date-low, date-high}
 use Rattle.dates.proofs.is_date.Statement.{statement}
 use Rattle.dates.proofs.is_date.Tie as tie
 
 -- no date is below the first or above the last
-too-low : (d : ℕ) → d < 19000101 → false ≡ isDate d
-too-low d h = either_way (isDate d) (λ t. absurd (omega (arith, date-low d t))) (λ e. sym e)
+too-low : (d : ℕ) → d < 19000101 → false ≡ is_date d
+too-low d h = either_way (is_date d) (λ t. absurd (omega (arith, date-low d t))) (λ e. sym e)
 
-too-high : (d : ℕ) → 22991231 < d → false ≡ isDate d
-too-high d h = either_way (isDate d) (λ t. absurd (omega (arith, date-high d t))) (λ e. sym e)
+too_high : (d : ℕ) → 22991231 < d → false ≡ is_date d
+too_high d h = either_way (is_date d) (λ t. absurd (omega (arith, date-high d t))) (λ e. sym e)
 
 -- and a number between the two is of one of the years
 in-years : (d : ℕ) → 19000101 ≤ d → d ≤ 22991231 → within 1900 2299 (year d) ≡ true
-in-years d l h = true-within 1900 2299 (year d) (omega arith) (omega arith)
+in-years d l h = true_within 1900 2299 (year d) (omega arith) (omega arith)
 
 returns-3 : tie.Need-returns-3
-unfolding isDate isReal within
+unfolding is_date is_real within
 returns-3 c = rw (in-years _ c.before.before.if1.false c.before.if2.false) (search tests)
 
 returns-4 : tie.Need-returns-4
-unfolding isDate isReal within
+unfolding is_date is_real within
 returns-4 c =
     let left = c.before.before in
     rw (in-years _ left.before.if1.false left.if2.false, ← c.month-length.ensures) (search tests)
@@ -37,7 +37,7 @@ is-date-spec =
     tie.close
     (tie.spec
     (λ c. too-low _ c.if1.true)
-    (λ c. too-high _ c.if2.true)
+    (λ c. too_high _ c.if2.true)
     returns-3
     (λ c κs. search rules)
     returns-4)

@@ -1,11 +1,11 @@
--- `leap_days` and 365 days for every year are `yearStart`. Assumes nothing.
+-- `leap_days` and 365 days for every year are `year_start`. Assumes nothing.
 use borrow.Author.Rules.{rules}
-use Rattle.dates.specs.Calendar.{yearStart}
+use Rattle.dates.specs.Calendar.{year_start}
 use Rattle.dates.proofs.leap_days.Statement.{statement}
 use Rattle.dates.proofs.leap_days.Tie as tie
 
 returns : tie.Need-returns
-unfolding yearStart
+unfolding year_start
 returns c = search rules
 
 pub leap-days-spec : {M : Type 1} → statement M

@@ -1,4 +1,4 @@
--- `month_start` is `monthStart` of a common year: the formula has the twelve months and the year's end, and every number is taken for one of these.
+-- `month_start` is `month_start` of a common year: the formula has the twelve months and the year's end, and every number is taken for one of these.
 -- Assumes nothing.
 use mathlib.Core.Path.{◌≡◌, refl, ◌∙◌}
 use mathlib.Core.Logic.{⊎_elim}
@@ -7,8 +7,8 @@ use Prim.Native.Nat.{ℕ, ◌≤◌}
 use native.Mathlib.Omega.{arith}
 use lib.Dec.{leb}
 use borrow.Author.Tests.{le-leb, lt-leb}
-use Rattle.dates.specs.Calendar.{monthStart}
-use Rattle.dates.proofs.Coded.{coded-start, start_small, start_first, start-last}
+use Rattle.dates.specs.Calendar.{month_start}
+use Rattle.dates.proofs.Coded.{coded_start, start_small, start_first, start_last}
 use Rattle.dates.proofs.month_start.Statement.{statement}
 use Rattle.dates.proofs.month_start.Tie as tie
 
@@ -16,9 +16,9 @@ use Rattle.dates.proofs.month_start.Tie as tie
 record Place (month place : ℕ) : Type 0 where
   from : 1 ≤ place
   to : place ≤ 13
-  same : monthStart 1 place ≡ monthStart 1 month
+  same : month_start 1 place ≡ month_start 1 month
 
-from_one : (c : tie.Joined1) → (1 ≤ c.if1.low) × (monthStart 1 c.if1.low ≡ monthStart 1 c.before.args.month)
+from_one : (c : tie.Joined1) → (1 ≤ c.if1.low) × (month_start 1 c.if1.low ≡ month_start 1 c.before.args.month)
 from_one c =
     ⊎_elim
     (λ w. rw w.1 (omega arith, start_first _ w.0.taken))
@@ -29,7 +29,7 @@ placed : (c : tie.Joined2) → Place c.before.before.args.month c.if2.place
 placed c =
     let (low, same) = from_one c.before in
     ⊎_elim
-    (λ w. rw w.1 (record { from = omega arith; to = omega arith; same = start-last _ w.0.taken ∙ same }))
+    (λ w. rw w.1 (record { from = omega arith; to = omega arith; same = start_last _ w.0.taken ∙ same }))
     (λ w. rw w.1 (record { from = low; to = omega (arith, w.0.left); same = same }))
     c.if2.branch
 
@@ -52,7 +52,7 @@ sub-result-2 c = ⊎_elim (λ w. omega (arith, w.1)) (λ w. omega (arith, w.0.le
 returns : tie.Need-returns
 returns c =
     let at = placed c.before.before.before in
-    let right = coded-start _ _ (shortened c.before.before) at.to ∙ at.same in
+    let right = coded_start _ _ (shortened c.before.before) at.to ∙ at.same in
     (right, rw right (start_small _))
 
 pub month-start-spec : {M : Type 1} → statement M

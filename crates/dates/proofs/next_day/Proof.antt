@@ -1,6 +1,6 @@
--- `next_day` is `nextDay`, in each of its three cases. Assumes nothing.
+-- `next_day` is `next_day`, in each of its three cases. Assumes nothing.
 use borrow.Author.Rules.{rules}
-use Rattle.dates.proofs.Coded.{coded-in-month, coded-month, coded-year}
+use Rattle.dates.proofs.Coded.{coded_in_month, coded-month, coded-year}
 use Rattle.dates.proofs.next_day.Statement.{statement}
 use Rattle.dates.proofs.next_day.Tie as tie
 
@@ -10,7 +10,7 @@ next-day-spec =
     (tie.spec
     (λ c κs. search rules)
     (λ c. search rules)
-    (λ c. coded-in-month _ _ c.before.month-length.ensures c.if1.true)
+    (λ c. coded_in_month _ _ c.before.month-length.ensures c.if1.true)
     (λ c. search rules)
     (λ c. search rules)
     (λ c. search rules)

@@ -62,7 +62,7 @@ use Rattle.desk.specs.contracts.Outcome as K
 use Rattle.desk.proofs.Outcome.TheLaws as K'
 use Rattle.desk.proofs.Booked.{books}
 use Rattle.desk.proofs.Rows as R
-use Rattle.desk.proofs.Values.{change-vals, day-val, day-vals, order-vals}
+use Rattle.desk.proofs.Values.{change_vals, day_val, day_vals, order_vals}
 use Rattle.desk.proofs.Walks.{held, here, full, returned, upward}
 use Rattle.desk.proofs.Shared.{LentShared, lends_shared, shared_back}
 use Rattle.desk.specs.contracts.examine as examine'
@@ -95,7 +95,7 @@ module _ {M : Type 1} {𝓤 : Ura M} (𝓛 : Logic 𝓤) (mem : Memory → SProp
 
 module _ {M : Type 1} {𝓤 : Ura M} (𝓛 : Logic 𝓤) (mem : Memory → SProp 𝓤) (run : Routine → Fun 𝓤)
     (κ : Lft) (q : Share) (b o : ℕ) (γ : GName) (ys : List Holding) (d : Day) (w : Order)
-    (room : Room T.the_row (length ys)) (d-is : Is D.the_row d (day-vals d)) (w-is : Is O.the_row w (order-vals w)) where
+    (room : Room T.the_row (length ys)) (d-is : Is D.the_row d (day_vals d)) (w-is : Is O.the_row w (order_vals w)) where
   -- the list under a name, and its machine value
   open 𝓛 use {H, A}
 
@@ -109,14 +109,14 @@ module _ {M : Type 1} {𝓤 : Ura M} (𝓛 : Logic 𝓤) (mem : Memory → SProp
   x = (list γ, (d, (w, tt)))
 
   abbrev at : Vals book.signature (κ, tt)
-  at = (s ∷ [], (day-vals d, (order-vals w, tt)))
+  at = (s ∷ [], (day_vals d, (order_vals w, tt)))
 
   abbrev Post : Val → SProp 𝓤
   Post = (walk_of 𝓛 book.ended stayed (book.clauses 𝓛 mem run)).post (((κ, tt), (q, tt), tt, x, at), tt)
 
   -- what each callee's triple binds outside, and that the caller has what it asks
   abbrev to-examine : ℕ → GName → (Examine 𝓛 mem run).Ghost
-  to-examine ν δ = (((ν ∷ [], tt), (full_share, tt), tt, (list δ, (d, (w, tt))), (s ∷ [], (day-vals d, (order-vals w, tt)))), tt)
+  to-examine ν δ = (((ν ∷ [], tt), (full_share, tt), tt, (list δ, (d, (w, tt))), (s ∷ [], (day_vals d, (order_vals w, tt)))), tt)
 
   goes-examine : (ν : ℕ) (δ : GName) → ent 𝓤 (sep 𝓤 (A.lft (ν ∷ []) full_share)
       (sem 𝓛 ((ShrSlice (named 0) (ν ∷ []) T.the_row).own_val (list δ) (s ∷ [])))) ((Examine 𝓛 mem run).pre (to-examine ν δ))
@@ -127,9 +127,9 @@ module _ {M : Type 1} {𝓤 : Ura M} (𝓛 : Logic 𝓤) (mem : Memory → SProp
       move ! (3 ∷ 0 ∷ []) $ fjoin ! $ nothing ! $ move ! (3 ∷ 0 ∷ []) $ join ! $ move ! (0 ∷ 1 ∷ []) $ join ! $ done !
 
   abbrev to_write : Change → Holding → (Write 𝓛 mem run).Ghost
-  to_write c h = (((κ, tt), (q, tt), tt, (list γ, (c, (h, tt))), (s ∷ [], (change-vals c, (R.vals h, tt)))), tt)
+  to_write c h = (((κ, tt), (q, tt), tt, (list γ, (c, (h, tt))), (s ∷ [], (change_vals c, (R.vals h, tt)))), tt)
 
-  goes-write : (c : Change) (h : Holding) → Is C.the_row c (change-vals c) → Is T.the_row h (R.vals h) → Fits (length ys) c
+  goes-write : (c : Change) (h : Holding) → Is C.the_row c (change_vals c) → Is T.the_row h (R.vals h) → Fits (length ys) c
       → ent 𝓤 (sep 𝓤 (A.lft κ q) (sem 𝓛 ((MutSlice (named 0) κ T.the_row).own_val (list γ) (s ∷ [])))) ((Write 𝓛 mem run).pre (to_write c h))
   goes-write c h c-is h-is fits =
       qed 𝓛 (‵ (flft κ q) ∷ ‵ ((MutSlice (named 0) κ T.the_row).own_val (list γ) (s ∷ [])) ∷ []) ∵ says ! fits $ nothing ! $ move ! (1 ∷ 0 ∷ []) $ join ! $
@@ -150,11 +150,11 @@ module _ {M : Type 1} {𝓤 : Ura M} (𝓛 : Logic 𝓤) (mem : Memory → SProp
   module _ (𝓣 : Tables 𝓤 H) (known-examine : Triple 𝓤 (𝓣.C #desk·examine) (Examine 𝓛 mem run))
       (known-write : Triple 𝓤 (𝓣.C #desk·write) (Write 𝓛 mem run)) where
     walk : ent 𝓤 (on_entry 𝓛 book.signature (κ, tt) (q, tt) x at)
-        (WpFn 𝓤 H 𝓣.C 𝓣.Λ code.function (s ∷ day-val d ∷ only (order-vals w) ∷ []) Post)
+        (WpFn 𝓤 H 𝓣.C 𝓣.Λ code.function (s ∷ day_val d ∷ only (order_vals w) ∷ []) Post)
     walk =
         let fm = fm_of 𝓤 H 𝓛.laws 𝓣 in
         qed 𝓛 ((‵ (flft κ q) ⊛ ‵ ftrue) ∷ ‵ (owns (MutSlice (named 0) κ T.the_row ∷ D.the_row ∷ O.the_row ∷ []) x at) ∷ []) ∵
-        enter ! 𝓣.C 𝓣.Λ code.function (s ∷ day-val d ∷ only (order-vals w) ∷ []) _ $
+        enter ! 𝓣.C 𝓣.Λ code.function (s ∷ day_val d ∷ only (order_vals w) ∷ []) _ $
         alloc1 ! (λ l₀. alloc1 ! (λ l₁. alloc1 ! {τ = D'.mir}
         (λ l₂. alloc1 ! (λ l₃. alloc1 ! {τ = K'.mir} (λ l₄. alloc1 ! {τ = C'.mir}
         (λ l₅. alloc1 ! {τ = T'.mir} (λ l₆. alloc1 ! (λ l₇. alloc1 ! (λ l₈. alloc1 ! (λ l₉. alloc1 ! (λ l₁₀. alloc1 ! (λ l₁₁. alloc0 ! $
@@ -219,7 +219,7 @@ module _ {M : Type 1} {𝓤 : Ura M} (𝓛 : Logic 𝓤) (mem : Memory → SProp
 
   walks : Walks 𝓛 book.ended stayed (WpFn 𝓤 H 𝓣.C 𝓣.Λ code.function) (book.clauses 𝓛 mem run)
   walks = walked 𝓛 book.ended stayed (book.clauses 𝓛 mem run) (WpFn 𝓤 H 𝓣.C 𝓣.Λ code.function)
-      (λ κs. (mut_slice_vals, (day-vals, (order-vals, tt)))) (λ κs.
+      (λ κs. (mut_slice_vals, (day_vals, (order_vals, tt)))) (λ κs.
       (mut_slice_Tells (named 0) κs.0 T.the_row, (LL.tells D.the_type D'.the_laws, (EL.tells O.the_type O'.the_laws, tt))))
       (λ κs qs bounds a g are. via 𝓤 _ (fst∗ 𝓤 _ (emp 𝓤))
       (walk 𝓛 mem run κs.0 qs.0 a.0.ref_ptr.0 a.0.ref_ptr.1 a.0.ghost_name a.0.now a.1.0 a.1.1.0 are.0.0.1 are.1.0

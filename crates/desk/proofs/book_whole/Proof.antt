@@ -62,7 +62,7 @@ use Rattle.desk.proofs.Order.TheLaws as O'
 use Rattle.desk.specs.contracts.Whole as Wh
 use Rattle.desk.proofs.Whole.TheLaws as Wh'
 use Rattle.desk.proofs.Rows as R
-use Rattle.desk.proofs.Values.{day-val, day-vals, order-vals}
+use Rattle.desk.proofs.Values.{day_val, day_vals, order_vals}
 use Rattle.desk.proofs.Walks.{held, here, full}
 use Rattle.desk.specs.contracts.book as book
 use Rattle.desk.proofs.book.Symbol as book-def
@@ -149,8 +149,8 @@ module _ {M : Type 1} {𝓤 : Ura M} (𝓛 : Logic 𝓤) where
   typed_at zs vs is = Array-Typed T.the_row (λ z us p. (LL.lawful T.the_type T'.the_laws 𝓛).typed z us p) 256 zs vs is
 
 module _ {M : Type 1} {𝓤 : Ura M} (𝓛 : Logic 𝓤) (mem : Memory → SProp 𝓤) (run : Routine → Fun 𝓤)
-    (ys : List Holding) (d : Day) (w : Order) (ys-is : Is Holdings ys (arr-val ys ∷ [])) (d-is : Is D.the_row d (day-vals d))
-    (w-is : Is O.the_row w (order-vals w)) where
+    (ys : List Holding) (d : Day) (w : Order) (ys-is : Is Holdings ys (arr-val ys ∷ [])) (d-is : Is D.the_row d (day_vals d))
+    (w-is : Is O.the_row w (order_vals w)) where
   open 𝓛 use {H, A}
 
   len : length ys ≡ 256
@@ -163,7 +163,7 @@ module _ {M : Type 1} {𝓤 : Ura M} (𝓛 : Logic 𝓤) (mem : Memory → SProp
   x = (ys, (d, (w, tt)))
 
   abbrev at : Vals book-whole.signature tt
-  at = (arr-val ys ∷ [], (day-vals d, (order-vals w, tt)))
+  at = (arr-val ys ∷ [], (day_vals d, (order_vals w, tt)))
 
   abbrev Post : Val → SProp 𝓤
   Post = (walk_of 𝓛 book-whole.ended stayed (book-whole.clauses 𝓛 mem run)).post ((tt, tt, tt, x, at), tt)
@@ -172,7 +172,7 @@ module _ {M : Type 1} {𝓤 : Ura M} (𝓛 : Logic 𝓤) (mem : Memory → SProp
   list l δ = record { ref_ptr = (l, 0); ghost_name = δ; now = ys }
 
   abbrev to-book : ℕ → GName → ℕ → (Book 𝓛 mem run).Ghost
-  to-book ν δ l = (((ν ∷ [], tt), (full_share, tt), tt, (list l δ, (d, (w, tt))), (slice_val (l, 0) 256 ∷ [], (day-vals d, (order-vals w, tt)))), tt)
+  to-book ν δ l = (((ν ∷ [], tt), (full_share, tt), tt, (list l δ, (d, (w, tt))), (slice_val (l, 0) 256 ∷ [], (day_vals d, (order_vals w, tt)))), tt)
 
   goes-book : (ν : ℕ) (δ : GName) (l : ℕ) → ent 𝓤 (sep 𝓤 (A.lft (ν ∷ []) full_share)
       (sem 𝓛 ((MutSlice (named 0) (ν ∷ []) T.the_row).own_val (list l δ) (slice_val (l, 0) 256 ∷ [])))) ((Book 𝓛 mem run).pre (to-book ν δ l))
@@ -196,10 +196,10 @@ module _ {M : Type 1} {𝓤 : Ura M} (𝓛 : Logic 𝓤) (mem : Memory → SProp
 
   walk : (𝓣 : Tables 𝓤 H) → Triple 𝓤 (𝓣.C #desk·book) (Book 𝓛 mem run)
       → ent 𝓤 (on_entry 𝓛 book-whole.signature tt tt x at)
-      (WpFn 𝓤 H 𝓣.C 𝓣.Λ code.function (arr-val ys ∷ day-val d ∷ only (order-vals w) ∷ []) Post)
+      (WpFn 𝓤 H 𝓣.C 𝓣.Λ code.function (arr-val ys ∷ day_val d ∷ only (order_vals w) ∷ []) Post)
   walk 𝓣 known =
       qed 𝓛 (‵ ftrue ∷ ‵ (owns (Holdings ∷ D.the_row ∷ O.the_row ∷ []) x at) ∷ []) ∵ enter ! 𝓣.C 𝓣.Λ code.function
-      (arr-val ys ∷ day-val d ∷ only (order-vals w) ∷ []) _ $
+      (arr-val ys ∷ day_val d ∷ only (order_vals w) ∷ []) _ $
       alloc1 ! {τ = Wh'.mir} (λ l₀. alloc1 ! {τ = arr} (λ l₁. alloc1 ! {τ = D'.mir}
       (λ l₂. alloc1 ! {τ = O'.mir} (λ l₃. alloc1 ! {τ = arr}
       (λ l₄. alloc1 ! {τ = P'.mir} (λ l₅. alloc1 ! (λ l₆. alloc1 ! (λ l₇. alloc1 ! {τ = arr} (λ l₈. alloc0 ! $ params1 ! $
@@ -253,7 +253,7 @@ module _ {M : Type 1} {𝓤 : Ura M} (𝓛 : Logic 𝓤) (mem : Memory → SProp
 
   walks : Walks 𝓛 book-whole.ended stayed (WpFn 𝓤 H 𝓣.C 𝓣.Λ code.function) (book-whole.clauses 𝓛 mem run)
   walks = walked 𝓛 book-whole.ended stayed (book-whole.clauses 𝓛 mem run) (WpFn 𝓤 H 𝓣.C 𝓣.Λ code.function)
-      (λ κs. (array_vals R.vals, (day-vals, (order-vals, tt))))
+      (λ κs. (array_vals R.vals, (day_vals, (order_vals, tt))))
       (λ κs. (Array-Tells T.the_row R.vals R.tells 256, (LL.tells D.the_type D'.the_laws, (EL.tells O.the_type O'.the_laws, tt))))
       (λ κs qs bounds a g are. via 𝓤 _ (fst∗ 𝓤 _ (emp 𝓤)) (walk 𝓛 mem run a.0 a.1.0 a.1.1.0 are.0 are.1.0
       are.1.1.0 𝓣 known))

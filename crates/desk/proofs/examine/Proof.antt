@@ -56,9 +56,9 @@ use Rattle.desk.specs.contracts.Order as O
 use Rattle.desk.proofs.Order.TheLaws as O'
 use Rattle.desk.specs.contracts.Outcome as K
 use Rattle.desk.proofs.Outcome.TheLaws as K'
-use Rattle.desk.proofs.Judging.{lies-first, lies-again, judgeable, examined}
+use Rattle.desk.proofs.Judging.{lies_first, lies_again, judgeable, examined}
 use Rattle.desk.proofs.Rows.{slice}
-use Rattle.desk.proofs.Values.{scan-vals, view-vals, day-val, day-vals, order-vals, outcome-val, outcome-vals}
+use Rattle.desk.proofs.Values.{scan_vals, view_vals, day_val, day_vals, order_vals, outcome_val, outcome_vals}
 use Rattle.desk.proofs.Walks.{held, here, full, returned, upward}
 use Rattle.desk.specs.contracts.open as open'
 use Rattle.desk.proofs.open.Symbol as open-def
@@ -115,7 +115,7 @@ module _ {M : Type 1} {𝓤 : Ura M} (𝓛 : Logic 𝓤) (mem : Memory → SProp
 
 module _ {M : Type 1} {𝓤 : Ura M} (𝓛 : Logic 𝓤) (mem : Memory → SProp 𝓤) (run : Routine → Fun 𝓤)
     (κ : Lft) (q : Share) (b o : ℕ) (γ : GName) (ys : List Holding) (d : Day) (w : Order)
-    (room : Room T.the_row (length ys)) (d-is : Is D.the_row d (day-vals d)) (w-is : Is O.the_row w (order-vals w)) where
+    (room : Room T.the_row (length ys)) (d-is : Is D.the_row d (day_vals d)) (w-is : Is O.the_row w (order_vals w)) where
   open 𝓛 use {H, A}
 
   abbrev n : ℕ
@@ -128,14 +128,14 @@ module _ {M : Type 1} {𝓤 : Ura M} (𝓛 : Logic 𝓤) (mem : Memory → SProp
   x = (list, (d, (w, tt)))
 
   abbrev at : Vals examine.signature (κ, tt)
-  at = (slice_val (b, o) n ∷ [], (day-vals d, (order-vals w, tt)))
+  at = (slice_val (b, o) n ∷ [], (day_vals d, (order_vals w, tt)))
 
   abbrev Post : Val → SProp 𝓤
   Post = (walk_of 𝓛 examine.ended stayed (examine.clauses 𝓛 mem run)).post (((κ, tt), (q, tt), tt, x, at), tt)
 
   -- what each callee's triple binds outside, and that the caller has what it asks
   abbrev to-open : (Open 𝓛 mem run).Ghost
-  to-open = ((tt, tt, tt, (d, (n, (w, tt))), (day-vals d, (vint w64 n ∷ [], (order-vals w, tt)))), tt)
+  to-open = ((tt, tt, tt, (d, (n, (w, tt))), (day_vals d, (vint w64 n ∷ [], (order_vals w, tt)))), tt)
 
   goes-open : ent 𝓤 (sem 𝓛 ftrue) ((Open 𝓛 mem run).pre to-open)
   goes-open =
@@ -144,9 +144,9 @@ module _ {M : Type 1} {𝓤 : Ura M} (𝓛 : Logic 𝓤) (mem : Memory → SProp
       owned ! D.the_row (Is D.the_row) (LL.makes D.the_type D'.the_plain 𝓛) d _ d-is $ fjoin ! $ move ! (1 ∷ 0 ∷ []) $ join ! $ done !
 
   abbrev to-scan : View → (See 𝓛 mem run).Ghost
-  to-scan v = (((κ, tt), (q, tt), tt, (list, (v, tt)), (slice_val (b, o) n ∷ [], (view-vals v, tt))), tt)
+  to-scan v = (((κ, tt), (q, tt), tt, (list, (v, tt)), (slice_val (b, o) n ∷ [], (view_vals v, tt))), tt)
 
-  goes-scan : (v : View) → Is Vi.the_row v (view-vals v) → Lies n v
+  goes-scan : (v : View) → Is Vi.the_row v (view_vals v) → Lies n v
       → ent 𝓤 (sep 𝓤 (A.lft κ q) (sem 𝓛 ((ShrSlice (named 0) κ T.the_row).own_val list at.0))) ((See 𝓛 mem run).pre (to-scan v))
   goes-scan v v-is lies =
       qed 𝓛 (‵ (flft κ q) ∷ ‵ ((ShrSlice (named 0) κ T.the_row).own_val list at.0) ∷ []) ∵ says ! lies $ nothing ! $ move ! (1 ∷ 0 ∷ []) $ join ! $
@@ -155,16 +155,16 @@ module _ {M : Type 1} {𝓤 : Ura M} (𝓛 : Logic 𝓤) (mem : Memory → SProp
       done !
 
   abbrev to-again : View → (Again 𝓛 mem run).Ghost
-  to-again v = ((tt, tt, tt, (v, tt), (view-vals v, tt)), tt)
+  to-again v = ((tt, tt, tt, (v, tt), (view_vals v, tt)), tt)
 
-  goes-again : (v : View) → Is Vi.the_row v (view-vals v) → ent 𝓤 (sem 𝓛 ftrue) ((Again 𝓛 mem run).pre (to-again v))
+  goes-again : (v : View) → Is Vi.the_row v (view_vals v) → ent 𝓤 (sem 𝓛 ftrue) ((Again 𝓛 mem run).pre (to-again v))
   goes-again v v-is = qed 𝓛 (‵ ftrue ∷ []) ∵ nothing ! $ nothing ! $ owned ! Vi.the_row (Is Vi.the_row)
       (LL.makes Vi.the_type Vi'.the_plain 𝓛) v _ v-is $ fjoin ! $ move ! (1 ∷ 0 ∷ []) $ join ! $ done !
 
   abbrev to-conclude : View → Scan → Scan → (Conclude 𝓛 mem run).Ghost
-  to-conclude v s m = ((tt, tt, tt, (v, (s, (m, tt))), (view-vals v, (scan-vals s, (scan-vals m, tt)))), tt)
+  to-conclude v s m = ((tt, tt, tt, (v, (s, (m, tt))), (view_vals v, (scan_vals s, (scan_vals m, tt)))), tt)
 
-  goes-conclude : (v : View) (s m : Scan) → Is Vi.the_row v (view-vals v) → Is S.the_row s (scan-vals s) → Is S.the_row m (scan-vals m)
+  goes-conclude : (v : View) (s m : Scan) → Is Vi.the_row v (view_vals v) → Is S.the_row s (scan_vals s) → Is S.the_row m (scan_vals m)
       → Judgeable v s
       → ent 𝓤 (sem 𝓛 ftrue) ((Conclude 𝓛 mem run).pre (to-conclude v s m))
   goes-conclude v s m v-is s-is m-is judged =
@@ -172,11 +172,11 @@ module _ {M : Type 1} {𝓤 : Ura M} (𝓛 : Logic 𝓤) (mem : Memory → SProp
       fjoin ! $ owned ! S.the_row (Is S.the_row) (LL.makes S.the_type S'.the_plain 𝓛) s _ s-is $ fjoin ! $
       owned ! Vi.the_row (Is Vi.the_row) (LL.makes Vi.the_type Vi'.the_plain 𝓛) v _ v-is $ fjoin ! $ move ! (1 ∷ 0 ∷ []) $ join ! $ done !
 
-  exits : (r : Outcome) → Is K.the_row r (outcome-vals r) → Examines ys d w r
-      → ent 𝓤 (⋆ 𝓛 (‵ (flft κ q) ∷ ‵ ((ShrSlice (named 0) κ T.the_row).own_val list at.0) ∷ [])) (Post (outcome-val r))
+  exits : (r : Outcome) → Is K.the_row r (outcome_vals r) → Examines ys d w r
+      → ent 𝓤 (⋆ 𝓛 (‵ (flft κ q) ∷ ‵ ((ShrSlice (named 0) κ T.the_row).own_val list at.0) ∷ [])) (Post (outcome_val r))
   exits r r-is e =
       qed 𝓛 (‵ (flft κ q) ∷ ‵ ((ShrSlice (named 0) κ T.the_row).own_val list at.0) ∷ []) ∵
-      suffices ! _ (ends_at 𝓛 examine.ended stayed (examine.clauses 𝓛 mem run) (((κ, tt), (q, tt), tt, x, at), tt) (outcome-val r) r
+      suffices ! _ (ends_at 𝓛 examine.ended stayed (examine.clauses 𝓛 mem run) (((κ, tt), (q, tt), tt, x, at), tt) (outcome_val r) r
       (tt, (tt, (tt, tt))) (tt, (tt, (tt, tt)))) $ says ! e $
       nothing ! $ move ! (1 ∷ 0 ∷ []) $ join ! $ frame ! $ nothing ! $ owned ! O.the_row (Is O.the_row)
       (EL.makes O.the_type O'.the_plain 𝓛) w _ w-is $ fjoin ! $
@@ -188,11 +188,11 @@ module _ {M : Type 1} {𝓤 : Ura M} (𝓛 : Logic 𝓤) (mem : Memory → SProp
       (known-again : Triple 𝓤 (𝓣.C #desk·again) (Again 𝓛 mem run))
       (known-conclude : Triple 𝓤 (𝓣.C #desk·conclude) (Conclude 𝓛 mem run)) where
     walk : ent 𝓤 (on_entry 𝓛 examine.signature (κ, tt) (q, tt) x at)
-        (WpFn 𝓤 H 𝓣.C 𝓣.Λ code.function (slice_val (b, o) n ∷ day-val d ∷ only (order-vals w) ∷ []) Post)
+        (WpFn 𝓤 H 𝓣.C 𝓣.Λ code.function (slice_val (b, o) n ∷ day_val d ∷ only (order_vals w) ∷ []) Post)
     walk =
         let fm = fm_of 𝓤 H 𝓛.laws 𝓣 in
         qed 𝓛 ((‵ (flft κ q) ⊛ ‵ ftrue) ∷ ‵ (owns (ShrSlice (named 0) κ T.the_row ∷ D.the_row ∷ O.the_row ∷ []) x at) ∷ []) ∵
-        enter ! 𝓣.C 𝓣.Λ code.function (slice_val (b, o) n ∷ day-val d ∷ only (order-vals w) ∷ []) _ $
+        enter ! 𝓣.C 𝓣.Λ code.function (slice_val (b, o) n ∷ day_val d ∷ only (order_vals w) ∷ []) _ $
         alloc1 ! {τ = K'.mir} (λ l₀. alloc1 ! {τ = slice imm}
         (λ l₁. alloc1 ! {τ = D'.mir} (λ l₂. alloc1 ! {τ = O'.mir}
         (λ l₃. alloc1 ! (λ l₄. alloc1 ! {τ = Vi'.mir} (λ l₅. alloc1 ! {τ = S'.mir}
@@ -210,7 +210,7 @@ module _ {M : Type 1} {𝓤 : Ura M} (𝓛 : Logic 𝓤) (mem : Memory → SProp
         returned ! tt Vi.the_row (Views d n w) (‵ ftrue) (ensured 𝓛 open'.ended (open'.clauses 𝓛 mem run) tt (d, (n, (w, tt))) tt)
         (open_of 𝓛 mem run d n w) u₁ (id⊢ 𝓤 _) (λ v views v-is.
         let v-as = subst (Is Vi.the_row v) (LL.tells Vi.the_type Vi'.the_laws v (u₁ ∷ []) v-is) v-is in
-        let lies = lies-first d n w v views in
+        let lies = lies_first d n w v views in
         land ! (here !) (init ! 9 refl ((LL.lawful Vi.the_type Vi'.the_laws 𝓛).typed v _ v-is).0) $
         rewrite ! 9 (λ (z : Val). ‵ (fat full_share Vi'.mir l₅ 0 z)) (ap only (LL.tells Vi.the_type Vi'.the_laws v (u₁ ∷ []) v-is)) refl $
         -- a copy of the slice goes to `scan`
@@ -234,7 +234,7 @@ module _ {M : Type 1} {𝓤 : Ura M} (𝓛 : Logic 𝓤) (mem : Memory → SProp
         -- and once more
         move ! (2 ∷ []) $ use1 𝓛 (‵ ((ShrSlice (named 0) κ T.the_row).own_val list at.0) ⊛ ‵ ((ShrSlice (named 0) κ T.the_row).own_val list at.0))
         ((shr_slice_copy 𝓛 (named 0) κ T.the_row).twice list at.0) $ split ! $
-        move ! (3 ∷ 0 ∷ []) $ use2 𝓛 (raw ((See 𝓛 mem run).pre (to-scan v'))) (goes-scan v' v'-as (lies-again n v v' lies later)) $
+        move ! (3 ∷ 0 ∷ []) $ use2 𝓛 (raw ((See 𝓛 mem run).pre (to-scan v'))) (goes-scan v' v'-as (lies_again n v v' lies later)) $
         calls_at ! fm (See 𝓛 mem run) known-scan (to-scan v') (and_then ! (held ! 17 refl) (and_then ! (held ! 5 refl) (no_more !))) (λ u₄.
         returned ! tt S.the_row (Scans ys v') (‵ (flft κ q) ⊛ ‵ ftrue)
         (ensured 𝓛 scan'.ended (scan'.clauses 𝓛 mem run) (κ, tt) (list, (v', tt)) tt) (scan-of 𝓛 mem run κ list v') u₄ (id⊢ 𝓤 _)
@@ -262,7 +262,7 @@ module _ {M : Type 1} {𝓤 : Ura M} (𝓛 : Logic 𝓤) (mem : Memory → SProp
 
   walks : Walks 𝓛 examine.ended stayed (WpFn 𝓤 H 𝓣.C 𝓣.Λ code.function) (examine.clauses 𝓛 mem run)
   walks = walked 𝓛 examine.ended stayed (examine.clauses 𝓛 mem run) (WpFn 𝓤 H 𝓣.C 𝓣.Λ code.function)
-      (λ κs. (shr_slice_vals, (day-vals, (order-vals, tt)))) (λ κs.
+      (λ κs. (shr_slice_vals, (day_vals, (order_vals, tt)))) (λ κs.
       (shr_slice_Tells (named 0) κs.0 T.the_row, (LL.tells D.the_type D'.the_laws, (EL.tells O.the_type O'.the_laws, tt))))
       (λ κs qs bounds a g are. via 𝓤 _ (fst∗ 𝓤 _ (emp 𝓤))
       (walk 𝓛 mem run κs.0 qs.0 a.0.ref_ptr.0 a.0.ref_ptr.1 0 a.0.now a.1.0 a.1.1.0 are.0.0.1 are.1.0

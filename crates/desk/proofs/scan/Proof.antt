@@ -69,7 +69,7 @@ use Rattle.desk.proofs.View.TheLaws as Vi'
 use Rattle.desk.proofs.Seen.{countable, seen_more}
 use Rattle.desk.proofs.Rows as R
 use Rattle.desk.proofs.Rows.{word, slice}
-use Rattle.desk.proofs.Values.{scan-val, scan-vals, view-val, view-vals}
+use Rattle.desk.proofs.Values.{scan_val, scan_vals, view_val, view_vals}
 use Rattle.desk.proofs.Walks.{held, here, holds, free, full, returned, upward}
 use Rattle.booking.specs.contracts.unseen as unseen
 use Rattle.booking.proofs.unseen.Symbol as unseen-def
@@ -105,7 +105,7 @@ module _ {M : Type 1} {𝓤 : Ura M} (𝓛 : Logic 𝓤) (mem : Memory → SProp
 
 module _ {M : Type 1} {𝓤 : Ura M} (𝓛 : Logic 𝓤) (mem : Memory → SProp 𝓤) (run : Routine → Fun 𝓤)
     (κ : Lft) (q : Share) (b o : ℕ) (γ : GName) (ys : List Holding) (v : View)
-    (room : Room T.the_row (length ys)) (v-is : Is Vi.the_row v (view-vals v)) (lies : Lies (length ys) v) where
+    (room : Room T.the_row (length ys)) (v-is : Is Vi.the_row v (view_vals v)) (lies : Lies (length ys) v) where
   open 𝓛 use {H}
 
   abbrev n : ℕ
@@ -121,7 +121,7 @@ module _ {M : Type 1} {𝓤 : Ura M} (𝓛 : Logic 𝓤) (mem : Memory → SProp
   x = (list, (v, tt))
 
   abbrev at : Vals scan.signature (κ, tt)
-  at = (slice_val (b, o) (length ys) ∷ [], (view-vals v, tt))
+  at = (slice_val (b, o) (length ys) ∷ [], (view_vals v, tt))
 
   abbrev Post : Val → SProp 𝓤
   Post = (walk_of 𝓛 scan.ended stayed (scan.clauses 𝓛 mem run)).post (((κ, tt), (q, tt), tt, x, at), tt)
@@ -131,7 +131,7 @@ module _ {M : Type 1} {𝓤 : Ura M} (𝓛 : Logic 𝓤) (mem : Memory → SProp
     i : ℕ
     le : i ≤ n
     s : Scan
-    is : Is S.the_row s (scan-vals s)
+    is : Is S.the_row s (scan_vals s)
     seen : SeenOf v (take i ys) s
 
   abbrev Less : Turn → Turn → Type 0
@@ -148,10 +148,10 @@ module _ {M : Type 1} {𝓤 : Ura M} (𝓛 : Logic 𝓤) (mem : Memory → SProp
   Had Γ = ‵ (fshr_bor κ (λ s. (arr_parts (shares T.the_row) (length ys)).part s ys b o)) ∷ ‵ (flft κ q) ∷ ‵
       (fres γ ((coded_holeys T.the_row).code (heres T.the_row ys))) ∷ Γ
 
-  exits : (s : Scan) → Is S.the_row s (scan-vals s) → SeenOf v (take n ys) s → ent 𝓤 (⋆ 𝓛 (Had [])) (Post (scan-val s))
+  exits : (s : Scan) → Is S.the_row s (scan_vals s) → SeenOf v (take n ys) s → ent 𝓤 (⋆ 𝓛 (Had [])) (Post (scan_val s))
   exits s is seen =
       qed 𝓛 (Had []) ∵
-      suffices ! _ (ends_at 𝓛 scan.ended stayed (scan.clauses 𝓛 mem run) (((κ, tt), (q, tt), tt, x, at), tt) (scan-val s) s (tt, (tt, tt))
+      suffices ! _ (ends_at 𝓛 scan.ended stayed (scan.clauses 𝓛 mem run) (((κ, tt), (q, tt), tt, x, at), tt) (scan_val s) s (tt, (tt, tt))
       (tt, (tt, tt))) $ says ! seen $
       nothing ! $ move ! (2 ∷ 0 ∷ []) $ join ! $ frame ! $ nothing ! $ owned ! Vi.the_row (Is Vi.the_row)
       (LL.makes Vi.the_type Vi'.the_plain 𝓛) v _ v-is $ fjoin ! $ move ! (2 ∷ 1 ∷ []) $ fjoin ! $
@@ -166,7 +166,7 @@ module _ {M : Type 1} {𝓤 : Ura M} (𝓛 : Logic 𝓤) (mem : Memory → SProp
   goes-unseen = qed 𝓛 (‵ ftrue ∷ []) ∵ nothing ! $ join ! $ nothing ! $ move ! (1 ∷ 0 ∷ []) $ done !
 
   abbrev to-see : Scan → ℕ → Holding → (Goes 𝓛 mem run).Ghost
-  to-see s i h = ((tt, tt, tt, (s, (i, (v, (h, tt)))), (scan-vals s, (vint w64 i ∷ [], (view-vals v, (R.vals h, tt))))), tt)
+  to-see s i h = ((tt, tt, tt, (s, (i, (v, (h, tt)))), (scan_vals s, (vint w64 i ∷ [], (view_vals v, (R.vals h, tt))))), tt)
 
   goes-see : (t : Turn) (h : Holding) → Is T.the_row h (R.vals h) → t.i < n
       → ent 𝓤 (sem 𝓛 ftrue) ((Goes 𝓛 mem run).pre (to-see t.s t.i h))
@@ -187,8 +187,8 @@ module _ {M : Type 1} {𝓤 : Ura M} (𝓛 : Logic 𝓤) (mem : Memory → SProp
     -- the slice, then the locals, the last first: _k stands at 3 + 2 · (9 − k), and that it ends beside it
     abbrev Inv : Turn → List (Item 𝓤)
     Inv t = Had (free T'.mir l₉ (free ty_ptr l₈ (free word l₇ (free ty_bool l₆
-        (holds word l₅ (vint w64 t.i) (holds S'.mir l₄ (scan-val t.s)
-        (holds word l₃ (vint w64 n) (holds Vi'.mir l₂ (view-val v) (holds (slice imm) l₁ (slice_val (b, o) (length ys)) (free S'.mir l₀ []))))))))))
+        (holds word l₅ (vint w64 t.i) (holds S'.mir l₄ (scan_val t.s)
+        (holds word l₃ (vint w64 n) (holds Vi'.mir l₂ (view_val v) (holds (slice imm) l₁ (slice_val (b, o) (length ys)) (free S'.mir l₀ []))))))))))
 
     abbrev Left : Out → SProp 𝓤
     Left = after_block 𝓤 H (after_seq 𝓤 H (Wp 𝓤 H 𝓣.C 𝓣.Λ En mir'.t-5 (at_return 𝓤 H En Post)) (at_return 𝓤 H En Post))
@@ -258,10 +258,10 @@ module _ {M : Type 1} {𝓤 : Ura M} (𝓛 : Logic 𝓤) (mem : Memory → SProp
 
   walk : (𝓣 : Tables 𝓤 H) → Triple 𝓤 (𝓣.C #booking·unseen) (Begins 𝓛 mem run) → Triple 𝓤 (𝓣.C #desk·see) (Goes 𝓛 mem run)
       → ent 𝓤 (on_entry 𝓛 scan.signature (κ, tt) (q, tt) x at)
-      (WpFn 𝓤 H 𝓣.C 𝓣.Λ code.function (slice_val (b, o) (length ys) ∷ view-val v ∷ []) Post)
+      (WpFn 𝓤 H 𝓣.C 𝓣.Λ code.function (slice_val (b, o) (length ys) ∷ view_val v ∷ []) Post)
   walk 𝓣 known-unseen known-see =
       qed 𝓛 ((‵ (flft κ q) ⊛ ‵ ftrue) ∷ ‵ (owns (ShrSlice (named 0) κ T.the_row ∷ Vi.the_row ∷ []) x at) ∷ []) ∵ enter ! 𝓣.C 𝓣.Λ code.function
-      (slice_val (b, o) (length ys) ∷ view-val v ∷ []) _ $
+      (slice_val (b, o) (length ys) ∷ view_val v ∷ []) _ $
       alloc1 ! {τ = S'.mir} (λ l₀. alloc1 ! {τ = slice imm} (λ l₁. alloc1 ! {τ = Vi'.mir}
       (λ l₂. alloc1 ! (λ l₃. alloc1 ! {τ = S'.mir} (λ l₄. alloc1 !
       (λ l₅. alloc1 ! (λ l₆. alloc1 ! (λ l₇. alloc1 ! (λ l₈. alloc1 ! {τ = T'.mir} (λ l₉. alloc0 ! $ params1 ! $
@@ -294,7 +294,7 @@ module _ {M : Type 1} {𝓤 : Ura M} (𝓛 : Logic 𝓤) (mem : Memory → SProp
 
   walks : Walks 𝓛 scan.ended stayed (WpFn 𝓤 H 𝓣.C 𝓣.Λ code.function) (scan.clauses 𝓛 mem run)
   walks = walked 𝓛 scan.ended stayed (scan.clauses 𝓛 mem run) (WpFn 𝓤 H 𝓣.C 𝓣.Λ code.function)
-      (λ κs. (shr_slice_vals, (view-vals, tt))) (λ κs. (shr_slice_Tells (named 0) κs.0 T.the_row, (LL.tells Vi.the_type Vi'.the_laws, tt)))
+      (λ κs. (shr_slice_vals, (view_vals, tt))) (λ κs. (shr_slice_Tells (named 0) κs.0 T.the_row, (LL.tells Vi.the_type Vi'.the_laws, tt)))
       (λ κs qs bounds a g are. needs 𝓤 (Lies (length a.0.now) a.1.0) _ (λ lies.
       walk 𝓛 mem run κs.0 qs.0 a.0.ref_ptr.0 a.0.ref_ptr.1 0 a.0.now a.1.0 are.0.0.1
       are.1.0 lies 𝓣 known-unseen known-see))

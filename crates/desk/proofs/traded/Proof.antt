@@ -1,19 +1,19 @@
--- `traded` is `tradedBy`. Assumes nothing.
+-- `traded` is `traded_by`. Assumes nothing.
 use borrow.Author.Rules.{rules}
-use Rattle.desk.specs.Desk.{blank, tradedBy}
+use Rattle.desk.specs.Desk.{blank, traded_by}
 use Rattle.desk.proofs.traded.Statement.{statement}
 use Rattle.desk.proofs.traded.Tie as tie
 
 returns : tie.Need-returns
-unfolding tradedBy
+unfolding traded_by
 returns c = cc
 
 returns-2 : tie.Need-returns-2
-unfolding tradedBy
+unfolding traded_by
 returns-2 c = cc
 
 returns-3 : tie.Need-returns-3
-unfolding tradedBy blank
+unfolding traded_by blank
 returns-3 c = rw c.enum_told.given.1
 
 pub traded-spec : {M : Type 1} → statement M

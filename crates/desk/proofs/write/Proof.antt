@@ -50,7 +50,7 @@ use denote.Exit.{yes}
 use Rattle.holding.specs.declared.Holding.{Holding}
 use Rattle.holding.specs.contracts.Holding as T
 use Rattle.holding.proofs.Holding.TheLaws as T'
-use Rattle.booking.specs.Seeing.{movedUp, changed, Fits}
+use Rattle.booking.specs.Seeing.{moved_up, changed, Fits}
 use Rattle.booking.specs.declared.Change.{Change}
 use Rattle.booking.specs.contracts.Change as C
 use Rattle.booking.proofs.Change.TheLaws as C'
@@ -59,7 +59,7 @@ use Rattle.desk.specs.Desk.{blank}
 use Rattle.desk.proofs.Moving.{moved_as, moved_none, moved_more}
 use Rattle.desk.proofs.Rows as R
 use Rattle.desk.proofs.Rows.{word, slice}
-use Rattle.desk.proofs.Values.{change-val, change-vals}
+use Rattle.desk.proofs.Values.{change_val, change_vals}
 use Rattle.desk.proofs.Walks.{held, here, holds, free, full, upward}
 use Rattle.desk.specs.contracts.write.Key.{name as #desk·write}
 use Rattle.desk.specs.contracts.write as write
@@ -71,13 +71,13 @@ abbrev stayed : Stays (write.ended).signature.params (write.ended).kept
 stayed = (stay_slice (0 ∷ []) tt (plain (λ _. T.the_row)), (stay_none (λ _. C.the_row) yes, (stay_none (λ _. T.the_row) yes, tt)))
 
 -- the list with the holding at its place, where it has it, is what the contract says
-placed : (c : Change) (h : Holding) (ys l : List Holding) → l ≡ movedUp c.first c.end ys → set l c.at h ≡ changed c h ys
+placed : (c : Change) (h : Holding) (ys l : List Holding) → l ≡ moved_up c.first c.end ys → set l c.at h ≡ changed c h ys
 unfolding changed
 placed c h ys l e = rw e
 
 module _ {M : Type 1} {𝓤 : Ura M} (𝓛 : Logic 𝓤) (mem : Memory → SProp 𝓤) (run : Routine → Fun 𝓤)
     (κ : Lft) (q : Share) (b o : ℕ) (γ : GName) (ys : List Holding) (c : Change) (h : Holding)
-    (room : Room T.the_row (length ys)) (c-is : Is C.the_row c (change-vals c)) (h-is : Is T.the_row h (R.vals h)) (fit : Fits (length ys) c) where
+    (room : Room T.the_row (length ys)) (c-is : Is C.the_row c (change_vals c)) (h-is : Is T.the_row h (R.vals h)) (fit : Fits (length ys) c) where
   open 𝓛 use {H}
 
   abbrev list : List Holding → MutBor (List Holding)
@@ -87,7 +87,7 @@ module _ {M : Type 1} {𝓤 : Ura M} (𝓛 : Logic 𝓤) (mem : Memory → SProp
   x = (list ys, (c, (h, tt)))
 
   abbrev at : Vals write.signature (κ, tt)
-  at = (slice_val (b, o) (length ys) ∷ [], (change-vals c, (R.vals h, tt)))
+  at = (slice_val (b, o) (length ys) ∷ [], (change_vals c, (R.vals h, tt)))
 
   abbrev Post : Val → SProp 𝓤
   Post = (walk_of 𝓛 write.ended stayed (write.clauses 𝓛 mem run)).post (((κ, tt), (q, tt), tt, x, at), tt)
@@ -105,7 +105,7 @@ module _ {M : Type 1} {𝓤 : Ura M} (𝓛 : Logic 𝓤) (mem : Memory → SProp
   record Turn : Type 0 where
     i : ℕ
     l : List Holding
-    is : l ≡ movedUp c.first i ys
+    is : l ≡ moved_up c.first i ys
     same : length l ≡ length ys
     from : c.first ≤ i
     until : i - c.first ≤ c.end - c.first
@@ -132,7 +132,7 @@ module _ {M : Type 1} {𝓤 : Ura M} (𝓛 : Logic 𝓤) (mem : Memory → SProp
       }
 
   -- at the end all moved
-  all : (t : Turn) → ltb t.i c.end ≡ false → t.l ≡ movedUp c.first c.end ys
+  all : (t : Turn) → ltb t.i c.end ≡ false → t.l ≡ moved_up c.first c.end ys
   all t e = t.is ∙ moved_as c.first ys t.i c.end (omega (arith, t.until, t.from, ltb-false t.i c.end e))
 
   -- the borrow, closed at a list
@@ -162,7 +162,7 @@ module _ {M : Type 1} {𝓤 : Ura M} (𝓛 : Logic 𝓤) (mem : Memory → SProp
         (free word l₁₄ (free ty_ptr l₁₃ (free word l₁₂ (free word l₁₁
         (free T'.mir l₁₀ (free ty_ptr l₉ (free word l₈ (free ty_bool l₇
         (free word l₆ (holds word l₅ (vint w64 t.i) (holds word l₄ (vint w64 c.end)
-        (holds T'.mir l₃ (R.val h) (holds C'.mir l₂ (change-val c)
+        (holds T'.mir l₃ (R.val h) (holds C'.mir l₂ (change_val c)
         (holds (slice mut) l₁ (slice_val (b, o) (length ys)) (free ty_unit l₀ []))))))))))))))))))
 
     -- the same after the last turn
@@ -172,7 +172,7 @@ module _ {M : Type 1} {𝓤 : Ura M} (𝓛 : Logic 𝓤) (mem : Memory → SProp
         (free word l₁₂ (free word l₁₁ (free T'.mir l₁₀ (free ty_ptr l₉
         (free word l₈ (holds ty_bool l₇ (vbool false) (holds word l₆ (vint w64 c.at)
         (holds word l₅ (vint w64 t.i) (holds word l₄ (vint w64 c.end)
-        (holds T'.mir l₃ (R.val h) (holds C'.mir l₂ (change-val c)
+        (holds T'.mir l₃ (R.val h) (holds C'.mir l₂ (change_val c)
         (holds (slice mut) l₁ (slice_val (b, o) (length ys)) (free ty_unit l₀ []))))))))))))))))))
 
     abbrev Left : Out → SProp 𝓤
@@ -280,10 +280,10 @@ module _ {M : Type 1} {𝓤 : Ura M} (𝓛 : Logic 𝓤) (mem : Memory → SProp
     loops = loop_rule 𝓤 H 𝓛.laws 𝓣 Less ends En mir'.turn-1 Left (λ t. ⋆ 𝓛 (Inv t)) turn none
 
   walk : (𝓣 : Tables 𝓤 H) → ent 𝓤 (on_entry 𝓛 write.signature (κ, tt) (q, tt) x at)
-      (WpFn 𝓤 H 𝓣.C 𝓣.Λ code.function (slice_val (b, o) (length ys) ∷ change-val c ∷ R.val h ∷ []) Post)
+      (WpFn 𝓤 H 𝓣.C 𝓣.Λ code.function (slice_val (b, o) (length ys) ∷ change_val c ∷ R.val h ∷ []) Post)
   walk 𝓣 =
       qed 𝓛 ((‵ (flft κ q) ⊛ ‵ ftrue) ∷ ‵ (owns (MutSlice (named 0) κ T.the_row ∷ C.the_row ∷ T.the_row ∷ []) x at) ∷ []) ∵ enter ! 𝓣.C
-      𝓣.Λ code.function (slice_val (b, o) (length ys) ∷ change-val c ∷ R.val h ∷ []) _ $
+      𝓣.Λ code.function (slice_val (b, o) (length ys) ∷ change_val c ∷ R.val h ∷ []) _ $
       alloc1 ! (λ l₀. alloc1 ! {τ = slice mut} (λ l₁. alloc1 ! {τ = C'.mir}
       (λ l₂. alloc1 ! {τ = T'.mir} (λ l₃. alloc1 ! (λ l₄. alloc1 !
       (λ l₅. alloc1 ! (λ l₆. alloc1 ! (λ l₇. alloc1 ! (λ l₈. alloc1 !
@@ -306,7 +306,7 @@ module _ {M : Type 1} {𝓤 : Ura M} (𝓛 : Logic 𝓤) (mem : Memory → SProp
 
   walks : Walks 𝓛 write.ended stayed (WpFn 𝓤 H 𝓣.C 𝓣.Λ code.function) (write.clauses 𝓛 mem run)
   walks = walked 𝓛 write.ended stayed (write.clauses 𝓛 mem run) (WpFn 𝓤 H 𝓣.C 𝓣.Λ code.function)
-      (λ κs. (mut_slice_vals, (change-vals, (R.vals, tt)))) (λ κs.
+      (λ κs. (mut_slice_vals, (change_vals, (R.vals, tt)))) (λ κs.
       (mut_slice_Tells (named 0) κs.0 T.the_row, (LL.tells C.the_type C'.the_laws, (R.tells, tt))))
       (λ κs qs bounds a g are. needs 𝓤 (Fits (length a.0.now) a.1.0) _ (λ fit.
       walk 𝓛 mem run κs.0 qs.0 a.0.ref_ptr.0 a.0.ref_ptr.1 a.0.ghost_name a.0.now a.1.0 a.1.1.0 are.0.0.1 are.1.0

@@ -6,13 +6,13 @@ use native.Mathlib.Nat.{mul-le-mul}
 use native.Mathlib.Omega.{arith}
 use lib.ListN.{length, set}
 use borrow.Author.Rules.{rules}
-use Rattle.lists.specs.Tables.{sum_to, listTo, front}
+use Rattle.lists.specs.Tables.{sum_to, list_to, front}
 use Rattle.lists.proofs.Overwrite.{front-more}
-use Rattle.lists.proofs.Sums.{sumTo-more}
+use Rattle.lists.proofs.Sums.{sum_to-more}
 use Rattle.article.specs.declared.pair.Leg.{Leg}
-use Rattle.proposal.specs.Submission.{marginLimit}
-use Rattle.packed.specs.Packed.{legAt, entry}
-use Rattle.figures.specs.Margins.{MarginsLent, leftMargin, Margins}
+use Rattle.proposal.specs.Submission.{margin_limit}
+use Rattle.packed.specs.Packed.{leg_at, entry}
+use Rattle.figures.specs.Margins.{MarginsLent, left_margin, Margins}
 use Rattle.figures.proofs.margins_of.Statement.{statement}
 use Rattle.figures.proofs.margins_of.Tie as tie
 
@@ -23,25 +23,25 @@ abbrev decreases-loop : tie.decreases-loop
 decreases-loop n legs left margins₀ total₀ i₀ margins total i = n - i
 
 -- the margin of a holding, by its leg
-module _ {n : ℕ} {legs left old : List ℕ} (lent : MarginsLent n legs left old) {i : ℕ} (h : i < n) {leg : Leg} (e : leg ≡ legAt legs i) where
-  high : leg.rate * entry left i ≤ marginLimit
-  high = rw e (mul-le-mul (lent.bounded.rate i h).high (lent.left-high i h))
+module _ {n : ℕ} {legs left old : List ℕ} (lent : MarginsLent n legs left old) {i : ℕ} (h : i < n) {leg : Leg} (e : leg ≡ leg_at legs i) where
+  high : leg.rate * entry left i ≤ margin_limit
+  high = rw e (mul-le-mul (lent.bounded.rate i h).high (lent.left_high i h))
 
-  is-left : leg.rate * entry left i ≡ leftMargin legs left i
-  unfolding leftMargin
+  is-left : leg.rate * entry left i ≡ left_margin legs left i
+  unfolding left_margin
   is-left = rw e
 
   more : {margins : List ℕ} {total : ℕ} → Margins i legs left old margins total
       → Margins (i + 1) legs left old (set margins i (leg.rate * entry left i)) (total + leg.rate * entry left i)
   more {margins} {total} m = record {
-    each = front-more i _ _ margins old (omega (arith, lent.margins-held)) is-left m.each;
-    sum = ap (λ (x : ℕ). total + x) is-left ∙ sumTo-more _ i total m.sum;
-    sum-high = omega (arith, high, m.sum-high);
+    each = front-more i _ _ margins old (omega (arith, lent.margins_held)) is-left m.each;
+    sum = ap (λ (x : ℕ). total + x) is-left ∙ sum_to-more _ i total m.sum;
+    sum_high = omega (arith, high, m.sum_high);
   }
 
 loop-holds : tie.Need-loop-init invariant-loop decreases-loop
-unfolding sum_to listTo front
-loop-holds c = (search rules, refl, record { each = refl; sum = refl; sum-high = omega arith })
+unfolding sum_to list_to front
+loop-holds c = (search rules, refl, record { each = refl; sum = refl; sum_high = omega arith })
 
 mul-margin-2 : tie.Need-overflow-mul-margin-2 invariant-loop decreases-loop
 mul-margin-2 c =

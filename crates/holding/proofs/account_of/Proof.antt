@@ -1,6 +1,6 @@
--- `account_of` is `headedOf`: a head without fault has its account. Assumes nothing.
+-- `account_of` is `headed_of`: a head without fault has its account. Assumes nothing.
 use mathlib.Core.Path.{sym, ◌∙◌}
-use Rattle.holding.specs.Holding.{accountOf}
+use Rattle.holding.specs.Holding.{account_of}
 use Rattle.holding.proofs.Heads.{head-fits, head-account, head-none}
 use borrow.Author.Rules.{rules}
 use Rattle.holding.proofs.account_of.Statement.{statement}
@@ -15,7 +15,7 @@ cast-t5 c =
     search (rules, fits)
 
 returns-2 : tie.Need-returns-2
-unfolding accountOf
+unfolding account_of
 returns-2 c =
     let found = c.before.before in
     rw c.before.letter-of.ensures (sym (head-account _ (sym found.before.head-fault.ensures ∙ found.if1.false)))

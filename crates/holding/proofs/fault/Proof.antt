@@ -1,11 +1,11 @@
--- `fault` is `faultOf`: of the four lists in turn, the first that has a fault decides. Assumes nothing.
+-- `fault` is `fault_of`: of the four lists in turn, the first that has a fault decides. Assumes nothing.
 use mathlib.Core.Path.{◌≡◌}
 use mathlib.Core.List.{◌++◌}
 use Prim.Native.Nat.{ℕ}
 use Rattle.lists.specs.Choice.{first_of}
 use Rattle.lists.proofs.Firsts.{found_first, found-second}
 use Rattle.holding.proofs.Ranges.{identity-listed, term-listed, worth-listed}
-use Rattle.holding.specs.Holding.{identityFaults, termFaults, worthFaults, moneyFaults, rowFaults, faultOf}
+use Rattle.holding.specs.Holding.{identity_faults, term_faults, worth_faults, money_faults, row_faults, fault_of}
 use Rattle.holding.specs.declared.Row.{Row}
 use Rattle.holding.specs.declared.Account.{Account}
 use borrow.Author.Rules.{rules}
@@ -14,21 +14,21 @@ use Rattle.holding.proofs.fault.Tie as tie
 
 module _ (a : Account) (r : Row) where
   -- what the row is decides, or else the lists after it; of those its term, or else its worth and its money
-  module _ {n : ℕ} (found : n ≡ first_of (identityFaults r) 0) where
-    here : (n ≡ 0 → ⊥) → n ≡ faultOf a r
-    unfolding faultOf rowFaults identityFaults termFaults
-    here h = found_first n (identityFaults r) (termFaults a r ++ (worthFaults r ++ moneyFaults r)) found h
+  module _ {n : ℕ} (found : n ≡ first_of (identity_faults r) 0) where
+    here : (n ≡ 0 → ⊥) → n ≡ fault_of a r
+    unfolding fault_of row_faults identity_faults term_faults
+    here h = found_first n (identity_faults r) (term_faults a r ++ (worth_faults r ++ money_faults r)) found h
 
-    later : {k : ℕ} → n ≡ 0 → k ≡ first_of (termFaults a r ++ (worthFaults r ++ moneyFaults r)) 0 → k ≡ faultOf a r
-    unfolding faultOf rowFaults identityFaults termFaults
-    later z f = found-second _ n (identityFaults r) (termFaults a r ++ (worthFaults r ++ moneyFaults r)) (identity-listed r) found z f
+    later : {k : ℕ} → n ≡ 0 → k ≡ first_of (term_faults a r ++ (worth_faults r ++ money_faults r)) 0 → k ≡ fault_of a r
+    unfolding fault_of row_faults identity_faults term_faults
+    later z f = found-second _ n (identity_faults r) (term_faults a r ++ (worth_faults r ++ money_faults r)) (identity-listed r) found z f
 
-  module _ {n : ℕ} (found : n ≡ first_of (termFaults a r) 0) where
-    at-term : (n ≡ 0 → ⊥) → n ≡ first_of (termFaults a r ++ (worthFaults r ++ moneyFaults r)) 0
-    at-term h = found_first n (termFaults a r) (worthFaults r ++ moneyFaults r) found h
+  module _ {n : ℕ} (found : n ≡ first_of (term_faults a r) 0) where
+    at-term : (n ≡ 0 → ⊥) → n ≡ first_of (term_faults a r ++ (worth_faults r ++ money_faults r)) 0
+    at-term h = found_first n (term_faults a r) (worth_faults r ++ money_faults r) found h
 
-    after-term : {k : ℕ} → n ≡ 0 → k ≡ first_of (worthFaults r ++ moneyFaults r) 0 → k ≡ first_of (termFaults a r ++ (worthFaults r ++ moneyFaults r)) 0
-    after-term z f = found-second _ n (termFaults a r) (worthFaults r ++ moneyFaults r) (term-listed a r) found z f
+    after-term : {k : ℕ} → n ≡ 0 → k ≡ first_of (worth_faults r ++ money_faults r) 0 → k ≡ first_of (term_faults a r ++ (worth_faults r ++ money_faults r)) 0
+    after-term z f = found-second _ n (term_faults a r) (worth_faults r ++ money_faults r) (term-listed a r) found z f
 
 returns-2 : tie.Need-returns-2
 returns-2 c =

@@ -2,14 +2,14 @@
 use mathlib.Core.Path.{sym, ◌∙◌}
 use borrow.Author.Tests.{eq-eqb, ne_eqb}
 use Rattle.dates.proofs.Tested.{date-high}
-use Rattle.holding.specs.Holding.{builtOf, holdingOf}
+use Rattle.holding.specs.Holding.{built_of, holding_of}
 use Rattle.holding.proofs.Ranges.{fault-none}
 use borrow.Author.Rules.{rules}
 use Rattle.holding.proofs.holding_of.Statement.{statement}
 use Rattle.holding.proofs.holding_of.Tie as tie
 
 returns : tie.Need-returns
-unfolding builtOf
+unfolding built_of
 returns c = record {
   number = c.before.fault.ensures;
   built = rw (← c.before.fault.ensures, ne_eqb _ 0 c.if1.true);
@@ -24,7 +24,7 @@ cast-t10 c =
     search (rules, high)
 
 returns-2 : tie.Need-returns-2
-unfolding builtOf holdingOf
+unfolding built_of holding_of
 returns-2 c =
     let made = c.before in
     let passed = made.before.before.before.before.before in

@@ -1,13 +1,13 @@
--- `issuer_number` is `issuerNumber`: the number of a province or of a corporation is tested against both ends of its range. Assumes nothing.
+-- `issuer_number` is `issuer_number`: the number of a province or of a corporation is tested against both ends of its range. Assumes nothing.
 use Rattle.lists.proofs.Tests.{tests}
 use Rattle.lists.specs.Choice.{within}
-use Rattle.holding.specs.Holding.{isCorporation}
+use Rattle.holding.specs.Holding.{is_corporation}
 use borrow.Author.Rules.{rules}
 use Rattle.holding.proofs.issuer_number.Statement.{statement}
 use Rattle.holding.proofs.issuer_number.Tie as tie
 
 pub issuer-number-spec : {M : Type 1} → statement M
-unfolding within isCorporation
+unfolding within is_corporation
 issuer-number-spec =
     tie.close
     (tie.spec

@@ -1,4 +1,4 @@
--- `term_fault` is the first of `termFaults`, by the tests made on the way to a return. Assumes nothing.
+-- `term_fault` is the first of `term_faults`, by the tests made on the way to a return. Assumes nothing.
 use mathlib.Core.Path.{sym, ◌∙◌}
 use mathlib.Core.Logic.{inl, inr}
 use native.Mathlib.Omega.{arith}

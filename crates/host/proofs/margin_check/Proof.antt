@@ -12,7 +12,7 @@ use Rattle.host.proofs.margin_check.Tie as tie
 -- lists of k entries are scratch for a book of up to k holdings
 room : (k : ℕ) {n : ℕ} {legs left margins ranks : List ℕ} → length legs ≡ k → length left ≡ k → length margins ≡ k → length ranks ≡ k
     → (n ≤ 256 → n ≤ k) → ScratchRoom n legs left margins ranks
-room k a b c d f = record { legs-held = λ h. rw a (f h); left-held = λ h. rw b (f h); margins-held = λ h. rw c (f h); ranks-held = λ h. rw d (f h) }
+room k a b c d f = record { legs_held = λ h. rw a (f h); left_held = λ h. rw b (f h); margins_held = λ h. rw c (f h); ranks_held = λ h. rw d (f h) }
 
 many : {scratch : List ℕ} → scratch ≡ replicate 256 0 → length scratch ≡ 256
 many e = rw e

@@ -29,7 +29,7 @@ margin-read-spec =
     (λ c. search rules)
     (λ c κs.
     let small = c.before.before.before.before.before.before.before.before.before.before.before.before.before.before.before.before.before in
-    record { whole-book = refl; whole-lines = refl; enough = λ _. small.if1.true; room-high = search rules; room-low = search rules })
+    record { whole_book = refl; whole_lines = refl; enough = λ _. small.if1.true; room_high = search rules; room_low = search rules })
     (λ c. (read_small c).read-into.auto.1.1.1.1.1.1.0)
     (λ c. (read_small c).read-into.auto.1.1.1.1.1.1.1.0)
     (λ c. (read_small c).read-into.auto.1.1.1.1.1.1.1.1.0)
@@ -48,7 +48,7 @@ margin-read-spec =
     (λ c. search rules)
     (λ c. search rules)
     (λ c. search rules)
-    (λ c κs. record { whole-book = refl; whole-lines = refl; enough = λ h. omega arith; room-high = search rules; room-low = search rules })
+    (λ c κs. record { whole_book = refl; whole_lines = refl; enough = λ h. omega arith; room_high = search rules; room_low = search rules })
     (λ c. (read-large c).read-into2.auto.1.1.1.1.1.1.0)
     (λ c. (read-large c).read-into2.auto.1.1.1.1.1.1.1.0)
     (λ c. (read-large c).read-into2.auto.1.1.1.1.1.1.1.1.0)

@@ -1,7 +1,7 @@
 -- `entry_at` judges a record: its form, the count of its fields, its letter, the values after it, its rating. Assumes nothing.
 use borrow.Author.Rules.{rules}
 use Rattle.codes.specs.Codes.{cells}
-use Rattle.layout.proofs.Parsing.{Lettered, entry-malformed, entry_other, lettered, entry-unknown, entry-wrong, entry-misrated, entry-good}
+use Rattle.layout.proofs.Parsing.{Lettered, entry-malformed, entry_other, lettered, entry_unknown, entry-wrong, entry-misrated, entry-good}
 use Rattle.layout.proofs.entry_at.Statement.{statement}
 use Rattle.layout.proofs.entry_at.Tie as tie
 
@@ -44,7 +44,7 @@ returns-2 c =
     rw c.refused2.ensures (entry_other _ _ _ _ _ _ read.before.before.«record».ensures read.scanned.given.1 c.before.if1.true _)
 
 returns-3 : tie.Need-returns-3
-returns-3 c = rw c.refused3.ensures (entry-unknown (placed c.before.before.before) c.before.enum-told2.given.1 _)
+returns-3 c = rw c.refused3.ensures (entry_unknown (placed c.before.before.before) c.before.enum-told2.given.1 _)
 
 returns-4 : tie.Need-returns-4
 returns-4 c =

@@ -2,7 +2,7 @@
 use mathlib.Core.Path.{ap, ◌∙◌}
 use borrow.Author.Rules.{rules}
 use Rattle.codes.specs.Codes.{cells}
-use Rattle.layout.specs.Layout.{byPlace}
+use Rattle.layout.specs.Layout.{by_place}
 use Rattle.layout.proofs.Ratings.{rating-none, rating-given}
 use Rattle.layout.proofs.rating_in.Statement.{statement}
 use Rattle.layout.proofs.rating_in.Tie as tie
@@ -16,4 +16,4 @@ rating-in-spec =
     (λ c. search rules)
     (λ c κs. search rules)
     (λ c κs. search rules)
-    (λ c. c.by_place.ensures ∙ ap byPlace (c.before.place_in.ensures ∙ rating-given _ c.before.before.before.if1.false)))
+    (λ c. c.by_place.ensures ∙ ap by_place (c.before.place_in.ensures ∙ rating-given _ c.before.before.before.if1.false)))

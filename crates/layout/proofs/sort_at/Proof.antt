@@ -3,7 +3,7 @@ use mathlib.Core.Path.{◌≡◌}
 use Prim.Native.Nat.{ℕ, zero, suc, ◌≤◌}
 use native.Mathlib.Omega.{arith}
 use borrow.Author.Rules.{rules}
-use Rattle.layout.proofs.Letters.{past-listed, past-letters}
+use Rattle.layout.proofs.Letters.{past_listed, past_letters}
 use Rattle.layout.proofs.sort_at.Statement.{statement}
 use Rattle.layout.proofs.sort_at.Tie as tie
 
@@ -22,7 +22,7 @@ sort-at-spec =
     (tie.spec
     (λ c. search rules)
     (λ c. search rules)
-    (λ c. rw c.before.if1.true (past-listed 0 _ (from_end _ _ c.match.rest)))
+    (λ c. rw c.before.if1.true (past_listed 0 _ (from_end _ _ c.match.rest)))
     (λ c. search rules)
     (λ c. search rules)
     (λ c. search rules)
@@ -31,9 +31,9 @@ sort-at-spec =
     (λ c. search rules)
     (λ c. search rules)
     (λ c. search rules)
-    (λ c. rw c.before.if2.true (past-listed 1 _ (from_end _ _ c.match2.rest)))
+    (λ c. rw c.before.if2.true (past_listed 1 _ (from_end _ _ c.match2.rest)))
     (λ c. search rules)
     (λ c. search rules)
     (λ c. search rules)
-    (λ c. rw c.before.if3.true (past-listed 2 _ (from_end _ _ c.match3.rest)))
-    (λ c. past-letters c.before.before.before.args.letter c.before.before.before.args.j (omega arith)))
+    (λ c. rw c.before.if3.true (past_listed 2 _ (from_end _ _ c.match3.rest)))
+    (λ c. past_letters c.before.before.before.args.letter c.before.before.before.args.j (omega arith)))

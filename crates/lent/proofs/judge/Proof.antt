@@ -2,10 +2,10 @@
 use Prim.{tt}
 use borrow.Author.Rules.{rules}
 use Rattle.words.specs.Words.{entries}
-use Rattle.columns.specs.Columns.{countIn}
-use Rattle.lent.specs.Boundary.{Lent, makeLent}
-use Rattle.lent.specs.Boundary.{writtenLists, two}
-use Rattle.lent.proofs.Checked.{refused-checks, remainder-room, ranking-room, accepted-checks}
+use Rattle.columns.specs.Columns.{count_in}
+use Rattle.lent.specs.Boundary.{Lent, make_lent}
+use Rattle.lent.specs.Boundary.{written_lists, two}
+use Rattle.lent.proofs.Checked.{refused_checks, remainder_room, ranking_room, accepted_checks}
 use Rattle.lent.proofs.judge.Statement.{statement}
 use Rattle.lent.proofs.judge.Tie as tie
 
@@ -28,17 +28,17 @@ begun c = c.before.before.before.before.before.before.before.before.before.befor
 
 -- the lists as they were lent
 abbrev lists : tie.After-lists-too-short → Lent
-lists c = makeLent (begun c).args.remainder.now (begun c).args.ranking.now (begun c).args.answer.now
+lists c = make_lent (begun c).args.remainder.now (begun c).args.ranking.now (begun c).args.answer.now
 
 returns : tie.Need-returns
-unfolding countIn entries two writtenLists
+unfolding count_in entries two written_lists
 returns c =
     let a = c.before.before in
     let q = a.before.before.before.before in
     let p = q.before.before.before.before.before in
     let v = accepted c in
     let k = checked v.before.before in
-    accepted-checks _ _ _ (tested k).lists-too-short.ensures k.check.ensures v.verdict.given.1 p.write-words.ensures q.write-words2.ensures a.put-answer.ensures
+    accepted_checks _ _ _ (tested k).lists-too-short.ensures k.check.ensures v.verdict.given.1 p.write-words.ensures q.write-words2.ensures a.put-answer.ensures
 
 pub judge-spec : {M : Type 1} → statement M
 judge-spec =
@@ -50,13 +50,13 @@ judge-spec =
     (λ c κs.
     let v = c.before.before.before in
     let k = checked v.before.before in
-    unfold countIn entries two writtenLists in
-    remainder-room _ _ (lists (tested k)) (tested k).lists-too-short.ensures k.check.ensures v.verdict.given.1)
+    unfold count_in entries two written_lists in
+    remainder_room _ _ (lists (tested k)) (tested k).lists-too-short.ensures k.check.ensures v.verdict.given.1)
     (λ c κs.
     let v = c.before.before.before.before.before.before.before.before in
     let k = checked v.before.before in
-    unfold countIn entries two writtenLists in
-    ranking-room _ _ (lists (tested k)) (tested k).lists-too-short.ensures k.check.ensures v.verdict.given.1)
+    unfold count_in entries two written_lists in
+    ranking_room _ _ (lists (tested k)) (tested k).lists-too-short.ensures k.check.ensures v.verdict.given.1)
     (λ _ _. tt)
     (λ c. c.before.before.before.before.before.before.before.before.before.before.before.write-words.auto.1.1.0)
     (λ c. c.before.before.before.before.before.before.write-words2.auto.1.1.0)
@@ -76,5 +76,5 @@ judge-spec =
     (λ c.
     let v = refused c in
     let k = checked v.before.before in
-    unfold countIn entries two writtenLists in
-    refused-checks _ _ _ (tested k).lists-too-short.ensures k.check.ensures v.verdict2.given.1 c.before.before.put-answer2.ensures))
+    unfold count_in entries two written_lists in
+    refused_checks _ _ _ (tested k).lists-too-short.ensures k.check.ensures v.verdict2.given.1 c.before.before.put-answer2.ensures))

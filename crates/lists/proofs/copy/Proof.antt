@@ -4,20 +4,20 @@ use mathlib.Core.List.{List}
 use Prim.Native.Nat.{ℕ, ◌-◌, ◌≤◌}
 use lib.ListN.{length, get_or}
 use borrow.Author.Rules.{rules}
-use Rattle.lists.specs.Tables.{listTo, front}
+use Rattle.lists.specs.Tables.{list_to, front}
 use Rattle.lists.proofs.Tables.{to_back}
 use Rattle.lists.proofs.Overwrite.{front-more}
 use Rattle.lists.proofs.copy.Statement.{statement}
 use Rattle.lists.proofs.copy.Tie as tie
 
 abbrev invariant-loop : tie.invariant-loop
-invariant-loop from to₀ i₀ to i = (i ≤ length from) × (length to ≡ length to₀) × (to ≡ front (listTo i (λ k. get_or from k 0)) to₀)
+invariant-loop from to₀ i₀ to i = (i ≤ length from) × (length to ≡ length to₀) × (to ≡ front (list_to i (λ k. get_or from k 0)) to₀)
 
 abbrev decreases-loop : tie.decreases-loop
 decreases-loop from to₀ i₀ to i = length from - i
 
 loop-holds : tie.Need-loop-init invariant-loop decreases-loop
-unfolding front listTo
+unfolding front list_to
 loop-holds c = (search rules, refl, refl)
 
 loop-again : tie.Need-loop-preserved invariant-loop decreases-loop

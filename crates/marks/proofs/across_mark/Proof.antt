@@ -1,12 +1,12 @@
--- `across_mark` is `acrossMark`. Assumes nothing.
+-- `across_mark` is `across_mark`. Assumes nothing.
 use mathlib.Core.Logic.{⊎_elim}
 use borrow.Author.Tests.{eq-eqb, ne_eqb}
-use Rattle.marks.specs.Marks.{acrossMark}
+use Rattle.marks.specs.Marks.{across_mark}
 use Rattle.marks.proofs.across_mark.Statement.{statement}
 use Rattle.marks.proofs.across_mark.Tie as tie
 
 pub across-mark-spec : {M : Type 1} → statement M
-unfolding acrossMark
+unfolding across_mark
 across-mark-spec =
     tie.close
     (tie.spec

@@ -1,5 +1,5 @@
 -- `asked` asks enough, return by return: one law of the estimate for each. Assumes nothing.
-use Rattle.marks.proofs.Estimate.{neither-mark, suited-mark, other-mark}
+use Rattle.marks.proofs.Estimate.{neither-mark, suited_mark, other-mark}
 use mathlib.Core.Logic.{inl, inr, ⊎_elim}
 use borrow.Author.Rules.{rules}
 use borrow.Author.Tests.{eqb-true, eqb-false}
@@ -22,7 +22,7 @@ twice-lesser-requires : tie.Need-twice-lesser-requires
 twice-lesser-requires c κs = search rules
 
 returns-2 : tie.Need-returns-2
-returns-2 c = rw c.twice-lesser.ensures (suited-mark (⊎_elim (λ w. inl w.taken) (λ w. inr (eqb-true _ _ w.1.taken)) c.before.if2.branch))
+returns-2 c = rw c.twice-lesser.ensures (suited_mark (⊎_elim (λ w. inl w.taken) (λ w. inr (eqb-true _ _ w.1.taken)) c.before.if2.branch))
 
 returns-3 : tie.Need-returns-3
 returns-3 c = neither-mark c.before.before.before.other-class.ensures c.before.before.if1.false (⊎_elim c.before.if2.false (eqb-false _ _ c.if3.false))

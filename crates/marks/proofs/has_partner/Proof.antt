@@ -1,13 +1,13 @@
--- `has_partner` is `hasPartner`: a client's leg has none, and else the currency decides which paragraph can have it. Assumes nothing.
+-- `has_partner` is `has_partner`: a client's leg has none, and else the currency decides which paragraph can have it. Assumes nothing.
 use borrow.Author.Rules.{rules}
 use borrow.Author.Tests.{eq-eqb, ne_eqb}
-use Rattle.article.specs.Pair.{isParticipant, inCad}
-use Rattle.marks.specs.Marks.{hasPartner}
+use Rattle.article.specs.Pair.{is_participant, in_cad}
+use Rattle.marks.specs.Marks.{has_partner}
 use Rattle.marks.proofs.has_partner.Statement.{statement}
 use Rattle.marks.proofs.has_partner.Tie as tie
 
 pub has-partner-spec : {M : Type 1} → statement M
-unfolding hasPartner isParticipant inCad
+unfolding has_partner is_participant in_cad
 has-partner-spec =
     tie.close
     (tie.spec

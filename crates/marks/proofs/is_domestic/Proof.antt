@@ -1,4 +1,4 @@
--- `is_domestic` is `isDomestic`. Assumes nothing.
+-- `is_domestic` is `is_domestic`. Assumes nothing.
 use mathlib.Core.Path.{◌≡◌}
 use mathlib.Core.Bool.{◌||◌}
 use Prim.Native.Nat.{ℕ}
@@ -7,8 +7,8 @@ use lib.Dec.{eqb, leb, leb-zero}
 use borrow.Author.Tests.{eq-eqb, ne_eqb, le-leb}
 use Rattle.lists.specs.Choice.{within}
 use Rattle.lists.proofs.Tests.{same_or_not}
-use Rattle.article.specs.Pair.{inCad, isCanada, isProvince}
-use Rattle.marks.specs.Marks.{isDomestic}
+use Rattle.article.specs.Pair.{in_cad, is_canada, is_province}
+use Rattle.marks.specs.Marks.{is_domestic}
 use Rattle.marks.proofs.is_domestic.Statement.{statement}
 use Rattle.marks.proofs.is_domestic.Tie as tie
 
@@ -18,11 +18,11 @@ unfolding within
 up_to high n = same_or_not n 0 (λ e. rw e (leb-zero high)) (λ e. rw (ne_eqb n 0 e, le-leb 1 n (omega (arith, e))))
 
 returns : tie.Need-returns
-unfolding isDomestic inCad
+unfolding is_domestic in_cad
 returns c = rw (ne_eqb _ _ c.if1.true)
 
 returns-2 : tie.Need-returns-2
-unfolding isDomestic inCad isCanada isProvince
+unfolding is_domestic in_cad is_canada is_province
 returns-2 c = rw (eq-eqb _ _ c.before.if1.false) (up_to 10 c.before.before.before.args.leg.issuer)
 
 pub is-domestic-spec : {M : Type 1} → statement M

@@ -1,14 +1,14 @@
--- `is_offered` is `isOffered`. Assumes nothing.
+-- `is_offered` is `is_offered`. Assumes nothing.
 use mathlib.Core.Path.{sym, ◌∙◌}
 use borrow.Author.Rules.{rules}
 use borrow.Author.Tests.{eq-eqb, ne_eqb, not-true, not-false}
-use Rattle.article.specs.Pair.{isBond}
-use Rattle.marks.specs.Marks.{isOffered}
+use Rattle.article.specs.Pair.{is_bond}
+use Rattle.marks.specs.Marks.{is_offered}
 use Rattle.marks.proofs.is_offered.Statement.{statement}
 use Rattle.marks.proofs.is_offered.Tie as tie
 
 pub is-offered-spec : {M : Type 1} → statement M
-unfolding isOffered isBond
+unfolding is_offered is_bond
 is-offered-spec =
     tie.close
     (tie.spec

@@ -3,20 +3,20 @@ use mathlib.Core.Path.{◌≡◌, sym, ◌∙◌}
 use mathlib.Core.Logic.{⊎_elim}
 use mathlib.Core.Bool.{cond}
 use borrow.Author.Tests.{eq-eqb, ne_eqb}
-use Rattle.article.specs.Pair.{isLong, isCanada}
-use Rattle.marks.specs.Marks.{hasPartner, key_of, mark_of}
+use Rattle.article.specs.Pair.{is_long, is_canada}
+use Rattle.marks.specs.Marks.{has_partner, key_of, mark_of}
 use borrow.Author.Rules.{rules}
 use Rattle.marks.proofs.mark_of.Statement.{statement}
 use Rattle.marks.proofs.mark_of.Tie as tie
 
 returns : tie.Need-returns
-unfolding mark_of key_of isCanada
+unfolding mark_of key_of is_canada
 returns c =
     let called = c.before.before in
     rw (← called.before.is-domestic.ensures, called.if1.true, eq-eqb _ _ c.if2.true) (search rules)
 
 returns-2 : tie.Need-returns-2
-unfolding mark_of key_of isCanada
+unfolding mark_of key_of is_canada
 returns-2 c =
     let called = c.before.before in
     rw (← called.before.is-domestic.ensures, called.if1.true, ne_eqb _ _ c.if2.false) (search rules)
@@ -26,8 +26,8 @@ module _ (c : tie.Joined3) where
   start = c.before.before.before.before.before.before.before
 
   -- which of the two marks: by the kind, or without a pair by the side
-  which : c.if3.first ≡ cond (hasPartner start.args.leg) start.args.bond (isLong start.args.leg)
-  unfolding isLong
+  which : c.if3.first ≡ cond (has_partner start.args.leg) start.args.bond (is_long start.args.leg)
+  unfolding is_long
   which =
       let found = sym c.before.has-partner.ensures in
       ⊎_elim (λ w. rw (found ∙ w.0.taken) w.1) (λ w. rw (found ∙ w.0.left) w.2) c.if3.branch

@@ -1,23 +1,23 @@
--- `scan_rate` is `scanRate`, and is low by the law of the leg's rate. Assumes nothing.
+-- `scan_rate` is `scan_rate`, and is low by the law of the leg's rate. Assumes nothing.
 use mathlib.Core.Path.{sym, ◌∙◌}
 use native.Mathlib.Omega.{arith}
 use borrow.Author.Rules.{rules}
 use borrow.Author.Tests.{eq-eqb, ne_eqb}
-use Rattle.article.specs.Pair.{isBond}
-use Rattle.marks.specs.Marks.{scanRate}
-use Rattle.marks.proofs.Estimate.{own-rate, bond-rate, bond-low}
+use Rattle.article.specs.Pair.{is_bond}
+use Rattle.marks.specs.Marks.{scan_rate}
+use Rattle.marks.proofs.Estimate.{own_rate, bond_rate_lem, bond-low}
 use Rattle.marks.proofs.scan_rate.Statement.{statement}
 use Rattle.marks.proofs.scan_rate.Tie as tie
 
 returns : tie.Need-returns
-unfolding isBond
+unfolding is_bond
 returns c =
     let leg = c.before.before.before in
     let bond = eq-eqb _ _ c.before.if1.true in
-    (sym (bond-rate leg.args.leg bond), rw (bond-rate leg.args.leg bond) at (bond-low leg.args.leg leg.requires bond))
+    (sym (bond_rate_lem leg.args.leg bond), rw (bond_rate_lem leg.args.leg bond) at (bond-low leg.args.leg leg.requires bond))
 
 returns-2 : tie.Need-returns-2
-unfolding scanRate isBond
+unfolding scan_rate is_bond
 returns-2 c =
     let found = c.before.before in
     let leg = found.before.before.before in
@@ -28,7 +28,7 @@ returns-3 c =
     let found = c.before.before in
     let leg = found.before.before.before in
     let other = sym found.is-corporate.ensures ∙ c.before.if2.false in
-    (sym (own-rate leg.args.leg other), leg.requires.government other)
+    (sym (own_rate leg.args.leg other), leg.requires.government other)
 
 pub scan-rate-spec : {M : Type 1} → statement M
 scan-rate-spec =

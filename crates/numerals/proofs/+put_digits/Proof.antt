@@ -4,7 +4,7 @@ use native.Mathlib.Omega.{arith}
 use borrow.Author.Rules.{rules}
 use borrow.Fn.Kinds.{In}
 use borrow.Fn.PlainCycle.{Measures, is, falls, and}
-use Rattle.numerals.proofs.Written.{room-last, room-fewer, room_after, put-more}
+use Rattle.numerals.proofs.Written.{room-last, room_fewer, room_after, put-more}
 use Rattle.numerals.proofs.put_digits.Reads as contract
 use Rattle.numerals.proofs.put_digits.Kinds as kinds
 use Rattle.numerals.proofs.put_digit.Reads as digit
@@ -30,7 +30,7 @@ pub +put-digits-spec : {M : Type 1} → statement M
     (λ c κs. search (rules, room-last))
     (λ c. search rules)
     (λ c. search rules)
-    (λ c κs. (omega arith, room-fewer c.before.before.before.args.x _ _ _ (omega arith) c.before.before.before.requires.1))
+    (λ c κs. (omega arith, room_fewer c.before.before.before.args.x _ _ _ (omega arith) c.before.before.before.requires.1))
     (λ c κs. let s = c.before.before.before.before.before.before.before in (search rules, omega (arith, room_after s.args.x s.args.at _ (search rules) s.requires.1, c.before.before.before.put-digits.ensures.ends)))
     (λ c. search rules)
     (λ c. put-more _ _ _ _ _ _ _ (search rules) (search rules) c.before.before.before.before.before.before.put-digits.ensures c.before.before.put-digit2.ensures))

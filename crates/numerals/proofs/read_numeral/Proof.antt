@@ -2,7 +2,7 @@
 use Prim.Native.Nat.{◌-◌}
 use native.Mathlib.Omega.{arith}
 use borrow.Author.Rules.{rules}
-use Rattle.numerals.proofs.Reading.{text-none, text-long, text-zero, text-lead, text-low, text-high, Read, read_none, read_more, read_fits, read_all}
+use Rattle.numerals.proofs.Reading.{text-none, text-long, text_zero, text-lead, text-low, text-high, Read, read_none, read_more, read_fits, read_all}
 use Rattle.numerals.proofs.read_numeral.Statement.{statement}
 use Rattle.numerals.proofs.read_numeral.Tie as tie
 
@@ -21,7 +21,7 @@ read-numeral-spec =
     (λ c. search text-none)
     (λ c. text-long _ _ (omega arith))
     (λ c. search rules)
-    (λ c. search text-zero)
+    (λ c. search text_zero)
     (λ c. search text-lead)
     (λ c. read_none _)
     (λ c. search rules)

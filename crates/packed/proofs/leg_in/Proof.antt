@@ -1,9 +1,9 @@
--- `leg_in` is `legIn`. Assumes nothing.
+-- `leg_in` is `leg_in`. Assumes nothing.
 use mathlib.Core.Path.{refl}
-use Rattle.packed.specs.Packed.{legIn}
+use Rattle.packed.specs.Packed.{leg_in}
 use Rattle.packed.proofs.leg_in.Statement.{statement}
 use Rattle.packed.proofs.leg_in.Tie as tie
 
 pub leg-in-spec : {M : Type 1} → statement M
-unfolding legIn
+unfolding leg_in
 leg-in-spec = tie.close (tie.spec (λ c. refl))

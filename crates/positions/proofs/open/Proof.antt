@@ -5,7 +5,7 @@ use Prim.Native.Nat.{◌-◌}
 use native.Mathlib.Omega.{arith}
 use borrow.Author.Rules.{rules}
 use Rattle.words.specs.Words.{entries}
-use Rattle.columns.specs.Columns.{countIn}
+use Rattle.columns.specs.Columns.{count_in}
 use Rattle.positions.proofs.Opening.{Opening, row_read, small-leg, opening-none, opening-more, opens_row, opens-price, opens-all}
 use Rattle.positions.proofs.open.Statement.{statement}
 use Rattle.positions.proofs.open.Tie as tie
@@ -13,7 +13,7 @@ use Rattle.positions.proofs.open.Tie as tie
 abbrev invariant-loop : tie.invariant-loop
 invariant-loop account side kind issuer maturity value price currency rating legs₀ left₀ n i₀ legs left i =
     let columns = side ∷ kind ∷ issuer ∷ maturity ∷ value ∷ currency ∷ rating ∷ [] in
-    (n ≡ countIn columns) × Opening account columns price legs₀ left₀ legs left i
+    (n ≡ count_in columns) × Opening account columns price legs₀ left₀ legs left i
 
 abbrev decreases-loop : tie.decreases-loop
 decreases-loop account side kind issuer maturity value price currency rating legs₀ left₀ n i₀ legs left i = n - i
@@ -60,7 +60,7 @@ open_spec =
     (tie.spec
     invariant-loop
     decreases-loop
-    (λ c. unfold countIn entries in (refl, opening-none (search rules)))
+    (λ c. unfold count_in entries in (refl, opening-none (search rules)))
     (λ c κs. search rules)
     (λ c κs. search rules)
     (λ c κs. search rules)

@@ -7,15 +7,15 @@ use native.Mathlib.Omega.{arith}
 use lib.ListN.{length}
 use borrow.Author.Rules.{rules}
 use borrow.Author.Tests.{not-true, not-false}
-use Rattle.csv.specs.Reading.{fieldCount}
+use Rattle.csv.specs.Reading.{field_count}
 use Rattle.columns.specs.Columns.{EntryRoom}
-use Rattle.layout.specs.Layout.{mayFollow}
-use Rattle.reader.specs.File.{parsedIn}
-use Rattle.reader.proofs.Reading.{Reading, values-few, countBy, reading-none}
-use Rattle.reader.proofs.Turns.{Turn, GoodTurn, turn-refused, turn-number, turn-letter, turn-values, turn-late, turn-ahead, turn-full-holdings, turn-full-lines}
-use Rattle.reader.proofs.Turns.{turn-passing, headed-first, headed-same, held_same, listed_same, listed-few, held-numbered, listed_more, numbered-values}
-use Rattle.reader.proofs.Turns.{held-few, lined-same, lined-more, tabled-same, entry-room, tabled-more}
-use Rattle.reader.proofs.FileRead.{contents-refused, contents-read, too_long, no_record}
+use Rattle.layout.specs.Layout.{may_follow}
+use Rattle.reader.specs.File.{parsed_in}
+use Rattle.reader.proofs.Reading.{Reading, values-few, count_by, reading-none}
+use Rattle.reader.proofs.Turns.{Turn, GoodTurn, turn-refused, turn-number, turn-letter, turn-values, turn_late, turn-ahead, turn_full_holdings, turn_full_lines}
+use Rattle.reader.proofs.Turns.{turn-passing, headed_first, headed_same, held_same, listed_same, listed-few, held_numbered, listed_more, numbered_values}
+use Rattle.reader.proofs.Turns.{held_few, lined_same, lined_more, tabled_same, entry-room, tabled_more}
+use Rattle.reader.proofs.FileRead.{contents-refused, contents-read, too_long_lem, no_record}
 use Rattle.reader.proofs.read.Statement.{statement}
 use Rattle.reader.proofs.read.Tie as tie
 
@@ -53,7 +53,7 @@ module _ (c : tie.After-may-follow invariant-loop decreases-loop) where
   good = record { turn = turn looked; good = c.before.before.parsed2.given.1 }
 
 -- one that may follow
-follows : (c : tie.Else3 invariant-loop decreases-loop) → mayFollow (at (looked c.before)).loop.before (letter c.before) ≡ true
+follows : (c : tie.Else3 invariant-loop decreases-loop) → may_follow (at (looked c.before)).loop.before (letter c.before) ≡ true
 follows c = sym c.before.may-follow.ensures ∙ not-false _ c.if3.false
 
 -- a letter that is neither the first nor the second is the third
@@ -61,7 +61,7 @@ third : (c : tie.Else5 invariant-loop decreases-loop) → letter c.before.before
 third c = omega (arith, turn-letter (good c.before.before.before), c.before.if4.false, c.if5.false)
 
 returns : tie.Need-returns invariant-loop decreases-loop
-returns c = contents-refused _ 18 0 (too_long _ c.if1.true) (λ z. omega arith)
+returns c = contents-refused _ 18 0 (too_long_lem _ c.if1.true) (λ z. omega arith)
 
 returns-2 : tie.Need-returns-2 invariant-loop decreases-loop
 returns-2 c = contents-refused _ 22 0 (no_record _ c.before.if1.false c.if2.true) (λ z. omega arith)
@@ -73,7 +73,7 @@ returns-3 c =
     contents-refused _ _ _ (turn-refused u e) (λ z. omega (arith, turn-number u e))
 
 returns-4 : tie.Need-returns-4 invariant-loop decreases-loop
-returns-4 c = contents-refused _ 22 _ (turn-late (good c.before) (sym c.before.may-follow.ensures ∙ not-true _ c.if3.true)) (λ z. omega arith)
+returns-4 c = contents-refused _ 22 _ (turn_late (good c.before) (sym c.before.may-follow.ensures ∙ not-true _ c.if3.true)) (λ z. omega arith)
 
 -- the head
 loop-again : tie.Need-loop-preserved invariant-loop decreases-loop
@@ -83,22 +83,22 @@ loop-again c =
     let here = c.if4.true in
     record {
       passing = turn-passing (good m) (follows c.before, λ z. absurd (omega (arith, here)), λ z. absurd (omega (arith, here)));
-      headed = headed-first (good m) here (follows c.before);
-      each-holding = tabled-same r.each-holding (held_same (good m) (λ z. omega (arith, here)));
-      each_line = tabled-same r.each_line (lined-same (good m) (λ z. omega (arith, here)));
-      each-lei = listed_same (good m) r.each-lei (λ z. omega (arith, here));
+      headed = headed_first (good m) here (follows c.before);
+      each_holding = tabled_same r.each_holding (held_same (good m) (λ z. omega (arith, here)));
+      each_line = tabled_same r.each_line (lined_same (good m) (λ z. omega (arith, here)));
+      each_lei = listed_same (good m) r.each_lei (λ z. omega (arith, here));
     }
 
 -- as many holdings as records of their letter
-counted : (m : tie.After-may-follow invariant-loop decreases-loop) → (at (looked m)).loop.holdings ≡ countBy (start (looked m)).args.text.now (at (looked m)).loop.«record» 1
-counted m = (at (looked m)).loop.inv.each-holding.counted ∙ held-few (good m)
+counted : (m : tie.After-may-follow invariant-loop decreases-loop) → (at (looked m)).loop.holdings ≡ count_by (start (looked m)).args.text.now (at (looked m)).loop.«record» 1
+counted m = (at (looked m)).loop.inv.each_holding.counted ∙ held_few (good m)
 
 -- a holding
 returns-5 : tie.Need-returns-5 invariant-loop decreases-loop
 returns-5 c =
     let m = c.before.before.before.before in
     contents-refused _ 3 0
-    (turn-full-holdings (good m) (follows c.before.before.before) c.before.if5.true (sym (counted m) ∙ c.if6.true))
+    (turn_full_holdings (good m) (follows c.before.before.before) c.before.if5.true (sym (counted m) ∙ c.if6.true))
     (λ z. omega arith)
 
 -- its issuer is numbered: fewer are known than there may be holdings
@@ -108,8 +108,8 @@ module _ (c : tie.Else6 invariant-loop decreases-loop) where
 
   few-known : (at (looked held)).loop.corporations < 256
   few-known =
-      listed-few (good held) (at (looked held)).loop.inv.each-lei
-      (omega (arith, counted held, (at (looked held)).loop.inv.each-holding.few, c.if6.false))
+      listed-few (good held) (at (looked held)).loop.inv.each_lei
+      (omega (arith, counted held, (at (looked held)).loop.inv.each_holding.few, c.if6.false))
 
 -- there is room for it
 module _ (c : tie.After-number-issuer invariant-loop decreases-loop) where
@@ -119,15 +119,15 @@ module _ (c : tie.After-number-issuer invariant-loop decreases-loop) where
   abbrev turned : tie.After-may-follow invariant-loop decreases-loop
   turned = held fits
 
-  holding-room : EntryRoom (fieldCount - 1) (start (looked turned)).args.rows (at (looked turned)).loop.holdings c.number-issuer.new.0
+  holding-room : EntryRoom (field_count - 1) (start (looked turned)).args.rows (at (looked turned)).loop.holdings c.number-issuer.new.0
       (at (looked turned)).loop.book
   holding-room =
       let r = (at (looked turned)).loop.inv in
-      entry-room r.each-holding fits.if6.left (start (looked turned)).args.text.now (at (looked turned)).loop.at
-      (omega (arith, held-few (good turned), values-few 1 (at (looked turned)).loop.«record» (parsedIn (start (looked turned)).args.text.now), r.passing.few))
+      entry-room r.each_holding fits.if6.left (start (looked turned)).args.text.now (at (looked turned)).loop.at
+      (omega (arith, held_few (good turned), values-few 1 (at (looked turned)).loop.«record» (parsed_in (start (looked turned)).args.text.now), r.passing.few))
       (looked turned).before.before.loop-test.taken
-      (start (looked turned)).pre.whole-book (start (looked turned)).pre.enough
-      (omega (arith, numbered-values (good turned) r.each-lei c.number-issuer.ensures)) (omega arith)
+      (start (looked turned)).pre.whole_book (start (looked turned)).pre.enough
+      (omega (arith, numbered_values (good turned) r.each_lei c.number-issuer.ensures)) (omega arith)
 
 loop-again-2 : tie.Need-loop-preserved-2 invariant-loop decreases-loop
 loop-again-2 c =
@@ -141,10 +141,10 @@ loop-again-2 c =
     let done = numbered.number-issuer.ensures in
     record {
       passing = turn-passing (good m) (follows second.before.before, λ z full. few.if6.left (counted m ∙ full), λ z. absurd (omega (arith, here)));
-      headed = headed-same (good m) second.before.if4.left r.headed;
-      each-holding = tabled-more r.each-holding few.if6.left (held-numbered (good m) r.each-lei done here) (holding-room numbered) put.put-entry.ensures;
-      each_line = tabled-same r.each_line (lined-same (good m) (λ z. omega (arith, here)));
-      each-lei = listed_more (good m) r.each-lei done _ _ _ here refl numbered.number-issuer.auto.1.0 numbered.number-issuer.auto.1.1.0;
+      headed = headed_same (good m) second.before.if4.left r.headed;
+      each_holding = tabled_more r.each_holding few.if6.left (held_numbered (good m) r.each_lei done here) (holding-room numbered) put.put-entry.ensures;
+      each_line = tabled_same r.each_line (lined_same (good m) (λ z. omega (arith, here)));
+      each_lei = listed_more (good m) r.each_lei done _ _ _ here refl numbered.number-issuer.auto.1.0 numbered.number-issuer.auto.1.1.0;
     }
 
 -- a line
@@ -152,7 +152,7 @@ returns-6 : tie.Need-returns-6 invariant-loop decreases-loop
 returns-6 c =
     let m = c.before.before.before.before in
     contents-refused _ 9 0
-    (turn-full-lines (good m) (follows c.before.before.before) (third c.before) (sym (at (looked m)).loop.inv.each_line.counted ∙ c.if7.true))
+    (turn_full_lines (good m) (follows c.before.before.before) (third c.before) (sym (at (looked m)).loop.inv.each_line.counted ∙ c.if7.true))
     (λ z. omega arith)
 
 module _ (c : tie.Else7 invariant-loop decreases-loop) where
@@ -163,9 +163,9 @@ module _ (c : tie.Else7 invariant-loop decreases-loop) where
   line-room =
       let r = (at (looked lined)).loop.inv in
       entry-room r.each_line c.if7.false (start (looked lined)).args.text.now (at (looked lined)).loop.at
-      (omega (arith, values-few 2 (at (looked lined)).loop.«record» (parsedIn (start (looked lined)).args.text.now), r.passing.few))
+      (omega (arith, values-few 2 (at (looked lined)).loop.«record» (parsed_in (start (looked lined)).args.text.now), r.passing.few))
       (looked lined).before.before.loop-test.taken
-      (start (looked lined)).pre.whole-lines (start (looked lined)).pre.enough (omega (arith, turn-values (good lined))) (omega arith)
+      (start (looked lined)).pre.whole_lines (start (looked lined)).pre.enough (omega (arith, turn-values (good lined))) (omega arith)
 
 loop-again-3 : tie.Need-loop-preserved-3 invariant-loop decreases-loop
 loop-again-3 c =
@@ -175,10 +175,10 @@ loop-again-3 c =
     let r = (at (looked m)).loop.inv in
     record {
       passing = turn-passing (good m) (follows other.before.before, λ z. absurd (other.if5.false z), λ z full. few.if7.false (r.each_line.counted ∙ full));
-      headed = headed-same (good m) other.before.if4.false r.headed;
-      each-holding = tabled-same r.each-holding (held_same (good m) other.if5.false);
-      each_line = tabled-more r.each_line few.if7.false (lined-more (good m) (third other)) (line-room few) c.before.before.put-entry2.ensures;
-      each-lei = listed_same (good m) r.each-lei other.if5.false;
+      headed = headed_same (good m) other.before.if4.false r.headed;
+      each_holding = tabled_same r.each_holding (held_same (good m) other.if5.false);
+      each_line = tabled_more r.each_line few.if7.false (lined_more (good m) (third other)) (line-room few) c.before.before.put-entry2.ensures;
+      each_lei = listed_same (good m) r.each_lei other.if5.false;
     }
 
 pub read_spec : {M : Type 1} → statement M
@@ -216,12 +216,12 @@ read_spec =
     returns-5
     (λ c κs.
     let few = c.before.before.before in
-    let lists = (at (looked (held few))).loop.inv.each-lei in
+    let lists = (at (looked (held few))).loop.inv.each_lei in
     let pre = (start (looked (held few))).pre in
-    (omega (arith, few-known few, lists.long-high, pre.room-high), omega (arith, few-known few, lists.long-low, pre.room-low)))
+    (omega (arith, few-known few, lists.long_high, pre.room_high), omega (arith, few-known few, lists.long_low, pre.room_low)))
     (λ c.
     let numbered = c.before.before.before.before.before in
-    sym (numbered-values (good (turned numbered)) (at (looked (turned numbered))).loop.inv.each-lei numbered.number-issuer.ensures))
+    sym (numbered_values (good (turned numbered)) (at (looked (turned numbered))).loop.inv.each_lei numbered.number-issuer.ensures))
     (λ c. search rules)
     (λ c κs. holding-room c.before.before.before.before.before.before)
     (λ c. search rules)

@@ -3,7 +3,7 @@ use mathlib.Core.Path.{◌≡◌}
 use mathlib.Core.List.{List}
 use Prim.Native.Nat.{ℕ}
 use borrow.Author.Rules.{rules}
-use Rattle.received.proofs.Named.{short, record-refused, measured, list-refused, put-room, all_named}
+use Rattle.received.proofs.Named.{short, record_refused, measured, list_refused, put_room, all_named}
 use Rattle.received.proofs.leis_into.Statement.{statement}
 use Rattle.received.proofs.leis_into.Tie as tie
 
@@ -52,20 +52,20 @@ returns : tie.Need-returns
 returns c =
     let asked = (too_short c).before in
     let f = file asked in
-    list-refused (text f) (leis f) (answer f) f.read.ensures asked.before.before.contents2.given.1 (same asked) _ _ (too_short c).if1.true c.before.before.put-answer2.ensures
+    list_refused (text f) (leis f) (answer f) f.read.ensures asked.before.before.contents2.given.1 (same asked) _ _ (too_short c).if1.true c.before.before.put-answer2.ensures
 
 put-leis-requires : tie.Need-put-leis-requires
 put-leis-requires c κs =
     let fits = c.before.before.before in
     let asked = fits.before in
     let f = file asked in
-    put-room (text f) (leis f) (answer f) f.read.ensures asked.before.before.contents2.given.1 (same asked) fits.if1.false (start f).pre
+    put_room (text f) (leis f) (answer f) f.read.ensures asked.before.before.contents2.given.1 (same asked) fits.if1.false (start f).pre
     f.read.kept.1.1.1.1.0 f.read.kept.1.1.1.1.1.0
 
 returns-2 : tie.Need-returns-2
 returns-2 c =
     let f = refused-file c in
-    record-refused (text f) (leis f) (answer f) f.read.ensures _ _ (refused c).contents.given.1 c.before.before.put-answer.ensures
+    record_refused (text f) (leis f) (answer f) f.read.ensures _ _ (refused c).contents.given.1 c.before.before.put-answer.ensures
 
 returns-3 : tie.Need-returns-3
 returns-3 c =

@@ -5,9 +5,9 @@ use Prim.Native.Nat.{ℕ, ◌≤◌}
 use native.Mathlib.Omega.{arith}
 use lib.ListN.{length}
 use borrow.Author.Rules.{rules}
-use Rattle.holding.specs.Holding.{headNumbers}
-use Rattle.columns.specs.Columns.{holdingSizes, lineSizes}
-use Rattle.received.proofs.Received.{short, record-refused, measured, list-refused, head-room, book-room, lines-room, all_read}
+use Rattle.holding.specs.Holding.{head_numbers}
+use Rattle.columns.specs.Columns.{holding_sizes, line_sizes}
+use Rattle.received.proofs.Received.{short, record_refused, measured, list_refused, head_room, book_room, lines_room, all_read}
 use Rattle.received.proofs.read_into.Statement.{statement}
 use Rattle.received.proofs.read_into.Tie as tie
 
@@ -40,7 +40,7 @@ abbrev file : tie.After-columns-too-short → tie.After-read
 file c = c.before.before.before.before.before.before.before.before.before.before.before.before
 
 same : (c : tie.After-columns-too-short) → c.columns-too-short.result ≡ short (text (file c)) (head (file c)) (held (file c)) (taken (file c)) (answer (file c))
-unfolding headNumbers holdingSizes lineSizes
+unfolding head_numbers holding_sizes line_sizes
 same c =
     let f = file c in
     measured (text f) (head f) (held f) (taken f) (answer f) f.read.ensures c.before.before.contents2.given.1 c.columns-too-short.ensures
@@ -89,16 +89,16 @@ returns : tie.Need-returns
 returns c =
     let asked = (too_short c).before in
     let f = file asked in
-    list-refused (text f) (head f) (held f) (taken f) (answer f) f.read.ensures asked.before.before.contents2.given.1 (same asked) _ _ (too_short c).if1.true
+    list_refused (text f) (head f) (held f) (taken f) (answer f) f.read.ensures asked.before.before.contents2.given.1 (same asked) _ _ (too_short c).if1.true
     c.before.before.put-answer2.ensures
 
 -- the head's list holds two numbers
 two-held : (c : tie.Else1) → 16 ≤ length (head (file c.before))
-unfolding headNumbers
+unfolding head_numbers
 two-held c =
     let asked = c.before in
     let f = file asked in
-    head-room (text f) (head f) (held f) (taken f) (answer f) f.read.ensures asked.before.before.contents2.given.1 (same asked) c.if1.false
+    head_room (text f) (head f) (held f) (taken f) (answer f) f.read.ensures asked.before.before.contents2.given.1 (same asked) c.if1.false
 
 put-word-requires : tie.Need-put-word-requires
 put-word-requires c κs = omega (arith, two-held c.before)
@@ -113,19 +113,19 @@ copy-book-requires c κs =
     let fits = fitting (dated (lettered c)) in
     let asked = fits.before in
     let f = file asked in
-    book-room (text f) (head f) (held f) (taken f) (answer f) f.read.ensures asked.before.before.contents2.given.1 (same asked) fits.if1.left (start f).pre refl
+    book_room (text f) (head f) (held f) (taken f) (answer f) f.read.ensures asked.before.before.contents2.given.1 (same asked) fits.if1.left (start f).pre refl
 
 copy-lines-requires : tie.Need-copy-lines-requires
 copy-lines-requires c κs =
     let fits = fitting (dated (lettered (booked c).before)) in
     let asked = fits.before in
     let f = file asked in
-    lines-room (text f) (head f) (held f) (taken f) (answer f) f.read.ensures asked.before.before.contents2.given.1 (same asked) fits.if1.left (start f).pre refl
+    lines_room (text f) (head f) (held f) (taken f) (answer f) f.read.ensures asked.before.before.contents2.given.1 (same asked) fits.if1.left (start f).pre refl
 
 returns-2 : tie.Need-returns-2
 returns-2 c =
     let f = refused-file c in
-    record-refused (text f) (head f) (held f) (taken f) (answer f) f.read.ensures _ _ (refused c).contents.given.1 c.before.before.put-answer.ensures
+    record_refused (text f) (head f) (held f) (taken f) (answer f) f.read.ensures _ _ (refused c).contents.given.1 c.before.before.put-answer.ensures
 
 returns-3 : tie.Need-returns-3
 returns-3 c =

@@ -2,8 +2,8 @@
 use Prim.Native.Nat.{◌<◌}
 use borrow.Author.Rules.{rules}
 use Rattle.lists.proofs.Entries.{at_each}
-use Rattle.records.specs.Records.{Slices, makeSlices}
-use Rattle.records.proofs.Booked.{room, books-written}
+use Rattle.records.specs.Records.{Slices, make_slices}
+use Rattle.records.proofs.Booked.{room, books_written}
 use Rattle.records.proofs.book.Statement.{statement}
 use Rattle.records.proofs.book.Tie as tie
 
@@ -16,7 +16,7 @@ module _ (c : tie.After-judge) where
   entered = measured.before.before.before
 
   abbrev lent : Slices
-  lent = let args = entered.before.args in makeSlices args.list.now args.totals.now args.answer.now
+  lent = let args = entered.before.args in make_slices args.list.now args.totals.now args.answer.now
 
 put-reply-requires : tie.Need-put-reply-requires
 put-reply-requires c κs =
@@ -29,7 +29,7 @@ returns c =
     let known = put.before.before.before in
     let wrote = known.before.before in
     let judged = wrote.before.before.before.before in
-    books-written (lent judged) (measured judged).too_short.ensures judged.before.before.day-of.ensures judged.judge.ensures.1
+    books_written (lent judged) (measured judged).too_short.ensures judged.before.before.day-of.ensures judged.judge.ensures.1
     (at_each (λ x. x < 256) 0 (lent judged).list (λ i _. ((entered judged).slice-known.given i).fits))
     (at_each (λ x. x < 256) 0 wrote.write.new.0 (λ i _. (known.slice-known4.given i).fits))
     wrote.before.trade-of.ensures wrote.write.ensures put.put-reply.ensures

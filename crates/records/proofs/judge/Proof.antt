@@ -1,18 +1,18 @@
 -- `judge` sees the records of a book, for a move twice, and concludes. Assumes nothing.
 use borrow.Author.Rules.{rules}
-use Rattle.records.specs.Records.{recordsIn}
+use Rattle.records.specs.Records.{records_in}
 use Rattle.records.proofs.Judged.{known, judged}
 use Rattle.records.proofs.judge.Statement.{statement}
 use Rattle.records.proofs.judge.Tie as tie
 
 conclude-requires : tie.Need-conclude-requires
-unfolding recordsIn
+unfolding records_in
 conclude-requires c κs =
     let seen = c.before.before in
     known _ _ seen.before.before.«open».ensures seen.before.trade-of.ensures seen.see-rows.ensures
 
 returns : tie.Need-returns
-unfolding recordsIn
+unfolding records_in
 returns c =
     let again = c.before.before in
     let seen = again.before in

@@ -3,8 +3,8 @@ use mathlib.Core.Path.{refl}
 use Prim.Native.Nat.{◌<◌}
 use borrow.Author.Rules.{rules}
 use Rattle.lists.proofs.Entries.{at_each}
-use Rattle.records.specs.Records.{Slices, makeSlices}
-use Rattle.records.proofs.Booked.{room, books-moved}
+use Rattle.records.specs.Records.{Slices, make_slices}
+use Rattle.records.proofs.Booked.{room, books_moved}
 use Rattle.records.proofs.move_to.Statement.{statement}
 use Rattle.records.proofs.move_to.Tie as tie
 
@@ -17,7 +17,7 @@ module _ (c : tie.After-judge) where
   entered = measured.before.before.before
 
   abbrev lent : Slices
-  lent = let args = entered.before.args in makeSlices args.list.now args.totals.now args.answer.now
+  lent = let args = entered.before.args in make_slices args.list.now args.totals.now args.answer.now
 
 put-reply-requires : tie.Need-put-reply-requires
 put-reply-requires c κs =
@@ -28,7 +28,7 @@ returns : tie.Need-returns
 returns c =
     let put = c.before.before.before.before in
     let judged = put.before.before.before in
-    books-moved (lent judged) (measured judged).too_short.ensures judged.before.day-of.ensures judged.judge.ensures.1 (entered judged).before.args.to refl
+    books_moved (lent judged) (measured judged).too_short.ensures judged.before.day-of.ensures judged.judge.ensures.1 (entered judged).before.args.to refl
     (at_each (λ x. x < 256) 0 (lent judged).list (λ i _. ((entered judged).shared-slice-known.given i).fits)) put.put-reply.ensures
 
 pub move_to_spec : {M : Type 1} → statement M

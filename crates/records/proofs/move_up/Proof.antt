@@ -3,7 +3,7 @@ use Prim.Native.Nat.{◌-◌}
 use native.Mathlib.Omega.{arith}
 use borrow.Author.Rules.{rules}
 use Rattle.records.proofs.Places.{moved_none}
-use Rattle.records.proofs.Rewriting.{Moving, still, moving-none, moving-more, moving-all}
+use Rattle.records.proofs.Rewriting.{Moving, still, moving_none, moving_more, moving_all}
 use Rattle.records.proofs.move_up.Statement.{statement}
 use Rattle.records.proofs.move_up.Tie as tie
 
@@ -22,12 +22,12 @@ loop-again : tie.Need-loop-preserved invariant-loop decreases-loop
 loop-again c =
     let turn = c.before in
     let at = turn.before in
-    moving-more _ _ _ (start at).requires.0 (start at).requires.1 at.loop.invariant turn.loop-test.true
+    moving_more _ _ _ (start at).requires.0 (start at).requires.1 at.loop.invariant turn.loop-test.true
 
 returns-2 : tie.Need-returns-2 invariant-loop decreases-loop
 returns-2 c =
     let at = c.before in
-    moving-all _ _ _ (start at).requires.0 (start at).requires.1 at.loop.invariant at.before.if1.false c.loop-test.false
+    moving_all _ _ _ (start at).requires.0 (start at).requires.1 at.loop.invariant at.before.if1.false c.loop-test.false
 
 pub move_up_spec : {M : Type 1} → statement M
 move_up_spec =
@@ -38,7 +38,7 @@ move_up_spec =
     (λ c. still (moved_none _ _ _ c.if1.true))
     (λ c. search rules)
     (λ c. search rules)
-    (λ c. moving-none _ _ _ c.if1.false)
+    (λ c. moving_none _ _ _ c.if1.false)
     (λ c. omega (arith, c.before.before.loop.invariant.long))
     (λ c. omega (arith, c.before.before.loop.invariant.from))
     (λ c. omega (arith, c.before.before.loop.invariant.long, c.before.before.loop.invariant.from))

@@ -5,7 +5,7 @@ use native.Mathlib.Omega.{arith}
 use lib.ListN.{length}
 use borrow.Author.Rules.{rules}
 use Rattle.lists.proofs.Entries.{at_each}
-use Rattle.records.proofs.Totals.{replied-accepted, replied-refused}
+use Rattle.records.proofs.Totals.{replied_accepted, replied_refused}
 use Rattle.records.proofs.put_finding.Statement.{statement}
 use Rattle.records.proofs.put_finding.Tie as tie
 
@@ -21,7 +21,7 @@ returns : tie.Need-returns
 returns c =
     let put = c.before.before in
     let at = put.before.before.before in
-    replied-refused _ _ _ _ _ _ _ _ _ at.before.number_of.ensures at.value_of.ensures put.put-answer.ensures put.before.before.if1.true refl
+    replied_refused _ _ _ _ _ _ _ _ _ at.before.number_of.ensures at.value_of.ensures put.put-answer.ensures put.before.before.if1.true refl
 
 returns-2 : tie.Need-returns-2
 returns-2 c =
@@ -29,7 +29,7 @@ returns-2 c =
     let wrote = put.before.before.before.before in
     let no = wrote.before.before in
     let at = no.before in
-    replied-accepted _ _ _ _ _ _ _ _ _ at.before.number_of.ensures at.value_of.ensures put.put-answer2.ensures no.if1.false
+    replied_accepted _ _ _ _ _ _ _ _ _ at.before.number_of.ensures at.value_of.ensures put.put-answer2.ensures no.if1.false
     (room no).1 (room no).0
     (at_each (λ x. x < 2 ^ 64) 0 (start no).args.five.now (λ i _. (at.before.before.before.before.shared-slice-known.given i).fits))
     wrote.write-words.ensures

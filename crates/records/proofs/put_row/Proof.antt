@@ -4,13 +4,13 @@ use Prim.Native.Nat.{◌+◌, ◌*◌, ◌≤◌}
 use native.Mathlib.Omega.{arith}
 use lib.ListN.{length}
 use borrow.Author.Rules.{rules}
-use Rattle.holding.specs.Holding.{numbersOf}
+use Rattle.holding.specs.Holding.{numbers_of}
 use Rattle.records.proofs.Rewriting.{word_over, none_over, row-over, row_put}
 use Rattle.records.proofs.put_row.Statement.{statement}
 use Rattle.records.proofs.put_row.Tie as tie
 
 returns : tie.Need-returns
-unfolding numbersOf
+unfolding numbers_of
 returns c =
     let c7 = c.before.before in
     let c6 = c7.before.before.before.before in
@@ -22,7 +22,7 @@ returns c =
     let start = c1.before.before.before in
     let row = start.args.row in
     let w = 7 * start.args.i in
-    let numbers = numbersOf row in
+    let numbers = numbers_of row in
     let old = start.args.list.now in
     let room : 8 * w + 8 * 7 ≤ length old = omega (arith, start.requires) in
     let one = word_over numbers old _ _ w w 0 (omega arith) room (none_over numbers old w) (omega arith) c1.put_word.ensures in

@@ -2,7 +2,7 @@
 use Prim.Native.Nat.{◌-◌}
 use native.Mathlib.Omega.{arith}
 use borrow.Author.Rules.{rules}
-use Rattle.records.proofs.Seen.{Seeing, seeing-countable, seeing-more, seeing-all}
+use Rattle.records.proofs.Seen.{Seeing, seeing_countable, seeing_more, seeing_all}
 use Rattle.records.proofs.see_rows.Statement.{statement}
 use Rattle.records.proofs.see_rows.Tie as tie
 
@@ -24,12 +24,12 @@ see-requires : tie.Need-see-requires invariant-loop decreases-loop
 see-requires c κs =
     let turn = c.before in
     let asked = (start turn.before).pre in
-    seeing-countable turn.before.loop.invariant turn.loop-test.true asked.0 asked.2 asked.1
+    seeing_countable turn.before.loop.invariant turn.loop-test.true asked.0 asked.2 asked.1
 
 loop-again : tie.Need-loop-preserved invariant-loop decreases-loop
 loop-again c =
     let turn = c.before.before in
-    seeing-more turn.before.loop.invariant turn.loop-test.true (start turn.before).pre.0 c.before.row_at.ensures c.see.ensures
+    seeing_more turn.before.loop.invariant turn.loop-test.true (start turn.before).pre.0 c.before.row_at.ensures c.see.ensures
 
 pub see-rows-spec : {M : Type 1} → statement M
 see-rows-spec =
@@ -44,4 +44,4 @@ see-rows-spec =
     (λ c. omega arith)
     (λ c. omega arith)
     loop-again
-    (λ c. seeing-all c.before.loop.invariant c.loop-test.false))
+    (λ c. seeing_all c.before.loop.invariant c.loop-test.false))

@@ -4,7 +4,7 @@ use mathlib.Core.List.{flat_map}
 use Prim.Native.Nat.{◌+◌, ◌-◌, ◌*◌, ◌≤◌}
 use lib.ListN.{length, take}
 use borrow.Author.Rules.{rules}
-use Rattle.report.specs.Report.{Written, afterComma}
+use Rattle.report.specs.Report.{Written, after_comma}
 use Rattle.report.proofs.Written.{written_none, written-more}
 use Rattle.report.proofs.Lines.{line-written}
 use Rattle.report.proofs.put_line.Statement.{statement}
@@ -12,7 +12,7 @@ use Rattle.report.proofs.put_line.Tie as tie
 
 abbrev invariant-loop : tie.invariant-loop
 invariant-loop letter count at out₀ numbers next₀ i₀ out next i =
-    (i ≤ count) × (length out ≡ length out₀) × (next ≤ next₀ + 21 * i) × Written (flat_map afterComma (take i numbers)) next₀ next out₀ out
+    (i ≤ count) × (length out ≡ length out₀) × (next ≤ next₀ + 21 * i) × Written (flat_map after_comma (take i numbers)) next₀ next out₀ out
 
 abbrev decreases-loop : tie.decreases-loop
 decreases-loop letter count at out₀ numbers next₀ i₀ out next i = count - i
@@ -24,7 +24,7 @@ loop-again c =
       search rules,
       search rules,
       search rules,
-      written-more afterComma _ at.loop.i (search rules) (search rules) at.loop.invariant.3 put.put-number.ensures.0,
+      written-more after_comma _ at.loop.i (search rules) (search rules) at.loop.invariant.3 put.put-number.ensures.0,
     )
 
 returns : tie.Need-returns invariant-loop decreases-loop

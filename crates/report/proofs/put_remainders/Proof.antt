@@ -5,9 +5,9 @@ use Prim.Native.Nat.{ℕ, ◌+◌, ◌-◌, ◌*◌, ◌≤◌}
 use native.Mathlib.Omega.{arith}
 use lib.ListN.{length, get_or, take}
 use borrow.Author.Rules.{rules}
-use Rattle.lists.specs.Tables.{listTo}
+use Rattle.lists.specs.Tables.{list_to}
 use Rattle.lists.proofs.Tables.{length_to}
-use Rattle.report.specs.Report.{Written, judgedLine}
+use Rattle.report.specs.Report.{Written, judged_line}
 use Rattle.report.proofs.Written.{written_none, written-more}
 use Rattle.report.proofs.Lines.{remainder-written, whole}
 use Rattle.report.proofs.put_remainders.Statement.{statement}
@@ -16,7 +16,7 @@ use Rattle.report.proofs.put_remainders.Tie as tie
 abbrev invariant-loop : tie.invariant-loop
 invariant-loop count left margins ranks at out₀ next₀ i₀ out next i =
     (i ≤ 256) × (i ≤ count) × (length out ≡ length out₀) × (next ≤ next₀ + 66 * i)
-    × Written (flat_map (judgedLine left margins) (take i (listTo 256 (λ k. get_or ranks k 0)))) next₀ next out₀ out
+    × Written (flat_map (judged_line left margins) (take i (list_to 256 (λ k. get_or ranks k 0)))) next₀ next out₀ out
 
 abbrev decreases-loop : tie.decreases-loop
 decreases-loop count left margins ranks at out₀ next₀ i₀ out next i = 256 - i
@@ -38,7 +38,7 @@ loop-again c =
       search rules,
       search rules,
       search rules,
-      written-more _ (listTo 256 ranking) at.loop.i (search rules) (search rules) at.loop.invariant.4
+      written-more _ (list_to 256 ranking) at.loop.i (search rules) (search rules) at.loop.invariant.4
           (remainder-written args.left.now args.margins.now args.ranks.now _ (search rules) number.entry.ensures cents.entry2.ensures units.entry3.ensures put.put-line.ensures.0),
     )
 

@@ -1,17 +1,17 @@
 -- `refusal` prints the line of a refusal. Assumes nothing.
 use borrow.Author.Rules.{rules}
-use Rattle.report.specs.Report.{answerNumbers, refusalLine}
+use Rattle.report.specs.Report.{answer_numbers, refusal_line}
 use Rattle.report.proofs.Written.{written-counted}
-use Rattle.report.proofs.Prints.{buffer-prints}
+use Rattle.report.proofs.Prints.{buffer_prints}
 use Rattle.report.proofs.refusal.Statement.{statement}
 use Rattle.report.proofs.refusal.Tie as tie
 
 returns : tie.Need-returns
-unfolding refusalLine answerNumbers
+unfolding refusal_line answer_numbers
 returns c =
     let printed = c.before.before in
     let written = printed.before.before.before.before in
-    buffer-prints (search rules) written.put-line.ensures.0 printed.print.ensures
+    buffer_prints (search rules) written.put-line.ensures.0 printed.print.ensures
 
 pub refusal-spec : {M : Type 1} → statement M
 refusal-spec =

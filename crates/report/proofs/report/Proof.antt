@@ -1,7 +1,7 @@
 -- `report` prints the lines of a verdict. Assumes nothing.
 use borrow.Author.Rules.{rules}
 use Rattle.report.proofs.Written.{written-counted, written-few}
-use Rattle.report.proofs.Prints.{buffer-prints}
+use Rattle.report.proofs.Prints.{buffer_prints}
 use Rattle.report.proofs.report.Statement.{statement}
 use Rattle.report.proofs.report.Tie as tie
 
@@ -9,7 +9,7 @@ returns : tie.Need-returns
 returns c =
     let printed = c.before.before in
     let written = printed.before.before.before.before in
-    buffer-prints (search rules) written.put-report.ensures printed.print.ensures
+    buffer_prints (search rules) written.put-report.ensures printed.print.ensures
 
 pub report-spec : {M : Type 1} → statement M
 report-spec =

@@ -2,14 +2,14 @@
 use mathlib.Core.Path.{sym}
 use borrow.Author.Rules.{rules}
 use borrow.Author.Tests.{lt-ltb, le-ltb}
-use Rattle.lists.proofs.Firsts.{first-here, first_next, first-of-none}
-use Rattle.proposal.specs.Outcome.{sizeFaults}
+use Rattle.lists.proofs.Firsts.{first-here, first_next, first_of-none}
+use Rattle.proposal.specs.Outcome.{size_faults}
 use Rattle.sizes.proofs.Sizes.{first-tested}
 use Rattle.sizes.proofs.lengths.Statement.{statement}
 use Rattle.sizes.proofs.lengths.Tie as tie
 
 pub lengths-spec : {M : Type 1} → statement M
-unfolding sizeFaults
+unfolding size_faults
 lengths-spec =
     tie.close
     (tie.spec
@@ -23,4 +23,4 @@ lengths-spec =
     (first_next _ _ _ c.before.before.before.if1.false (first_next _ _ _ (le-ltb _ _ c.before.before.if2.false) (first_next _ _ _ (le-ltb _ _ c.before.if3.false) (first-here _ _ _ c.if4.true)))))
     (λ c.
     first-tested _ _ _ _ _
-    (sym (first-of-none _ _ (c.before.before.before.if1.false, (le-ltb _ _ c.before.before.if2.false, (le-ltb _ _ c.before.if3.false, (c.if4.false, tt))))))))
+    (sym (first_of-none _ _ (c.before.before.before.if1.false, (le-ltb _ _ c.before.before.if2.false, (le-ltb _ _ c.before.if3.false, (c.if4.false, tt))))))))

@@ -1,8 +1,8 @@
--- `stopped` is `stoppedAt`. Assumes nothing.
+-- `stopped` is `stopped_at`. Assumes nothing.
 use borrow.Author.Rules.{rules}
-use Rattle.tally.specs.Lines.{stoppedAt}
+use Rattle.tally.specs.Lines.{stopped_at}
 use Rattle.tally.proofs.stopped.Statement.{statement}
 use Rattle.tally.proofs.stopped.Tie as tie
 
 pub stopped-spec : {M : Type 1} → statement M
-stopped-spec = tie.close (tie.spec (λ c κs. search rules) (λ c. unfold stoppedAt in rw c.fault-at.ensures))
+stopped-spec = tie.close (tie.spec (λ c κs. search rules) (λ c. unfold stopped_at in rw c.fault-at.ensures))

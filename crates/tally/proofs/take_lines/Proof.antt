@@ -7,18 +7,18 @@ use native.Mathlib.Omega.{arith}
 use lib.ListN.{length, length-set}
 use borrow.Author.Rules.{rules}
 use Rattle.lists.specs.Tables.{Each}
-use Rattle.lists.proofs.Entries.{each-so}
+use Rattle.lists.proofs.Entries.{each_so}
 use Rattle.pairing.specs.declared.Line.{Line}
 use Rattle.words.specs.Words.{entries}
-use Rattle.proposal.specs.Submission.{lineBy}
-use Rattle.columns.specs.Columns.{countIn, numbersAt, linesIn}
-use Rattle.tally.proofs.Walk.{Walk, starts, ends, Turn, no-long, no_short, Read, ready, refuses, goes}
+use Rattle.proposal.specs.Submission.{line_by}
+use Rattle.columns.specs.Columns.{count_in, numbers_at, lines_in}
+use Rattle.tally.proofs.Walk.{Walk, starts, ends, Turn, no_long, no_short, Read, ready, refuses, goes}
 use Rattle.tally.proofs.take_lines.Statement.{statement}
 use Rattle.tally.proofs.take_lines.Tie as tie
 
 -- a line of the columns by its number
 abbrev lineIn : List (List ℕ) → ℕ → Line
-lineIn columns k = lineBy (numbersAt columns k)
+lineIn columns k = line_by (numbers_at columns k)
 
 abbrev invariant-loop : tie.invariant-loop
 invariant-loop n legs left₀ long short amount m units₀ saving₀ i₀ left units saving i =
@@ -36,18 +36,18 @@ columns c = (entry c).args.long.now ∷ (entry c).args.short.now ∷ (entry c).a
 turn : (c : tie.In-loop invariant-loop decreases-loop)
     → Turn (entry c.before).args.n (entry c.before).args.legs.now (entry c.before).args.left.now (lineIn (columns c.before))
     (length (entry c.before).args.long.now / 8) c.before.loop.left c.before.loop.units c.before.loop.saving c.before.loop.i
-unfolding countIn entries
+unfolding count_in entries
 turn c =
     let start = entry c.before in
     record { room = start.pre.held; bounded = start.pre.bounded; walk = c.before.loop.invariant; more = c.loop-test.true; few = start.pre.few }
 
 -- the line stands in each column
 stands : (c : tie.In-loop invariant-loop decreases-loop) → Each (λ (xs : List ℕ). 8 * c.before.loop.i + 8 ≤ length xs) (columns c.before)
-unfolding countIn entries
+unfolding count_in entries
 stands c =
     let m = length (entry c.before).args.long.now / 8 in
     let i = c.before.loop.i in
-    each-so (λ (xs : List ℕ). 8 * m ≤ length xs) (λ xs. 8 * i + 8 ≤ length xs) (λ xs q. omega (arith, c.loop-test.true)) (columns c.before) (entry c.before).pre.each
+    each_so (λ (xs : List ℕ). 8 * m ≤ length xs) (λ xs. 8 * i + 8 ≤ length xs) (λ xs q. omega (arith, c.loop-test.true)) (columns c.before) (entry c.before).pre.each
 
 -- where both numbers of the line are in the book
 abbrev inside : tie.After-leg-in2 invariant-loop decreases-loop → tie.Else2 invariant-loop decreases-loop
@@ -70,7 +70,7 @@ read : (c : tie.After-leg-in2 invariant-loop decreases-loop)
     → Read (entry (now (inside c)).before).args.n (entry (now (inside c)).before).args.legs.now (lineIn (columns (now (inside c)).before) (now (inside c)).before.loop.i)
     (record { long = (inside c).before.before.before.word.result; short = (inside c).before.before.word2.result; amount = c.before.before.before.before.word3.result })
     c.before.before.leg-in.result c.leg-in2.result
-unfolding numbersAt
+unfolding numbers_at
 read c =
     let at = inside c in
     record {
@@ -81,25 +81,25 @@ read c =
       };
       first = at.before.if1.left;
       second = at.if2.left;
-      long-leg = c.before.before.leg-in.ensures;
-      short-leg = c.leg-in2.ensures;
+      long_leg = c.before.before.leg-in.ensures;
+      short_leg = c.leg-in2.ensures;
     }
 
 returns : tie.Need-returns invariant-loop decreases-loop
-unfolding linesIn countIn entries numbersAt
+unfolding lines_in count_in entries numbers_at
 returns c =
     let at = c.before.before.before in
-    no-long (turn at.before) (omega (arith, at.word.ensures, c.before.if1.true)) c.stopped.ensures
+    no_long (turn at.before) (omega (arith, at.word.ensures, c.before.if1.true)) c.stopped.ensures
 
 returns-2 : tie.Need-returns-2 invariant-loop decreases-loop
-unfolding linesIn countIn entries numbersAt
+unfolding lines_in count_in entries numbers_at
 returns-2 c =
     let listed = c.before.before in
     let at = listed.before.before in
     no_short (turn at.before) (omega (arith, at.word.ensures, listed.if1.false)) (omega (arith, listed.before.word2.ensures, c.before.if2.true)) c.stopped2.ensures
 
 returns-3 : tie.Need-returns-3 invariant-loop decreases-loop
-unfolding linesIn countIn entries
+unfolding lines_in count_in entries
 returns-3 c =
     let applied = c.before.before.before.before in
     refuses (turn (now (inside applied.before))) (read applied.before) applied.apply.ensures c.before.before.applied.given.1 c.stopped3.ensures
@@ -109,7 +109,7 @@ abbrev at-apply : tie.After-known-told2 invariant-loop decreases-loop → tie.Af
 at-apply c = c.before.before.before.before
 
 returns-4 : tie.Need-returns-4 invariant-loop decreases-loop
-unfolding linesIn countIn entries
+unfolding lines_in count_in entries
 returns-4 c =
     let done = c.before in
     let start = entry done.before in

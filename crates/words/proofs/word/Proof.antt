@@ -1,6 +1,6 @@
 -- `word` reads the i-th number, from its highest digit down. Assumes nothing.
 use borrow.Author.Rules.{rules}
-use Rattle.words.proofs.Digits.{digit-none, digit-more, word-at}
+use Rattle.words.proofs.Digits.{digit-none, digit-more, word_at_lem}
 use Rattle.words.proofs.word.Statement.{statement}
 use Rattle.words.proofs.word.Tie as tie
 
@@ -13,7 +13,7 @@ returns c =
     let c3 = c4.before.before in
     let c2 = c3.before.before in
     let c1 = c2.before.before in
-    word-at _ _ _
+    word_at_lem _ _ _
     (digit-more _ _ _ _ _ c.join8.ensures.0
     (digit-more _ _ _ _ _ c7.join7.ensures.0
     (digit-more _ _ _ _ _ c6.join6.ensures.0

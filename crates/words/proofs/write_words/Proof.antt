@@ -5,7 +5,7 @@ use lib.ListN.{length, take}
 use borrow.Author.Rules.{rules}
 use Rattle.lists.specs.Tables.{front}
 use Rattle.words.specs.Words.{encode}
-use Rattle.words.proofs.Encoded.{encoded-none, encoded-more}
+use Rattle.words.proofs.Encoded.{encoded_none, encoded_more}
 use Rattle.words.proofs.write_words.Statement.{statement}
 use Rattle.words.proofs.write_words.Tie as tie
 
@@ -16,7 +16,7 @@ abbrev decreases-loop : tie.decreases-loop
 decreases-loop numbers n bytes₀ i₀ bytes i = n - i
 
 loop-again : tie.Need-loop-preserved invariant-loop decreases-loop
-loop-again c = (search rules, search rules, encoded-more _ _ _ _ _ (search rules) c.before.before.before.before.before.before.loop.invariant.2 c.before.before.put_word.ensures)
+loop-again c = (search rules, search rules, encoded_more _ _ _ _ _ (search rules) c.before.before.before.before.before.before.loop.invariant.2 c.before.before.put_word.ensures)
 
 returns : tie.Need-returns invariant-loop decreases-loop
 returns c =
@@ -29,7 +29,7 @@ write-words-spec =
     (tie.spec
     invariant-loop
     decreases-loop
-    (λ c. search (rules, encoded-none))
+    (λ c. search (rules, encoded_none))
     (λ c. search rules)
     (λ c. search rules)
     (λ c κs. search rules)

@@ -1,12 +1,12 @@
 -- `capped` is the rate that `Capped` makes. Assumes nothing.
 use native.Mathlib.Omega.{arith}
-use Rattle.article.specs.Pair.{ruleRate}
+use Rattle.article.specs.Pair.{rule_rate}
 use borrow.Author.Rules.{rules}
 use Rattle.article.proofs.pair.capped.Statement.{statement}
 use Rattle.article.proofs.pair.capped.Tie as tie
 
 pub capped-spec : {M : Type 1} → statement M
-unfolding ruleRate
+unfolding rule_rate
 capped-spec =
     tie.close
     (tie.spec

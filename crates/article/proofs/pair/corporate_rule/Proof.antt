@@ -1,4 +1,4 @@
--- `corporate_rule` is `corporateRule` of two legs of one issuer, just one a bond: the bond's rating is asked, and whether it is a corporation's. Assumes nothing.
+-- `corporate_rule` is `corporate_rule` of two legs of one issuer, just one a bond: the bond's rating is asked, and whether it is a corporation's. Assumes nothing.
 use mathlib.Core.Path.{sym, ◌∙◌}
 use borrow.Author.Rules.{rules}
 use Rattle.article.proofs.Outside.{unrated, not-corporate, rated-bond}

@@ -1,12 +1,12 @@
--- `domestic_rule` is `domesticRule`: the kinds decide, and where they pair the classes. Assumes nothing.
+-- `domestic_rule` is `domestic_rule`: the kinds decide, and where they pair the classes. Assumes nothing.
 use mathlib.Core.Path.{sym, ◌∙◌}
-use Rattle.article.specs.Pair.{domesticRule}
+use Rattle.article.specs.Pair.{domestic_rule}
 use borrow.Author.Rules.{rules}
 use Rattle.article.proofs.pair.domestic_rule.Statement.{statement}
 use Rattle.article.proofs.pair.domestic_rule.Tie as tie
 
 pub domestic-rule-spec : {M : Type 1} → statement M
-unfolding domesticRule
+unfolding domestic_rule
 domestic-rule-spec =
     tie.close
     (tie.spec

@@ -1,11 +1,11 @@
--- `kinds_pair` is `kindsPair`: an arm's two kind numbers decide whether the kinds pair. Assumes nothing.
+-- `kinds_pair` is `kinds_pair`: an arm's two kind numbers decide whether the kinds pair. Assumes nothing.
 use Rattle.lists.proofs.Tests.{arms}
-use Rattle.article.specs.Pair.{kindsPair, isBond, isStrip}
+use Rattle.article.specs.Pair.{kinds_pair, is_bond, is_strip}
 use Rattle.article.proofs.pair.kinds_pair.Statement.{statement}
 use Rattle.article.proofs.pair.kinds_pair.Tie as tie
 
 pub kinds-pair-spec : {M : Type 1} → statement M
-unfolding kindsPair isBond isStrip
+unfolding kinds_pair is_bond is_strip
 kinds-pair-spec =
     tie.close
     (tie.spec

@@ -1,6 +1,6 @@
--- `leg_of` is `legOf`: each field by its own function's promise, and the rate by its law. Assumes nothing.
+-- `leg_of` is `leg_of`: each field by its own function's promise, and the rate by its law. Assumes nothing.
 use Rattle.article.proofs.LegRates.{leg-rates}
-use Rattle.article.specs.Pair.{legOf}
+use Rattle.article.specs.Pair.{leg_of}
 use borrow.Author.Rules.{rules}
 use Rattle.article.proofs.pair.leg_of.Statement.{statement}
 use Rattle.article.proofs.pair.leg_of.Tie as tie
@@ -18,7 +18,7 @@ rate-in-requires : tie.Need-rate-in-requires
 rate-in-requires c κs = search rules
 
 returns : tie.Need-returns
-unfolding legOf
+unfolding leg_of
 returns c =
     let lettered = c.before in
     let row = lettered.before.before.row-of.ensures in

@@ -7,7 +7,7 @@ use borrow.Author.Tests.{not-true, not-false, eq-eqb}
 use Rattle.lists.proofs.Tests.{arms}
 use Rattle.article.proofs.PairRates.{permitted-high}
 use Rattle.article.proofs.Saved.{saving-high}
-use Rattle.article.specs.Pair.{allowed, isLong, isShort, ruleOf, permits, ruleRate, pairRateOf, savingRateOf, pairAnswer, pair_of, RateInRange, Pairs}
+use Rattle.article.specs.Pair.{allowed, is_long, is_short, rule_of, permits, rule_rate, pair_rate_of, saving_rate_of, pair_answer, pair_of, RateInRange, Pairs}
 use Rattle.article.specs.declared.pair.Rule.{Rule}
 use Rattle.article.specs.declared.pair.Leg.{Leg}
 use Rattle.article.specs.declared.pair.Pair.TheVariants.{Allowed, NotAllowed}
@@ -16,35 +16,35 @@ use Rattle.article.proofs.pair.pair_legs.Statement.{statement}
 use Rattle.article.proofs.pair.pair_legs.Tie as tie
 
 module _ (l s : Leg) where
-  no-pair : allowed l s ≡ false → Pairs l s NotAllowed
-  unfolding pairAnswer pair_of
-  no-pair e = record { answered = rw e; rate-high = omega arith; saving-high = omega arith }
+  no_pair : allowed l s ≡ false → Pairs l s NotAllowed
+  unfolding pair_answer pair_of
+  no_pair e = record { answered = rw e; rate-high = omega arith; saving-high = omega arith }
 
   -- a long and a short of one period, and what their rule was found to be and to permit
-  module _ (long : l.side ≡ 0) (short : s.side ≡ 1) (period : l.period ≡ s.period) (rule : Rule) (ok : Bool) (found : rule ≡ ruleOf l s) (asked : ok ≡ permits rule) where
+  module _ (long : l.side ≡ 0) (short : s.side ≡ 1) (period : l.period ≡ s.period) (rule : Rule) (ok : Bool) (found : rule ≡ rule_of l s) (asked : ok ≡ permits rule) where
     decided : allowed l s ≡ ok
-    unfolding allowed isLong isShort
+    unfolding allowed is_long is_short
     decided = rw (eq-eqb _ _ long, eq-eqb _ _ short, eq-eqb _ _ period, asked, found)
 
-    a_pair : (rate : ℕ) → ok ≡ true → RateInRange l → RateInRange s → rate ≡ ruleRate rule l.rate s.rate → Pairs l s (Allowed rate (l.rate + s.rate - rate))
-    unfolding pairAnswer pair_of pairRateOf savingRateOf
+    a_pair : (rate : ℕ) → ok ≡ true → RateInRange l → RateInRange s → rate ≡ rule_rate rule l.rate s.rate → Pairs l s (Allowed rate (l.rate + s.rate - rate))
+    unfolding pair_answer pair_of pair_rate_of saving_rate_of
     a_pair rate e f g r = rw (r, found) (record {
       answered = rw (decided ∙ e);
-      rate-high = permitted-high (ruleOf l s) l.rate s.rate (ap permits (sym found) ∙ sym asked ∙ e) f.high g.high;
+      rate-high = permitted-high (rule_of l s) l.rate s.rate (ap permits (sym found) ∙ sym asked ∙ e) f.high g.high;
       saving-high = saving-high l s f g;
     })
 
 returns : tie.Need-returns
-unfolding allowed isLong isShort
-returns c = no-pair _ _ (search arms)
+unfolding allowed is_long is_short
+returns c = no_pair _ _ (search arms)
 
 returns-2 : tie.Need-returns-2
-unfolding allowed isLong isShort
-returns-2 c = no-pair _ _ (search arms)
+unfolding allowed is_long is_short
+returns-2 c = no_pair _ _ (search arms)
 
 returns-3 : tie.Need-returns-3
-unfolding allowed isLong isShort
-returns-3 c = no-pair _ _ (search arms)
+unfolding allowed is_long is_short
+returns-3 c = no_pair _ _ (search arms)
 
 rule-of-requires : tie.Need-rule-of-requires
 rule-of-requires c κs = search rules
@@ -58,7 +58,7 @@ returns-4 c =
     let one-period = at-rule.before in
     let a-short = one-period.before.before.before in
     let a-long = a-short.before.before in
-    no-pair _ _
+    no_pair _ _
     (decided _ _ a-long.if1.false a-short.if2.false one-period.if3.false _ _ at-rule.rule-of.ensures c.before.is-permitted.ensures
     ∙ not-true _ c.if4.true)
 

@@ -2,7 +2,7 @@
 use mathlib.Core.Path.{◌∙◌}
 use mathlib.Core.Logic.{inl, inr, ⊎_elim}
 use borrow.Author.Tests.{eqb-true, eqb-false, not-true, not-false, ne_eqb}
-use Rattle.article.proofs.Legs.{two-strips, one-issuer, with-bond}
+use Rattle.article.proofs.Legs.{two_strips, one-issuer, with_bond}
 use Rattle.article.proofs.pair.province_rule.Statement.{statement}
 use Rattle.article.proofs.pair.province_rule.Tie as tie
 
@@ -11,7 +11,7 @@ returns : tie.Need-returns
 returns c =
     let tested = c.before.before in
     let args = tested.before.before.args in
-    rw (two-strips args.long args.short tested.if1.true (eqb-false _ 0 (not-true _ c.if2.true)))
+    rw (two_strips args.long args.short tested.if1.true (eqb-false _ 0 (not-true _ c.if2.true)))
 
 -- the issuer is the same
 returns-2 : tie.Need-returns-2
@@ -25,7 +25,7 @@ returns-3 c =
     let tested = c.before.before.before in
     let args = tested.before.before.args in
     let bond = ⊎_elim (λ w. inr (eqb-true args.short.kind 0 (not-false _ w.2.left))) (λ w. inl w.left) tested.if1.branch in
-    rw (with-bond args.long args.short bond ∙ ne_eqb _ _ c.if3.false)
+    rw (with_bond args.long args.short bond ∙ ne_eqb _ _ c.if3.false)
 
 pub province-rule-spec : {M : Type 1} → statement M
 province-rule-spec = tie.close (tie.spec returns returns-2 returns-3)

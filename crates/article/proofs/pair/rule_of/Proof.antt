@@ -1,20 +1,20 @@
--- `rule_of` is `ruleOf`: two currencies have no rule, and Canada and the provinces in CAD have paragraph 2. Assumes nothing.
+-- `rule_of` is `rule_of`: two currencies have no rule, and Canada and the provinces in CAD have paragraph 2. Assumes nothing.
 use mathlib.Core.Path.{◌≡◌, ◌∙◌}
 use mathlib.Core.Logic.{⊎_elim}
 use Prim.Native.Nat.{◌≤◌}
 use native.Mathlib.Omega.{arith}
 use borrow.Author.Rules.{rules}
 use borrow.Author.Tests.{leb-true, leb-false}
-use Rattle.holding.proofs.Issuers.{no-corporation}
-use Rattle.article.specs.Pair.{isCorporate, domesticRule, cadRule, ruleOf, Outside}
+use Rattle.holding.proofs.Issuers.{no_corporation_lem}
+use Rattle.article.specs.Pair.{is_corporate, domestic_rule, cad_rule, rule_of, Outside}
 use Rattle.article.specs.declared.pair.Leg.{Leg}
-use Rattle.article.proofs.Outside.{two-currencies, cad}
+use Rattle.article.proofs.Outside.{two_currencies_rows, cad}
 use Rattle.article.proofs.pair.rule_of.Statement.{statement}
 use Rattle.article.proofs.pair.rule_of.Tie as tie
 
-domestic : (l s : Leg) → l.currency ≡ s.currency → l.currency ≡ 0 → l.issuer ≤ 10 → domesticRule l s ≡ ruleOf l s
-unfolding cadRule isCorporate
-domestic l s same c h = rw (no-corporation l.issuer (omega arith)) at (cad l s same c)
+domestic : (l s : Leg) → l.currency ≡ s.currency → l.currency ≡ 0 → l.issuer ≤ 10 → domestic_rule l s ≡ rule_of l s
+unfolding cad_rule is_corporate
+domestic l s same c h = rw (no_corporation_lem l.issuer (omega arith)) at (cad l s same c)
 
 outside-rule-requires : tie.Need-outside-rule-requires
 outside-rule-requires c κs =
@@ -28,7 +28,7 @@ pub rule-of-spec : {M : Type 1} → statement M
 rule-of-spec =
     tie.close
     (tie.spec
-    (λ c. two-currencies _ _ c.if1.true)
+    (λ c. two_currencies_rows _ _ c.if1.true)
     (λ c κs. search rules)
     (λ c.
     let second = c.before.before.before in

@@ -4,10 +4,10 @@ use native.Mathlib.Omega.{arith}
 use borrow.Author.Rules.{rules}
 use Rattle.lists.specs.Choice.{first_of}
 use Rattle.lists.proofs.Tests.{tests}
-use Rattle.article.specs.Pair.{isLong, isShort}
+use Rattle.article.specs.Pair.{is_long, is_short}
 use Rattle.article.proofs.Answered.{Answered, answered-refused, answered-allowed}
-use Rattle.proposal.specs.Outcome.{pairFaults}
-use Rattle.tally.specs.Lines.{refusals, taken, appliedOf}
+use Rattle.proposal.specs.Outcome.{pair_faults}
+use Rattle.tally.specs.Lines.{refusals, taken, applied_of}
 use Rattle.tally.proofs.OneLine.{High, high}
 use Rattle.tally.proofs.Tally.apply.Statement.{statement}
 use Rattle.tally.proofs.Tally.apply.Tie as tie
@@ -29,24 +29,24 @@ adds c =
     high (le_trans c.before.before.if4.false (entry (paired c)).requires.left) found.rate-high found.saving-high
 
 returns-7 : tie.Need-returns-7
-unfolding appliedOf refusals pairFaults first_of isLong isShort taken
+unfolding applied_of refusals pair_faults first_of is_long is_short taken
 returns-7 c =
     let found = rates (paired c.before.before.before.before) in
-    rw (← found.pair-rate, ← found.saving-rate) (search (tests, found.may))
+    rw (← found.pair_rate_lem, ← found.saving_rate_lem) (search (tests, found.may))
 
 pub apply-spec : {M : Type 1} → statement M
 apply-spec =
     tie.close
     (tie.spec
-    (λ c. unfold appliedOf refusals pairFaults first_of isLong isShort in search tests)
-    (λ c. unfold appliedOf refusals pairFaults first_of isLong isShort in search tests)
+    (λ c. unfold applied_of refusals pair_faults first_of is_long is_short in search tests)
+    (λ c. unfold applied_of refusals pair_faults first_of is_long is_short in search tests)
     (λ c κs. search rules)
     (λ c. search rules)
-    (λ c. unfold appliedOf refusals pairFaults first_of isLong isShort in search (tests, answered-refused c.before.before.pair-legs.ensures c.enum_told.given.1))
+    (λ c. unfold applied_of refusals pair_faults first_of is_long is_short in search (tests, answered-refused c.before.before.pair-legs.ensures c.enum_told.given.1))
     (λ c. search rules)
-    (λ c. unfold appliedOf refusals pairFaults first_of isLong isShort in search (tests, (rates c.before.before).may))
-    (λ c. unfold appliedOf refusals pairFaults first_of isLong isShort in search (tests, (rates c.before.before.before.before).may))
-    (λ c. unfold appliedOf refusals pairFaults first_of isLong isShort in search (tests, (rates c.before.before.before.before.before.before).may))
+    (λ c. unfold applied_of refusals pair_faults first_of is_long is_short in search (tests, (rates c.before.before).may))
+    (λ c. unfold applied_of refusals pair_faults first_of is_long is_short in search (tests, (rates c.before.before.before.before).may))
+    (λ c. unfold applied_of refusals pair_faults first_of is_long is_short in search (tests, (rates c.before.before.before.before.before.before).may))
     (λ c. omega (arith, adds c.before.before))
     (λ c. omega (arith, adds c.before.before.before, (entry (paired c.before.before.before)).requires))
     (λ c. omega (arith, adds c.before.before.before))
