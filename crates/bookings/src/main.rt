@@ -1,5 +1,6 @@
 // Runs the histories of orders on standard input: each order is given to a book in a list of 256 holdings, and what it gets is printed.
 // A step of a history is ten eight-byte little-endian numbers: its sort, its own numbers, and zeros. Lines are decimal numbers with commas.
+#![tactic(auto)]
 use daybook::{Day, Finding};
 use desk::Order;
 use holding::{Currency, Holding, Issuer, Kind, Rating, Side};

@@ -1,5 +1,6 @@
 // Runs the cases on standard input: for each its title after `# `, and what `margin` prints of its text.
 // A case is two eight-byte little-endian numbers, the bytes of the title and of the text, then the title, then the text.
+#![tactic(auto)]
 ghost use Rattle.std.specs.Prelude.{◌≡◌, ◌+◌, ◌≤◌, length, take};
 ghost use Rattle.reader.specs.File.{file_limit};
 ghost use Rattle.report.specs.Report.{report_room};

@@ -1,4 +1,5 @@
 // The layout of a record: a letter, and after it fields, each of a sort.
+#![tactic(auto)]
 ghost use Rattle.std.specs.Prelude.{◌≡◌, ◌++◌, ◌-◌, take, drop, get_or};
 ghost use Rattle.csv.specs.Reading.{field_count, texts_in};
 ghost use Rattle.codes.specs.Codes.{place_of};

@@ -1,4 +1,5 @@
 // Reads a file on standard input, and prints its margin, or why it is refused.
+#![tactic(auto)]
 ghost use Rattle.std.specs.Prelude.{◌≡◌, ◌+◌, length};
 ghost use Rattle.reader.specs.File.{file_limit};
 ghost use Rattle.report.specs.Report.{report_room};

@@ -1,4 +1,5 @@
 // Pairings, their sums, and the prices that show a pairing to be the least: the definitions stand in specs/, the theorems in proofs/.
+#![tactic(auto)]
 
 // A pair line: the number of a long, the number of a short, and an amount of both.
 #[derive(Drop)]

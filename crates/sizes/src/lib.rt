@@ -1,4 +1,5 @@
 // The byte lengths of what the host lends.
+#![tactic(auto)]
 ghost use Rattle.std.specs.Prelude.{◌≡◌, [], ◌∷◌};
 ghost use Rattle.sizes.specs.Sizes.{too_short, length_fault};
 

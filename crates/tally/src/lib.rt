@@ -1,4 +1,5 @@
 // The lines of a proposal in turn, each against what is unpaired of its two holdings.
+#![tactic(auto)]
 ghost use Rattle.std.specs.Prelude.{◌≡◌, [], ◌∷◌};
 ghost use Rattle.columns.specs.Columns.{lines_in};
 ghost use Rattle.tally.specs.Lines.{Ready, applied_of, LinesLent, stopped_at, Takes};
