@@ -6,26 +6,26 @@ use Rattle.codes.proofs.Cells.{Sought, sought_none, sought_room, sought_here, so
 use Rattle.codes.proofs.place_in.Statement.{statement}
 use Rattle.codes.proofs.place_in.Tie as tie
 
-abbrev invariant-loop : tie.invariant-loop
+abbrev invariant-loop : tie.invariant-loop-n
 invariant-loop text table width count n₀ from₀ n from = Sought text table width count n from
 
-abbrev decreases-loop : tie.decreases-loop
+abbrev decreases-loop : tie.decreases-loop-n
 decreases-loop text table width count n₀ from₀ n from = count - n
 
-pub place-in-spec : {M : Type 1} → statement M
-place-in-spec =
+pub place_in_spec : {M : Type 1} → statement M
+place_in_spec =
     tie.close
     (tie.spec
     invariant-loop
     decreases-loop
     (λ c. sought_none _ _ _ _)
-    (λ c. omega (arith, sought_room _ _ _ _ c.before.loop.invariant (search rules) (search rules)))
+    (λ c. omega (arith, sought_room _ _ _ _ c.before.loop-n.invariant (search rules) (search rules)))
     (λ c. search rules)
     (λ c. search rules)
     (λ c. search (rules, sought_room))
     (λ c κs. search rules)
-    (λ c. sought_here _ _ _ _ c.before.before.before.before.loop.invariant (search rules) _ c.before.same.ensures (search rules))
+    (λ c. sought_here _ _ _ _ c.before.before.before.before.loop-n.invariant (search rules) _ c.before.same.ensures (search rules))
     (λ c. search rules)
     (λ c. search rules)
-    (λ c. sought_more _ _ _ _ c.before.before.before.before.loop.invariant (search rules) _ c.before.same.ensures (search rules))
-    (λ c. sought_all _ _ _ _ _ _ c.before.loop.invariant (search rules)))
+    (λ c. sought_more _ _ _ _ c.before.before.before.before.loop-n.invariant (search rules) _ c.before.same.ensures (search rules))
+    (λ c. sought_all _ _ _ _ _ _ c.before.loop-n.invariant (search rules)))

@@ -7,10 +7,10 @@ use Rattle.codes.proofs.Alike.{Alike, alike_none, alike_more, alike_all, other_l
 use Rattle.codes.proofs.same.Statement.{statement}
 use Rattle.codes.proofs.same.Tie as tie
 
-abbrev invariant-loop : tie.invariant-loop
+abbrev invariant-loop : tie.invariant-loop-i
 invariant-loop text other i₀ i = Alike text other i
 
-abbrev decreases-loop : tie.decreases-loop
+abbrev decreases-loop : tie.decreases-loop-i
 decreases-loop text other i₀ i = length text - i
 
 pub same_spec : {M : Type 1} → statement M
@@ -23,8 +23,8 @@ same_spec =
     (λ c. alike_none _ _)
     (λ c. search rules)
     (λ c. search rules)
-    (λ c. other_byte _ _ _ c.if2.true)
+    (λ c. other_byte _ _ _ c.if-text-i.true)
     (λ c. search rules)
     (λ c. search rules)
     (λ c. search (rules, alike_more))
-    (λ c. alike_all _ _ _ c.before.loop.invariant (search rules) (search rules)))
+    (λ c. alike_all _ _ _ c.before.loop-i.invariant (search rules) (search rules)))

@@ -31,6 +31,6 @@ pub +put-digits-spec : {M : Type 1} → statement M
     (λ c. search rules)
     (λ c. search rules)
     (λ c κs. (omega arith, room_fewer c.before.before.before.args.x _ _ _ (omega arith) c.before.before.before.requires.1))
-    (λ c κs. let s = c.before.before.before.before.before.before.before in (search rules, omega (arith, room_after s.args.x s.args.at _ (search rules) s.requires.1, c.before.before.before.put-digits.ensures.ends)))
+    (λ c κs. let s = c.before.before.before.before.before.before.before in (search rules, omega (arith, room_after s.args.x s.args.at _ (search rules) s.requires.1, c.before.before.before.put_digits-last.ensures.ends)))
     (λ c. search rules)
-    (λ c. put-more _ _ _ _ _ _ _ (search rules) (search rules) c.before.before.before.before.before.before.put-digits.ensures c.before.before.put-digit2.ensures))
+    (λ c. put-more _ _ _ _ _ _ _ (search rules) (search rules) c.before.before.before.before.before.before.put_digits-last.ensures c.before.before.put_digit-2.ensures))

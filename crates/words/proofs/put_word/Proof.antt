@@ -15,17 +15,17 @@ returns c =
     let c2 = c3.before.before.before.before in
     let c1 = c2.before.before.before.before in
     put-at _ _ _ _ c1.before.before.before.requires
-    (over-more _ _ _ _ _ _ _ c1.split.ensures
-    (over-more _ _ _ _ _ _ _ c2.split2.ensures
-    (over-more _ _ _ _ _ _ _ c3.split3.ensures
-    (over-more _ _ _ _ _ _ _ c4.split4.ensures
-    (over-more _ _ _ _ _ _ _ c5.split5.ensures
-    (over-more _ _ _ _ _ _ _ c6.split6.ensures
-    (over-more _ _ _ _ _ _ _ c7.split7.ensures
-    (over-more _ _ _ _ _ _ _ c8.split8.ensures (over_none _ _ _)))))))))
+    (over-more _ _ _ _ _ _ _ c1.split-v1.ensures
+    (over-more _ _ _ _ _ _ _ c2.split-v2.ensures
+    (over-more _ _ _ _ _ _ _ c3.split-v3.ensures
+    (over-more _ _ _ _ _ _ _ c4.split-v4.ensures
+    (over-more _ _ _ _ _ _ _ c5.split-v5.ensures
+    (over-more _ _ _ _ _ _ _ c6.split-v6.ensures
+    (over-more _ _ _ _ _ _ _ c7.split-v7.ensures
+    (over-more _ _ _ _ _ _ _ c8.split.ensures (over_none _ _ _)))))))))
 
-pub put-word-spec : {M : Type 1} → statement M
-put-word-spec =
+pub put_word_spec : {M : Type 1} → statement M
+put_word_spec =
     tie.close
     (tie.spec
     (λ c. search rules)

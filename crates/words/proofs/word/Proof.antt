@@ -14,17 +14,17 @@ returns c =
     let c2 = c3.before.before in
     let c1 = c2.before.before in
     word_at_lem _ _ _
-    (digit-more _ _ _ _ _ c.join8.ensures.0
-    (digit-more _ _ _ _ _ c7.join7.ensures.0
-    (digit-more _ _ _ _ _ c6.join6.ensures.0
-    (digit-more _ _ _ _ _ c5.join5.ensures.0
-    (digit-more _ _ _ _ _ c4.join4.ensures.0
-    (digit-more _ _ _ _ _ c3.join3.ensures.0
-    (digit-more _ _ _ _ _ c2.join2.ensures.0
-    (digit-more _ _ _ _ _ c1.join.ensures.0 (digit-none _ _)))))))))
+    (digit-more _ _ _ _ _ c.join.ensures.0
+    (digit-more _ _ _ _ _ c7.join-w1.ensures.0
+    (digit-more _ _ _ _ _ c6.join-w2.ensures.0
+    (digit-more _ _ _ _ _ c5.join-w3.ensures.0
+    (digit-more _ _ _ _ _ c4.join-w4.ensures.0
+    (digit-more _ _ _ _ _ c3.join-w5.ensures.0
+    (digit-more _ _ _ _ _ c2.join-w6.ensures.0
+    (digit-more _ _ _ _ _ c1.join-w7.ensures.0 (digit-none _ _)))))))))
 
-pub word-spec : {M : Type 1} → statement M
-word-spec =
+pub word_spec : {M : Type 1} → statement M
+word_spec =
     tie.close
     (tie.spec
     (λ c. search rules)
