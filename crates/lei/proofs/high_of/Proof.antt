@@ -9,8 +9,8 @@ use Rattle.lei.proofs.high_of.Tie as tie
 ten : (c : tie.After-half-arg) → 10 ≡ length (take 10 c.before.before.before.args.text.now)
 ten c = first-ten c.before.before.before.args.text.now c.before.if1.false
 
-pub high-of-spec : {M : Type 1} → statement M
-high-of-spec =
+pub high_of_spec : {M : Type 1} → statement M
+high_of_spec =
     tie.close
     (tie.spec
     (λ c. rw (lei-none _ c.if1.true))

@@ -4,8 +4,8 @@ use Rattle.lei.proofs.Judging.{lei-none, low-is}
 use Rattle.lei.proofs.low_of.Statement.{statement}
 use Rattle.lei.proofs.low_of.Tie as tie
 
-pub low-of-spec : {M : Type 1} → statement M
-low-of-spec =
+pub low_of_spec : {M : Type 1} → statement M
+low_of_spec =
     tie.close
     (tie.spec
     (λ c. rw (lei-none _ c.if1.true))

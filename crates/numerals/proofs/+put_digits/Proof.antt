@@ -22,8 +22,8 @@ at t = and 1 kinds.ps (is 1 kinds.ps μ t) contract.Pre
 abbrev below : ℕ → In 1 kinds.ps
 below t = and 1 kinds.ps (falls 1 kinds.ps ◌<◌ μ t) contract.Pre
 
-pub +put-digits-spec : {M : Type 1} → statement M
-+put-digits-spec =
+pub +put_digits_spec : {M : Type 1} → statement M
++put_digits_spec =
     close μ
     (λ t.
     walk.spec (digit.Asked, digit.Learnt, below t, contract.Post) (at t) contract.Post
