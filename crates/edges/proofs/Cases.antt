@@ -20,8 +20,8 @@ use Rattle.pairing.specs.declared.Line.{Line}
 use Rattle.proposal.specs.Submission.{Submission, book_of, priced, remainder, margin, units_of, remainders_of, ranked, cents_of}
 use Rattle.proposal.specs.Outcome.{outcome}
 use Rattle.codes.specs.Codes.{place_of}
-use Rattle.csv.specs.Grammar.{is_text, is_quotable}
-use Rattle.csv.specs.Reading.{formed}
+use Rattle.rfc4180.specs.Grammar.{is_text, is_quotable}
+use Rattle.rfc4180.specs.Reading.{formed}
 use Rattle.layout.specs.Layout.{by_place, value_of, letters, Meaning, good, refused, parse}
 use Rattle.layout.specs.declared.Sort.{Sort}
 use Rattle.layout.specs.declared.Value.{Value}

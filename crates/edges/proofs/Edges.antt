@@ -28,9 +28,9 @@ use Rattle.proposal.specs.Outcome.{at_place, holding_faults, pair_faults, line_f
 use Rattle.proposal.specs.Outcome.{totals_differ, totals_faults, size_faults, faults, accepted, outcome}
 use Rattle.numerals.specs.Numerals.{lead, digits, value_from, numeral_of}
 use Rattle.codes.specs.Codes.{place_from, place_of}
-use Rattle.csv.specs.Grammar.{is_text, is_quotable}
-use Rattle.csv.specs.Reading.{part, text_from, text_end, close_from, close_at, followed_by, followed, begins, opens, enclosed}
-use Rattle.csv.specs.Reading.{field_at, fields_from, record_at, records_from, records_at, records_of}
+use Rattle.rfc4180.specs.Grammar.{is_text, is_quotable}
+use Rattle.rfc4180.specs.Reading.{part, text_from, text_end, close_from, close_at, followed_by, followed, begins, opens, enclosed}
+use Rattle.rfc4180.specs.Reading.{field_at, fields_from, record_at, records_from, records_at, records_of}
 use Rattle.lei.specs.Lei as lei
 use Rattle.lei.specs.Lei.{is_digit, is_capital, is_character, in_form, half_of, lei_of, judged_of, character_of, characters, lei_text}
 use Rattle.lei.specs.Numbering.{same_lei, first_place, enter}

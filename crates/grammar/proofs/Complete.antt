@@ -8,18 +8,18 @@ use borrow.Author.Tests.{ne_eqb}
 use lib.Dec.{eqb}
 use lib.ListN.{length, drop, length-append, length-drop}
 use Rattle.lists.specs.Choice.{within}
-use Rattle.csv.specs.Grammar.{is_text, is_quotable, TextRun, no_text, text_data, QuotedRun, no_quoted, quoted, doubled, escaped, non_escaped, Record, one, more, File, none, last, line}
-use Rattle.csv.specs.Grammar as G
-use Rattle.csv.specs.Reading.{span, part, text_from, text_end, close_from, close_at, followed_by, followed, begins, opens, field_at, fields, record_at, Read, formed, records_at, records_of}
-use Rattle.csv.specs.declared.Span.{Span}
-use Rattle.csv.specs.declared.Found.{Found}
-use Rattle.csv.specs.declared.Found.TheVariants.{At}
-use Rattle.csv.specs.declared.Piece.{Piece}
-use Rattle.csv.specs.declared.Piece.TheVariants.{Field}
-use Rattle.csv.proofs.Scan.{close_in, field_plain, field_shut}
-use Rattle.csv.proofs.Pieces.{Ending, comma, end, after, part_of}
-use Rattle.csv.proofs.Pieces as pieces
-use Rattle.csv.proofs.Places.{clash, record_turn, records_end, records_next}
+use Rattle.rfc4180.specs.Grammar.{is_text, is_quotable, TextRun, no_text, text_data, QuotedRun, no_quoted, quoted, doubled, escaped, non_escaped, Record, one, more, File, none, last, line}
+use Rattle.rfc4180.specs.Grammar as G
+use Rattle.rfc4180.specs.Reading.{span, part, text_from, text_end, close_from, close_at, followed_by, followed, begins, opens, field_at, fields, record_at, Read, formed, records_at, records_of}
+use Rattle.rfc4180.specs.declared.Span.{Span}
+use Rattle.rfc4180.specs.declared.Found.{Found}
+use Rattle.rfc4180.specs.declared.Found.TheVariants.{At}
+use Rattle.rfc4180.specs.declared.Piece.{Piece}
+use Rattle.rfc4180.specs.declared.Piece.TheVariants.{Field}
+use Rattle.rfc4180.proofs.Scan.{close_in, field_plain, field_shut}
+use Rattle.rfc4180.proofs.Pieces.{Ending, comma, end, after, part_of}
+use Rattle.rfc4180.proofs.Pieces as pieces
+use Rattle.rfc4180.proofs.Places.{clash, record_turn, records_end, records_next}
 
 -- what may follow a field: it is no TEXTDATA, no quote, and is read as what it is
 text-ends : {b : Bool} {mark rest : List ℕ} → Ending b mark rest → (i : ℕ) → text_from i (mark ++ rest) ≡ i

@@ -6,12 +6,12 @@ use Prim.Native.Nat.{ℕ, ◌<◌}
 use native.Mathlib.Omega.{arith}
 use lib.ListN.{length, drop, length-append, length-drop, drop_of_length-le}
 use Rattle.lists.proofs.Tests.{by_end}
-use Rattle.csv.specs.Grammar.{Record, one, more, File, none, last, line}
-use Rattle.csv.specs.Reading.{part, Split, fields, malformed, record_at, formed, records_at, records_of}
-use Rattle.csv.specs.declared.Span.{Span}
-use Rattle.csv.proofs.Pieces as pieces
-use Rattle.csv.proofs.Pieces.{Ending}
-use Rattle.csv.proofs.Places.{clash, Reads, final, another, record_reads, records_end, records_broken, records_next}
+use Rattle.rfc4180.specs.Grammar.{Record, one, more, File, none, last, line}
+use Rattle.rfc4180.specs.Reading.{part, Split, fields, malformed, record_at, formed, records_at, records_of}
+use Rattle.rfc4180.specs.declared.Span.{Span}
+use Rattle.rfc4180.proofs.Pieces as pieces
+use Rattle.rfc4180.proofs.Pieces.{Ending}
+use Rattle.rfc4180.proofs.Places.{clash, Reads, final, another, record_reads, records_end, records_broken, records_next}
 
 -- a record that was read at place i: its text, what ends it, and where the next one starts
 pub record RecordRead (text : List ℕ) (i : ℕ) (ss : List Span) (next : ℕ) : Type 0 where

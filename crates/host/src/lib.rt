@@ -154,14 +154,14 @@ pub extern "C" fn margin_read(
     let mut high = lists::zeros();
     let mut low = lists::zeros();
     if text.len() <= 72 {
-        let mut book = [0u8; 576 * (csv::FIELDS - 1)];
+        let mut book = [0u8; 576 * (rfc4180::FIELDS - 1)];
         let mut lines = [0u8; 576 * 3];
         return received::read_into(
             text, 72, &mut book, &mut lines, &mut high, &mut low, head, side, kind, issuer,
             maturity, value, price, currency, rating, long, short, amount, answer,
         );
     }
-    let mut book = [0u8; 4096 * (csv::FIELDS - 1)];
+    let mut book = [0u8; 4096 * (rfc4180::FIELDS - 1)];
     let mut lines = [0u8; 4096 * 3];
     received::read_into(
         text, 512, &mut book, &mut lines, &mut high, &mut low, head, side, kind, issuer, maturity,
@@ -175,7 +175,7 @@ pub extern "C" fn margin_read(
 pub extern "C" fn margin_leis(text: &[u8], leis: &mut [u8], answer: &mut [u8]) -> u64
     ensures { Names text.now leis.old leis.new answer.old answer.new result }
 {
-    let mut book = [0u8; 4096 * (csv::FIELDS - 1)];
+    let mut book = [0u8; 4096 * (rfc4180::FIELDS - 1)];
     let mut lines = [0u8; 4096 * 3];
     let mut high = lists::zeros();
     let mut low = lists::zeros();

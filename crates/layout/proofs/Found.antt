@@ -11,7 +11,7 @@ use lib.Seq.{drop-cons, get_or-drop, take-suc-set, take_all}
 use borrow.Author.Tests.{eq-eqb, ne_eqb}
 use Rattle.lists.proofs.Tables.{length_to}
 use Rattle.lists.proofs.Tests.{same_or_not}
-use Rattle.csv.specs.Reading.{field_count, texts_in, HandsBack}
+use Rattle.rfc4180.specs.Reading.{field_count, texts_in, HandsBack}
 use Rattle.layout.specs.Layout.{value_of, sorts_by, Values, values, wrong, and_value, values_of, sooner, Found}
 use Rattle.layout.specs.declared.Sort.{Sort}
 use Rattle.layout.specs.declared.Sort.TheVariants.{Empty}

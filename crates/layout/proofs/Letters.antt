@@ -8,7 +8,7 @@ use lib.ListN.{length, get_or, replicate, length-append, length-replicate, get_o
 use borrow.Author.Tests.{ltb-true}
 use Rattle.lists.proofs.Entries.{each-by, each_read}
 use Rattle.lists.proofs.Tests.{by-test}
-use Rattle.csv.specs.Reading.{field_count, Read, formed, broken}
+use Rattle.rfc4180.specs.Reading.{field_count, Read, formed, broken}
 use Rattle.codes.specs.Codes.{place_of}
 use Rattle.codes.specs.declared.Place.{Place}
 use Rattle.codes.specs.declared.Place.TheVariants.{At, Nowhere}

@@ -7,10 +7,10 @@ use native.Mathlib.Omega.{arith}
 use lib.ListN.{length, get_or, take, drop, length-map}
 use lib.Seq.{get_or-take, get_or-drop}
 use borrow.Author.Tests.{eq-eqb, ne_eqb}
-use Rattle.csv.specs.Reading.{part, record_at, field_count, Scans, texts_in, HandsBack, Read, formed}
-use Rattle.csv.specs.declared.Scanned.{Scanned}
-use Rattle.csv.specs.declared.Scanned.TheVariants.{Fields, Malformed}
-use Rattle.csv.proofs.Places.{scanned_fields, scanned_malformed, all-texts}
+use Rattle.rfc4180.specs.Reading.{part, record_at, field_count, Scans, texts_in, HandsBack, Read, formed}
+use Rattle.rfc4180.specs.declared.Scanned.{Scanned}
+use Rattle.rfc4180.specs.declared.Scanned.TheVariants.{Fields, Malformed}
+use Rattle.rfc4180.proofs.Places.{scanned_fields, scanned_malformed, all-texts}
 use Rattle.codes.specs.Codes.{place_of}
 use Rattle.codes.specs.declared.Place.{Place}
 use Rattle.codes.specs.declared.Place.TheVariants.{At, Nowhere}

@@ -15,7 +15,7 @@ use Rattle.layout.specs.declared.Sort.{Sort, TheVariants.Account, TheVariants.Si
 use Rattle.layout.specs.declared.Sort.TheVariants.{Six, Twelve, Empty}
 use Rattle.layout.specs.declared.{Value.Value, Value.TheVariants.Of, Value.TheVariants.Refused as Unfit}
 use Rattle.layout.specs.declared.{Parsed.Parsed, Parsed.TheVariants.Good, Parsed.TheVariants.Refused, Entry.Entry}
-use Rattle.csv.specs.Reading.{part, Split, fields, malformed, record_at, field_count, Read, formed, broken}
+use Rattle.rfc4180.specs.Reading.{part, Split, fields, malformed, record_at, field_count, Read, formed, broken}
 
 -- the account's letter `P` or `C`; side `L` or `S`; kind `B` `C` `R`; issuer `CA`, a province code, `US` or `GB`, in the order of the issuers' numbers; currency `CAD`, `USD` or `GBP`;
 -- rating `Y`, `N` or none

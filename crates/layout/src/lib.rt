@@ -1,18 +1,18 @@
 // The layout of a record: a letter, and after it fields, each of a sort.
 #![tactic(auto)]
 ghost use Rattle.std.specs.Prelude.{◌≡◌, ◌++◌, ◌-◌, take, drop, get_or};
-ghost use Rattle.csv.specs.Reading.{field_count, texts_in};
+ghost use Rattle.rfc4180.specs.Reading.{field_count, texts_in};
 ghost use Rattle.codes.specs.Codes.{place_of};
 ghost use Rattle.layout.specs.Layout.{ratings, by_place, by_numeral, by_date, by_issuer, value_of, sorts_by, values_of, misrated, lei_numbers, sooner, Found, may_follow, entry, EntryAt};
 
 use codes::Place;
-use csv::Scanned;
+use rfc4180::Scanned;
 use dates::text::Reading;
 use lei::Judged;
 use numerals::Numeral;
 
 // The number of values in a record: one for each field after its letter, and two for the LEI of its issuer.
-pub const VALUES: usize = csv::FIELDS + 1;
+pub const VALUES: usize = rfc4180::FIELDS + 1;
 
 // What a field can be: a letter or a code that is named, an LEI, a date, a numeral of at most so many digits, or nothing.
 #[derive(Drop)]
@@ -180,8 +180,8 @@ fn sooner(found: u64, number: u64) -> u64
 // The values of the fields after a letter go into the lent list. The refusal that comes first, or 0.
 fn values_after<'a>(
     text: &[u8],
-    starts: &'a [usize; csv::FIELDS],
-    ends: &'a [usize; csv::FIELDS],
+    starts: &'a [usize; rfc4180::FIELDS],
+    ends: &'a [usize; rfc4180::FIELDS],
     letter: usize,
     values: &mut [u64; VALUES],
 ) -> u64
@@ -192,10 +192,10 @@ fn values_after<'a>(
     let found = &mut values[..];
     let mut refusal = 0;
     let mut j: usize = 0;
-    while j < csv::FIELDS - 1 {
+    while j < rfc4180::FIELDS - 1 {
         let value = value_in(
             sort_at(letter, j),
-            csv::field(text, csv::FIELDS, starts, ends, j + 1),
+            rfc4180::field(text, rfc4180::FIELDS, starts, ends, j + 1),
         );
         match value {
             Value::Of(v) => {
@@ -228,8 +228,8 @@ fn put_issuer(issuer: &[u8], values: &mut [u64; VALUES])
     ensures { values.new ≡ take (field_count - 1) values.old ++ lei_numbers issuer.now }
 {
     let found = &mut values[..];
-    found[csv::FIELDS - 1] = lei::high_of(issuer);
-    found[csv::FIELDS] = lei::low_of(issuer);
+    found[rfc4180::FIELDS - 1] = lei::high_of(issuer);
+    found[rfc4180::FIELDS] = lei::low_of(issuer);
 }
 
 // Whether a record of a letter may follow one of the letter before, or none: D comes first and only there.
@@ -256,16 +256,16 @@ fn refused(number: u64, next: usize) -> Entry
 pub fn entry_at(text: &[u8], at: usize, values: &mut [u64; VALUES]) -> Entry
     ensures { EntryAt text.now at values.new result }
 {
-    let mut starts = [0usize; csv::FIELDS];
-    let mut ends = [0usize; csv::FIELDS];
-    let scanned = csv::record(text, at, &mut starts, &mut ends);
+    let mut starts = [0usize; rfc4180::FIELDS];
+    let mut ends = [0usize; rfc4180::FIELDS];
+    let scanned = rfc4180::record(text, at, &mut starts, &mut ends);
     let Scanned::Fields { count, next } = scanned else {
         return refused(19, 0);
     };
-    if count != csv::FIELDS {
+    if count != rfc4180::FIELDS {
         return refused(20, next);
     }
-    let place = codes::place_in(csv::field(text, count, &starts, &ends, 0), b"DHP", 1, 3);
+    let place = codes::place_in(rfc4180::field(text, count, &starts, &ends, 0), b"DHP", 1, 3);
     let Place::At(letter) = place else {
         return refused(21, next);
     };
@@ -276,7 +276,7 @@ pub fn entry_at(text: &[u8], at: usize, values: &mut [u64; VALUES]) -> Entry
     if misrated(letter, values[2], values[7]) {
         return refused(25, next);
     }
-    put_issuer(csv::field(text, count, &starts, &ends, 3), values);
+    put_issuer(rfc4180::field(text, count, &starts, &ends, 3), values);
     Entry {
         parsed: Parsed::Good { letter },
         next,

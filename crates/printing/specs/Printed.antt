@@ -6,7 +6,7 @@ use Rattle.lists.specs.Tables.{ascii, front}
 use Rattle.article.specs.Answer.{Answer, make_answer}
 use Rattle.proposal.specs.{Submission.Submission, Submission.priced, Submission.margin, Submission.remainders_of, Submission.ranked, Submission.InRankingOrder, Outcome.outcome, Demands.Acceptable}
 use Rattle.proposal.specs.Demands.{Demands}
-use Rattle.csv.specs.Reading.{field_count}
+use Rattle.rfc4180.specs.Reading.{field_count}
 use Rattle.reader.specs.File.{submission_in, file_fault}
 use Rattle.readable.specs.Readable.{Submits}
 use Rattle.holding.specs.declared.Head.{Head}

@@ -90,7 +90,7 @@ fn print_tables(
 pub fn print_file(text: &[u8], out: &mut [u8]) -> Printed
     ensures { PrintsFile text.now out.old out.new result }
 {
-    let mut book = [0u8; 4096 * (csv::FIELDS - 1)];
+    let mut book = [0u8; 4096 * (rfc4180::FIELDS - 1)];
     let mut lines = [0u8; 4096 * 3];
     let mut high = lists::zeros();
     let mut low = lists::zeros();

@@ -14,7 +14,7 @@ use Rattle.holding.specs.declared.Head.{Head}
 use Rattle.article.specs.Answer.{Answer, make_answer}
 use Rattle.proposal.specs.Submission.{priced_row, line_by}
 use Rattle.proposal.proofs.Clear.{number}
-use Rattle.csv.proofs.Places.{clash}
+use Rattle.rfc4180.proofs.Places.{clash}
 use Rattle.lei.specs.Numbering.{table}
 use Rattle.reader.specs.File.{parsed_in, values_by, holdings_of, leis_in, submission_of, submission_in, file_faults, file_fault, answer_to, read_answer}
 use Rattle.reader.specs.File.{contents_answer, contents_of, ReadsFile}

@@ -7,9 +7,9 @@ use Prim.Native.Nat.{ℕ, ◌≤◌}
 use native.Mathlib.Omega.{arith}
 use lib.ListN.{length, length-map}
 use Rattle.proposal.specs.Submission.{Submission, priced_row, line_by}
-use Rattle.csv.specs.Grammar.{File, none}
-use Rattle.csv.specs.Reading.{records_of}
-use Rattle.csv.proofs.Places.{clash, records_end}
+use Rattle.rfc4180.specs.Grammar.{File, none}
+use Rattle.rfc4180.specs.Reading.{records_of}
+use Rattle.rfc4180.proofs.Places.{clash, records_end}
 use Rattle.grammar.proofs.Sound.{file_sound}
 use Rattle.grammar.proofs.Complete.{file_complete}
 use Rattle.holding.specs.Holding.{head_numbers}

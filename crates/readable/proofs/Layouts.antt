@@ -11,7 +11,7 @@ use Rattle.lists.specs.Choice.{same}
 use Rattle.lists.specs.Tables.{list_to}
 use Rattle.lists.proofs.Tables.{length_to, to_eq, to_back, take-to}
 use Rattle.lists.proofs.Tests.{by-test}
-use Rattle.csv.specs.Reading.{field_count, formed}
+use Rattle.rfc4180.specs.Reading.{field_count, formed}
 use Rattle.codes.specs.Codes.{place_of, Named}
 use Rattle.codes.specs.declared.Place.{Place}
 use Rattle.codes.specs.declared.Place.TheVariants.{At, Nowhere}

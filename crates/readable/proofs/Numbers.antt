@@ -10,7 +10,7 @@ use Rattle.lists.proofs.Firsts.{None, Numbered, each-in_turn, none_first, first_
 use Rattle.article.specs.Answer.{make_answer}
 use Rattle.proposal.proofs.Clear.{number}
 use Rattle.codes.specs.declared.Place.{Place}
-use Rattle.csv.specs.Reading.{Read, broken, records_of}
+use Rattle.rfc4180.specs.Reading.{Read, broken, records_of}
 use Rattle.layout.specs.Layout.{Meaning, good, refused, parse}
 use Rattle.layout.proofs.Letters.{parse-refused}
 use Rattle.reader.specs.File.{parsed_in, faults_of, at_record, file_faults, file_fault}

@@ -16,7 +16,7 @@ use Rattle.proposal.specs.Submission.{Submission, priced_numbers, priced_row, ro
 use Rattle.lei.specs.Lei.{lei_of}
 use Rattle.codes.specs.declared.Place.{Place}
 use Rattle.codes.specs.declared.Place.TheVariants.{At}
-use Rattle.csv.specs.Reading.{field_count, Read, formed, broken}
+use Rattle.rfc4180.specs.Reading.{field_count, Read, formed, broken}
 use Rattle.layout.specs.Layout.{issuer_in, value_and, IsValue, IsRecord, Meaning, good, refused, may_follow, parse}
 use Rattle.layout.specs.declared.Sort.TheVariants.{Issuer}
 use Rattle.layout.proofs.Letters.{parse-good, good_length}

@@ -11,7 +11,7 @@ use Rattle.proposal.specs.Submission.{Submission, no_row, priced_numbers, line_n
 use Rattle.article.specs.Answer.{make_answer}
 use Rattle.lei.specs.Lei.{IsLei, lei_text}
 use Rattle.codes.specs.Codes.{Named}
-use Rattle.csv.specs.Grammar.{File}
+use Rattle.rfc4180.specs.Grammar.{File}
 use Rattle.layout.specs.Layout.{issuers, corporation, IsRecord}
 use Rattle.reader.specs.File.{parsed_in, submission_of, leis_of, file_fault}
 

@@ -13,7 +13,7 @@ use Rattle.lists.proofs.Passed.{passed-all}
 use Rattle.holding.specs.declared.Head.{Head}
 use Rattle.article.specs.Answer.{make_answer}
 use Rattle.codes.specs.declared.Place.{Place}
-use Rattle.csv.proofs.Places.{records_end}
+use Rattle.rfc4180.proofs.Places.{records_end}
 use Rattle.layout.specs.Layout.{Meaning}
 use Rattle.lei.specs.Lei.{Key}
 use Rattle.lei.specs.Numbering.{table}

@@ -15,7 +15,7 @@ use Rattle.holding.specs.declared.Head.{Head}
 use Rattle.article.specs.Answer.{Answer}
 use Rattle.codes.specs.declared.Place.{Place}
 use Rattle.codes.specs.declared.Place.TheVariants.{Nowhere}
-use Rattle.csv.specs.Reading.{field_count, records_at, records_of}
+use Rattle.rfc4180.specs.Reading.{field_count, records_at, records_of}
 use Rattle.lei.specs.Numbering.{table}
 use Rattle.columns.specs.Columns.{Entered}
 use Rattle.columns.proofs.Tables.{entered-none}

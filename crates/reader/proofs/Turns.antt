@@ -18,8 +18,8 @@ use Rattle.holding.specs.declared.Head.{Head}
 use Rattle.article.specs.Answer.{Answer, make_answer}
 use Rattle.codes.specs.declared.Place.{Place}
 use Rattle.codes.specs.declared.Place.TheVariants.{At, Nowhere}
-use Rattle.csv.specs.Reading.{Split, fields, malformed, record_at, records_at, field_count}
-use Rattle.csv.proofs.Places.{clash, progress, records_broken, records_next}
+use Rattle.rfc4180.specs.Reading.{Split, fields, malformed, record_at, records_at, field_count}
+use Rattle.rfc4180.proofs.Places.{clash, progress, records_broken, records_next}
 use Rattle.lei.specs.Lei.{Key}
 use Rattle.lei.specs.Numbering.{table}
 use Rattle.lei.proofs.Places.{length-table}

@@ -9,7 +9,7 @@ use Rattle.holding.specs.declared.Head.{Head}
 use Rattle.article.specs.Answer.{Answer, make_answer}
 use Rattle.proposal.specs.Submission.{Submission, priced_row, row_price, line_by}
 use Rattle.codes.specs.declared.Place.{Place, TheVariants.At, TheVariants.Nowhere}
-use Rattle.csv.specs.Reading.{field_count, records_of}
+use Rattle.rfc4180.specs.Reading.{field_count, records_of}
 use Rattle.lei.specs.{Lei.Key, Numbering.first_place, Numbering.enter, Numbering.table}
 use Rattle.layout.specs.Layout.{corporation, issuer_in, Meaning, good, refused, parse, may_follow}
 use Rattle.columns.specs.Columns.{Entered}

@@ -120,7 +120,7 @@ pub fn read(
                         };
                     }
                     corporations = number_issuer(&mut values, high, low, corporations);
-                    columns::put_entry(&values, csv::FIELDS - 1, rows, holdings, book);
+                    columns::put_entry(&values, rfc4180::FIELDS - 1, rows, holdings, book);
                     holdings = holdings + 1;
                     record = record + 1;
                     at = entry.next;

@@ -22,18 +22,18 @@ too_high d h = either_way (is_date d) (λ t. absurd (omega (arith, date-high d t
 in-years : (d : ℕ) → 19000101 ≤ d → d ≤ 22991231 → within 1900 2299 (year d) ≡ true
 in-years d l h = true_within 1900 2299 (year d) (omega arith) (omega arith)
 
-returns-3 : tie.Need-returns-3
+returns-3 : tie.Need-returns
 unfolding is_date is_real within
-returns-3 c = rw (in-years _ c.before.before.if1.false c.before.if2.false) (search tests)
+returns-3 c = rw (in-years _ c.before.before.if-d-gt22991231.false c.before.if2.false) (search tests)
 
-returns-4 : tie.Need-returns-4
+returns-4 : tie.Need-returns
 unfolding is_date is_real within
 returns-4 c =
     let left = c.before.before in
-    rw (in-years _ left.before.if1.false left.if2.false, ← c.month-length.ensures) (search tests)
+    rw (in-years _ left.before.if-d-lt19000101.false left.if-d-gt22991231.false, ← c.month_length.ensures) (search tests)
 
-pub is-date-spec : {M : Type 1} → statement M
-is-date-spec =
+pub is_date_spec : {M : Type 1} → statement M
+is_date_spec =
     tie.close
     (tie.spec
     (λ c. too-low _ c.if1.true)

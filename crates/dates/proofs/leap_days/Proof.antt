@@ -8,8 +8,8 @@ returns : tie.Need-returns
 unfolding year_start
 returns c = search rules
 
-pub leap-days-spec : {M : Type 1} → statement M
-leap-days-spec =
+pub leap_days_spec : {M : Type 1} → statement M
+leap_days_spec =
     tie.close
     (tie.spec
     (λ c. search rules)

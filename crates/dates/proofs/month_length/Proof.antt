@@ -12,13 +12,13 @@ use Rattle.dates.proofs.month_length.Tie as tie
 second : (y m l : ℕ) → m ≡ 2 → l ≡ leap_day y → 28 + l ≡ month_length y m
 second y m l e f = rw (e, f) (sym (february y))
 
-pub month-length-spec : {M : Type 1} → statement M
-month-length-spec =
+pub month_length_spec : {M : Type 1} → statement M
+month_length_spec =
     tie.close
     (tie.spec
     (λ c κs. search rules)
     (λ c. search rules)
-    (λ c. second _ _ _ c.before.if1.true c.leap_day_lem.ensures.0)
+    (λ c. second _ _ _ c.before.if-month-eq2.true c.leap_day.ensures.0)
     (λ c. sym (month_zero _ _ c.if2.true))
     (λ c. sym (no_month _ _ (omega (arith, c.if3.true))))
     (λ c. search rules)

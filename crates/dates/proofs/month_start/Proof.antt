@@ -40,14 +40,14 @@ shortened c =
     (λ w. rw (w.1, lt-leb _ _ w.0.left))
     c.if3.branch
 
-mul-result : tie.Need-overflow-mul-result
+mul-result : tie.Need-overflow_mul-result
 mul-result c = record { fits = omega (arith, (placed c.before.before).to) }
 
-sub-result : tie.Need-overflow-sub-result
+sub-result : tie.Need-overflow_sub-result
 sub-result c = omega (arith, (placed c.before.before).from)
 
-sub-result-2 : tie.Need-overflow-sub-result-2
-sub-result-2 c = ⊎_elim (λ w. omega (arith, w.1)) (λ w. omega (arith, w.0.left, w.1)) c.before.before.if3.branch
+sub-result-2 : tie.Need-overflow_sub-result-2
+sub-result-2 c = ⊎_elim (λ w. omega (arith, w.1)) (λ w. omega (arith, w.0.left, w.1)) c.before.before.if-place-le2.branch
 
 returns : tie.Need-returns
 returns c =
@@ -55,5 +55,5 @@ returns c =
     let right = coded_start _ _ (shortened c.before.before) at.to ∙ at.same in
     (right, rw right (start_small _))
 
-pub month-start-spec : {M : Type 1} → statement M
-month-start-spec = tie.close (tie.spec mul-result sub-result sub-result-2 returns)
+pub month_start_spec : {M : Type 1} → statement M
+month_start_spec = tie.close (tie.spec mul-result sub-result sub-result-2 returns)

@@ -4,8 +4,8 @@ use Rattle.dates.proofs.Coded.{coded_in_month, coded-month, coded-year}
 use Rattle.dates.proofs.next_day.Statement.{statement}
 use Rattle.dates.proofs.next_day.Tie as tie
 
-pub next-day-spec : {M : Type 1} → statement M
-next-day-spec =
+pub next_day_spec : {M : Type 1} → statement M
+next_day_spec =
     tie.close
     (tie.spec
     (λ c κs. search rules)

@@ -2,7 +2,7 @@
 use mathlib.Core.Path.{◌∙◌}
 use Prim.Native.Nat.{◌-◌}
 use borrow.Author.Rules.{rules}
-use Rattle.csv.specs.Reading.{field_count}
+use Rattle.rfc4180.specs.Reading.{field_count}
 use Rattle.layout.proofs.Found.{behind}
 use Rattle.layout.proofs.put_issuer.Statement.{statement}
 use Rattle.layout.proofs.put_issuer.Tie as tie

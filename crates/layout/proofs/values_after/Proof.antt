@@ -6,7 +6,7 @@ use Prim.Native.Nat.{◌-◌}
 use native.Mathlib.Omega.{arith}
 use lib.ListN.{get_or, drop}
 use borrow.Author.Rules.{rules}
-use Rattle.csv.specs.Reading.{field_count, texts_in}
+use Rattle.rfc4180.specs.Reading.{field_count, texts_in}
 use Rattle.layout.specs.Layout.{value_of, sorts_by}
 use Rattle.layout.specs.declared.Sort.TheVariants.{Empty}
 use Rattle.layout.proofs.Found.{Finding, finding_none, finding_more, finding_wrong, finding_all, texts-after, value_after}

@@ -10,12 +10,12 @@ returns c = judged-form _ _ c.before.remainder.ensures c.if1.true
 returns-2 : tie.Need-returns
 returns-2 c =
     let s = c.before.before in
-    judged-remainder _ _ s.before.in_form.ensures s.if1.false _ c.before.remainder.ensures c.if2.true
+    judged-remainder _ _ s.before.in_form.ensures s.if-not-in_form.false _ c.before.remainder.ensures c.if2.true
 
 returns-3 : tie.Need-returns
 returns-3 c =
     let s = c.before.before in
-    judged-lei _ _ s.before.in_form.ensures s.if1.false _ c.before.remainder.ensures c.if2.false
+    judged-lei _ _ s.before.in_form.ensures s.if-not-in_form.false _ c.before.remainder.ensures c.if2.false
 
 pub judge_spec : {M : Type 1} → statement M
 judge_spec =

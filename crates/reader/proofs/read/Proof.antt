@@ -7,7 +7,7 @@ use native.Mathlib.Omega.{arith}
 use lib.ListN.{length}
 use borrow.Author.Rules.{rules}
 use borrow.Author.Tests.{not-true, not-false}
-use Rattle.csv.specs.Reading.{field_count}
+use Rattle.rfc4180.specs.Reading.{field_count}
 use Rattle.columns.specs.Columns.{EntryRoom}
 use Rattle.layout.specs.Layout.{may_follow}
 use Rattle.reader.specs.File.{parsed_in}
