@@ -7,7 +7,7 @@ ghost use Rattle.holding.specs.Holding.{InRange};
 use holding::{Account, Holding};
 
 // Which rule a pair has.
-#[derive(Drop)]
+#[derive(Clone, Copy)]
 pub enum Rule {
     Difference,
     HalfSum,
@@ -16,7 +16,7 @@ pub enum Rule {
 }
 
 // What a pair asks of one leg: the number of its account's letter, those of its side, kind, issuer, currency and rating, its period, and its rate alone.
-#[derive(Drop)]
+#[derive(Clone, Copy)]
 pub struct Leg {
     pub letter: u64,
     pub side: u64,
@@ -29,7 +29,7 @@ pub struct Leg {
 }
 
 // A pair's rate and the rate that it saves, or that the article does not allow it.
-#[derive(Drop)]
+#[derive(Clone, Copy)]
 pub enum Pair {
     Allowed { rate: u64, saving: u64 },
     NotAllowed,

@@ -11,7 +11,7 @@ use daybook::{Day, Finding, Order, Reply};
 use holding::{Account, AccountKind, Built, Head, Headed, Row};
 
 // How many holdings of a book are to be seen, and in which account: none after a refusal, whose number it is.
-#[derive(Drop)]
+#[derive(Clone, Copy)]
 pub struct Opening {
     pub number: u64,
     pub count: usize,
@@ -20,7 +20,7 @@ pub struct Opening {
 
 // What was seen of holdings: the first fault's number, 0 for none, and its place; the place of the first one equal to the trade, or how many were seen
 // where none is; what that one holds; and the five totals.
-#[derive(Drop)]
+#[derive(Clone, Copy)]
 pub struct Scan {
     pub number: u64,
     pub place: usize,
@@ -31,7 +31,7 @@ pub struct Scan {
 
 // What is to be done to a list: entries from `first` to before `end` move up by one place, and then the trade's description with a value goes to a place,
 // where the list has it.
-#[derive(Drop)]
+#[derive(Clone, Copy)]
 pub struct Change {
     pub first: usize,
     pub end: usize,
@@ -40,7 +40,7 @@ pub struct Change {
 }
 
 // What an order gets, and what is to be done to the book's list.
-#[derive(Drop)]
+#[derive(Clone, Copy)]
 pub struct Outcome {
     pub reply: Reply,
     pub change: Change,

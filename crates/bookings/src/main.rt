@@ -6,7 +6,7 @@ use desk::Order;
 use holding::{Currency, Holding, Issuer, Kind, Rating, Side};
 
 // A list that has a book at its front, and what is stored with the book.
-#[derive(Drop)]
+#[derive(Clone, Copy)]
 struct Book {
     list: [Holding; 256],
     day: Day,

@@ -4,7 +4,7 @@ use holding::Row;
 
 // What is stored with a book: its valuation date as a number YYYYMMDD, the number of its letter, how many holdings it has, and a total for each
 // period of the holdings' margins alone, in units.
-#[derive(Drop)]
+#[derive(Clone, Copy)]
 pub struct Day {
     pub date: u64,
     pub letter: u64,
@@ -13,7 +13,7 @@ pub struct Day {
 }
 
 // An order to a book: a trade, which is a description and a value, adds or takes; or the book moves to a later date.
-#[derive(Drop)]
+#[derive(Clone, Copy)]
 pub enum Order {
     Add(Row),
     Take(Row),
@@ -21,14 +21,14 @@ pub enum Order {
 }
 
 // Done, with the new count of holdings, or refused with number and place.
-#[derive(Drop)]
+#[derive(Clone, Copy)]
 pub enum Finding {
     Done(u64),
     Refused(u64, u64),
 }
 
 // What an order gets: the finding, and what is then stored with the book.
-#[derive(Drop)]
+#[derive(Clone, Copy)]
 pub struct Reply {
     pub finding: Finding,
     pub day: Day,

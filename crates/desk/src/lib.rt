@@ -9,7 +9,7 @@ use daybook::{Day, Finding, Reply};
 use holding::{Currency, Holding, Issuer, Kind, Rating, Row, Side};
 
 // An order to a book of records: a holding is added or taken, or the book moves to a later date.
-#[derive(Drop)]
+#[derive(Clone, Copy)]
 pub enum Order {
     Add(Holding),
     Take(Holding),
@@ -18,7 +18,7 @@ pub enum Order {
 
 // What an order is judged by before the list is seen: what is stored with the book, how many entries the list has, the order, the trade's numbers, and
 // what is to be seen.
-#[derive(Drop)]
+#[derive(Clone, Copy)]
 pub struct View {
     pub day: Day,
     pub room: usize,
@@ -28,7 +28,7 @@ pub struct View {
 }
 
 // What an order gets, what is to be done to the list, and the holding that is put there.
-#[derive(Drop)]
+#[derive(Clone, Copy)]
 pub struct Outcome {
     pub reply: Reply,
     pub change: Change,
@@ -208,7 +208,7 @@ pub fn book(list: &mut [Holding], day: Day, order: Order) -> Reply
 }
 
 // A list of 256 by value, and the reply.
-#[derive(Drop)]
+#[derive(Clone, Copy)]
 pub struct Whole {
     pub list: [Holding; 256],
     pub reply: Reply,

@@ -6,20 +6,20 @@ ghost use Rattle.holding.specs.Holding.{head_fault, letter_of, letter_number, he
 ghost use Rattle.holding.specs.Holding.{side_of, kind_of, is_corporation, is_issuer, issuer_of, currency_of, is_rated, rating_of};
 ghost use Rattle.holding.specs.Holding.{side_number, kind_number, issuer_number, currency_number, rating_number, row_of};
 
-#[derive(Drop)]
+#[derive(Clone, Copy)]
 pub enum Side {
     Long,
     Short,
 }
 
-#[derive(Drop)]
+#[derive(Clone, Copy)]
 pub enum Kind {
     Bond,
     Coupon,
     Residual,
 }
 
-#[derive(Drop)]
+#[derive(Clone, Copy)]
 pub enum Issuer {
     Canada,
     Province(u64),
@@ -28,7 +28,7 @@ pub enum Issuer {
     Corporation(u64),
 }
 
-#[derive(Drop)]
+#[derive(Clone, Copy)]
 pub enum Currency {
     Cad,
     Usd,
@@ -36,7 +36,7 @@ pub enum Currency {
 }
 
 // Whether a corporation is rated single A or higher; of a government nothing is said.
-#[derive(Drop)]
+#[derive(Clone, Copy)]
 pub enum Rating {
     SingleA,
     Lower,
@@ -44,27 +44,27 @@ pub enum Rating {
 }
 
 // Whose account it is, by its letter: an approved participant's, `P`, or a client's, `C`.
-#[derive(Drop)]
+#[derive(Clone, Copy)]
 pub enum AccountKind {
     Participant,
     Client,
 }
 
 // What is said once for all holdings, as it comes, of any size: the valuation date as a number YYYYMMDD, and the number of the account's letter.
-#[derive(Drop)]
+#[derive(Clone, Copy)]
 pub struct Head {
     pub date: u64,
     pub letter: u64,
 }
 
 // The account of a head without fault.
-#[derive(Drop)]
+#[derive(Clone, Copy)]
 pub struct Account {
     pub date: u32,
     pub letter: AccountKind,
 }
 
-#[derive(Drop)]
+#[derive(Clone, Copy)]
 pub struct Holding {
     pub side: Side,
     pub kind: Kind,
@@ -76,7 +76,7 @@ pub struct Holding {
 }
 
 // A holding's numbers as they come, of any size.
-#[derive(Drop)]
+#[derive(Clone, Copy)]
 pub struct Row {
     pub side: u64,
     pub kind: u64,
@@ -88,14 +88,14 @@ pub struct Row {
 }
 
 // What a head makes: an account, or none.
-#[derive(Drop)]
+#[derive(Clone, Copy)]
 pub enum Headed {
     For(Account),
     NoAccount,
 }
 
 // What a row makes: a record, or the number of its first fault.
-#[derive(Drop)]
+#[derive(Clone, Copy)]
 pub enum Built {
     Made(Holding),
     Refused(u64),

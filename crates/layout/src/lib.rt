@@ -15,7 +15,7 @@ use numerals::Numeral;
 pub const VALUES: usize = rfc4180::FIELDS + 1;
 
 // What a field can be: a letter or a code that is named, an LEI, a date, a numeral of at most so many digits, or nothing.
-#[derive(Drop)]
+#[derive(Clone, Copy)]
 pub enum Sort {
     Account,
     Side,
@@ -30,21 +30,21 @@ pub enum Sort {
 }
 
 // The value that a text is of its sort, or the number of its refusal: 21, or 25 of an LEI that has another remainder.
-#[derive(Drop)]
+#[derive(Clone, Copy)]
 pub enum Value {
     Of(u64),
     Refused(u64),
 }
 
 // A record as parsed: good, of the letter of a number, or a refusal, 19 to 21 or 25.
-#[derive(Drop)]
+#[derive(Clone, Copy)]
 pub enum Parsed {
     Good { letter: usize },
     Refused { number: u64 },
 }
 
 // A record, and where the next one starts.
-#[derive(Drop)]
+#[derive(Clone, Copy)]
 pub struct Entry {
     pub parsed: Parsed,
     pub next: usize,

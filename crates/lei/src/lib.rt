@@ -7,7 +7,7 @@ ghost use Rattle.lei.specs.Lei.{is_digit, is_capital, is_character, in_form, val
 ghost use Rattle.lei.specs.Numbering.{same_lei, first_place, table};
 
 // What a text is.
-#[derive(Drop)]
+#[derive(Clone, Copy)]
 pub enum Judged {
     Lei,
     WrongForm,

@@ -8,7 +8,7 @@ ghost use Rattle.margin.specs.Input.{ReadInto};
 use report::Printed;
 
 // What the input is: a file of so many bytes, or none, where a read failed.
-#[derive(Drop)]
+#[derive(Clone, Copy)]
 enum Input {
     File(usize),
     Failed,

@@ -2,7 +2,7 @@
 #![tactic(auto)]
 
 // A pair line: the number of a long, the number of a short, and an amount of both.
-#[derive(Drop)]
+#[derive(Clone, Copy)]
 pub struct Line {
     pub long: u64,
     pub short: u64,

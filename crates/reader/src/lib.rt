@@ -12,7 +12,7 @@ use layout::Parsed;
 pub const LIMIT: usize = 65536;
 
 // A file that was read: its head, and how many holdings, lines and corporations it has, or its refusal with the place.
-#[derive(Drop)]
+#[derive(Clone, Copy)]
 pub enum Contents {
     Read {
         head: Head,

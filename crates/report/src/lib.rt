@@ -13,7 +13,7 @@ use verdict::Verdict;
 pub const ROOM: usize = 257 * 66;
 
 // What came of printing: so many bytes at the front of the lent list, or a refusal, with the list left alone.
-#[derive(Drop)]
+#[derive(Clone, Copy)]
 pub enum Printed {
     Written { bytes: usize },
     Refused { number: u64 },

@@ -8,28 +8,28 @@ ghost use Rattle.rfc4180.specs.Reading.{span, part, text_end, close_at, followed
 pub const FIELDS: usize = 9;
 
 // From a place of a text to another, which is outside.
-#[derive(Drop)]
+#[derive(Clone, Copy)]
 pub struct Span {
     pub start: usize,
     pub end: usize,
 }
 
 // A place, or none.
-#[derive(Drop)]
+#[derive(Clone, Copy)]
 pub enum Found {
     At(usize),
     Nothing,
 }
 
 // A field with what follows it: where it stands, whether it is its record's last, and where the next field or record starts.
-#[derive(Drop)]
+#[derive(Clone, Copy)]
 pub enum Piece {
     Field(Span, bool, usize),
     Broken,
 }
 
 // A record that was looked at: how many fields it has and where the next record starts; or one outside the grammar.
-#[derive(Drop)]
+#[derive(Clone, Copy)]
 pub enum Scanned {
     Fields { count: usize, next: usize },
     Malformed,

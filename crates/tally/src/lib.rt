@@ -9,7 +9,7 @@ use article::pair::{Leg, Pair};
 use proposal::Fault;
 
 // What is unpaired of the two holdings of a line, and the units and the saving of the lines taken off.
-#[derive(Drop)]
+#[derive(Clone, Copy)]
 pub struct Tally {
     pub long: u64,
     pub short: u64,
@@ -18,14 +18,14 @@ pub struct Tally {
 }
 
 // The new tally, or the number of the refusal.
-#[derive(Drop)]
+#[derive(Clone, Copy)]
 pub enum Applied {
     Taken(Tally),
     Refused(u64),
 }
 
 // The first fault of the lines, and the units and the saving of those before it, or of all lines.
-#[derive(Drop)]
+#[derive(Clone, Copy)]
 pub struct Walked {
     pub fault: Fault,
     pub units: u64,

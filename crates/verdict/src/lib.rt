@@ -9,7 +9,7 @@ use holding::{Head, Headed};
 use proposal::Fault;
 
 // Accepted with its figures, or refused with number and places.
-#[derive(Drop)]
+#[derive(Clone, Copy)]
 pub enum Verdict {
     Accepted {
         units: u64,
