@@ -1,5 +1,6 @@
 // RFC 4180 in one pass: a field, what follows it, a record. A byte is written as its number: 10 LF, 13 CR, 34 the quote, 44 the comma.
 #![tactic(auto)]
+
 ghost use Rattle.std.specs.Prelude.{◌≡◌, set};
 ghost use Rattle.rfc4180.specs.Grammar.{is_text, is_quotable};
 ghost use Rattle.rfc4180.specs.Reading.{span, part, text_end, close_at, followed, opens, field_at, record_at, Scans, HandsBack};

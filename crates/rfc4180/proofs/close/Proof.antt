@@ -8,10 +8,10 @@ use Rattle.rfc4180.proofs.Scan.{close_past, close_more, close_stop, close_last, 
 use Rattle.rfc4180.proofs.close.Statement.{statement}
 use Rattle.rfc4180.proofs.close.Tie as tie
 
-abbrev invariant-loop : tie.invariant-loop
+abbrev invariant-loop : tie.invariant-loop-i
 invariant-loop text at i₀ i = close_at text i ≡ close_at text at
 
-abbrev decreases-loop : tie.decreases-loop
+abbrev decreases-loop : tie.decreases-loop-i
 decreases-loop text at i₀ i = length text - i
 
 pub close_spec : {M : Type 1} → statement M

@@ -4,8 +4,8 @@ use Rattle.rfc4180.proofs.Scan.{ends_past, ends-comma, ends-line, ends_half, end
 use Rattle.rfc4180.proofs.ended.Statement.{statement}
 use Rattle.rfc4180.proofs.ended.Tie as tie
 
-pub ended-spec : {M : Type 1} → statement M
-ended-spec =
+pub ended_spec : {M : Type 1} → statement M
+ended_spec =
     tie.close
     (tie.spec
     (λ c. search (rules, ends_past))

@@ -5,8 +5,8 @@ use Rattle.rfc4180.proofs.Places.{hands_part, hands_none}
 use Rattle.rfc4180.proofs.field.Statement.{statement}
 use Rattle.rfc4180.proofs.field.Tie as tie
 
-pub field-spec : {M : Type 1} → statement M
-field-spec =
+pub field_spec : {M : Type 1} → statement M
+field_spec =
     tie.close
     (tie.spec
     (λ c. search rules)

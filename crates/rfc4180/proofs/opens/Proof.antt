@@ -4,8 +4,8 @@ use Rattle.rfc4180.proofs.Scan.{opens-here, opens_past}
 use Rattle.rfc4180.proofs.opens.Statement.{statement}
 use Rattle.rfc4180.proofs.opens.Tie as tie
 
-pub opens-spec : {M : Type 1} → statement M
-opens-spec =
+pub opens_spec : {M : Type 1} → statement M
+opens_spec =
     tie.close
     (tie.spec
     (λ c. search rules)

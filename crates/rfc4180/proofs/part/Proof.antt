@@ -4,8 +4,8 @@ use Rattle.rfc4180.proofs.Scan.{part-whole, part-rest, part-empty, part_past}
 use Rattle.rfc4180.proofs.part.Statement.{statement}
 use Rattle.rfc4180.proofs.part.Tie as tie
 
-pub part-spec : {M : Type 1} → statement M
-part-spec =
+pub part_spec : {M : Type 1} → statement M
+part_spec =
     tie.close
     (tie.spec
     (λ c. search rules)

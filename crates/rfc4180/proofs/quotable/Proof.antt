@@ -5,9 +5,9 @@ use Rattle.rfc4180.specs.Grammar.{is_quotable}
 use Rattle.rfc4180.proofs.quotable.Statement.{statement}
 use Rattle.rfc4180.proofs.quotable.Tie as tie
 
-pub quotable-spec : {M : Type 1} → statement M
+pub quotable_spec : {M : Type 1} → statement M
 unfolding is_quotable
-quotable-spec =
+quotable_spec =
     tie.close
     (tie.spec
     (λ c. search tests)

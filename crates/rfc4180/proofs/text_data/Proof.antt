@@ -4,8 +4,8 @@ use Rattle.rfc4180.proofs.Text.{text_quote, text-comma, text_printable, text_und
 use Rattle.rfc4180.proofs.text_data.Statement.{statement}
 use Rattle.rfc4180.proofs.text_data.Tie as tie
 
-pub text-data-spec : {M : Type 1} → statement M
-text-data-spec =
+pub text_data_spec : {M : Type 1} → statement M
+text_data_spec =
     tie.close
     (tie.spec
     (λ c. search (rules, text_quote))

@@ -8,14 +8,14 @@ use Rattle.rfc4180.proofs.Scan.{text-more, text_stop, text_past}
 use Rattle.rfc4180.proofs.text_end.Statement.{statement}
 use Rattle.rfc4180.proofs.text_end.Tie as tie
 
-abbrev invariant-loop : tie.invariant-loop
+abbrev invariant-loop : tie.invariant-loop-i
 invariant-loop text at i₀ i = text_end text i ≡ text_end text at
 
-abbrev decreases-loop : tie.decreases-loop
+abbrev decreases-loop : tie.decreases-loop-i
 decreases-loop text at i₀ i = length text - i
 
-pub text-end-spec : {M : Type 1} → statement M
-text-end-spec =
+pub text_end_spec : {M : Type 1} → statement M
+text_end_spec =
     tie.close
     (tie.spec
     invariant-loop
