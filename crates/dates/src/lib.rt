@@ -1,6 +1,7 @@
 // Dates of the Gregorian calendar as numbers YYYYMMDD, 1900 to 2299: whether a number is one, the next day, anniversaries, and the days between
 // two. Their text is in text.rt.
 #![tactic(auto)]
+
 pub mod text;
 
 ghost use Rattle.std.specs.Prelude.{◌≡◌, ◌+◌, ◌*◌, ◌≤◌};

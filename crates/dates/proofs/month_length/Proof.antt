@@ -23,4 +23,4 @@ month_length_spec =
     (λ c. sym (no_month _ _ (omega (arith, c.if-month-gt12.true))))
     (λ c. search rules)
     (λ c. search rules)
-    (λ c. coded-length _ _ c.before.before.if1.false c.before.if2.false (omega (arith, c.if3.false))))
+    (λ c. coded-length _ _ c.before.before.if-month-eq2.false c.before.if-month-lt1.false (omega (arith, c.if-month-gt12.false))))

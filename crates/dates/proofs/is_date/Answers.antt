@@ -3,13 +3,11 @@ use mathlib.Core.Path.{◌≡◌, sym}
 use mathlib.Core.Bool.{true, false}
 use Prim.Native.Nat.{ℕ, ◌≤◌, ◌<◌}
 use native.Mathlib.Omega.{arith}
-use borrow.Author.Rules.{rules}
 use Rattle.lists.proofs.Tests.{tests, either_way, true_within}
 use Rattle.lists.specs.Choice.{within}
 use Rattle.dates.specs.Calendar.{year, is_real, is_date}
 use Rattle.dates.proofs.Tested.{date-low, date-high}
-use Rattle.dates.proofs.is_date.Statement.{statement}
-use Rattle.dates.proofs.is_date.Tie as tie
+use Rattle.dates.proofs.is_date.Goals as goal
 
 -- no date is below the first or above the last
 too-low : (d : ℕ) → d < 19000101 → false ≡ is_date d
@@ -22,22 +20,16 @@ too_high d h = either_way (is_date d) (λ t. absurd (omega (arith, date-high d t
 in-years : (d : ℕ) → 19000101 ≤ d → d ≤ 22991231 → within 1900 2299 (year d) ≡ true
 in-years d l h = true_within 1900 2299 (year d) (omega arith) (omega arith)
 
-returns-3 : tie.Need-returns
-unfolding is_date is_real within
-returns-3 c = rw (in-years _ c.before.before.if-d-gt22991231.false c.before.if2.false) (search tests)
+pub returns-then-d-lt19000101 : goal.returns-then-d-lt19000101
+returns-then-d-lt19000101 c = too-low _ c.if-d-lt19000101.true
 
-returns-4 : tie.Need-returns
-unfolding is_date is_real within
-returns-4 c =
-    let left = c.before.before in
-    rw (in-years _ left.before.if-d-lt19000101.false left.if-d-gt22991231.false, ← c.month_length.ensures) (search tests)
+pub returns-then-d-gt22991231 : goal.returns-then-d-gt22991231
+returns-then-d-gt22991231 c = too_high _ c.if-d-gt22991231.true
 
-pub is_date_spec : {M : Type 1} → statement M
-is_date_spec =
-    tie.close
-    (tie.spec
-    (λ c. too-low _ c.if1.true)
-    (λ c. too_high _ c.if2.true)
-    returns-3
-    (λ c κs. search rules)
-    returns-4)
+pub returns-then-day-lt1 : goal.returns-then-day-lt1
+unfolding is_date is_real within
+returns-then-day-lt1 c = rw (in-years _ c.if-d-lt19000101.false c.if-d-gt22991231.false) (search tests)
+
+pub returns : goal.returns
+unfolding is_date is_real within
+returns c = rw (in-years _ c.if-d-lt19000101.false c.if-d-gt22991231.false, ← c.month_length.ensures) (search tests)
