@@ -1,7 +1,7 @@
 -- THE PAGE OF LEIS: what ISO 17442, ISO 7064 and document 02 d) say of them, over the definitions beside it; proofs/Identifiers.antt proves it.
 -- Assumes nothing.
 use mathlib.Core.{Path.◌≡◌, Logic.◌↔◌, Logic.◌≢◌, Bool.true, List.List, List.[], List.◌∷◌, List.◌++◌}
-use Rattle.std.specs.Prelude.{ℕ, ◌+◌, ◌*◌, ◌/◌, ◌%◌, ◌^◌, ◌≤◌, ◌<◌, length, get_or}
+use Rattle.std.specs.Prelude.{ℕ, ◌+◌, ◌*◌, ◌/◌, ◌%◌, ◌^◌, ◌<◌, length}
 use Rattle.lei.specs.Lei.{Form, IsLei, is_character, is_capital, digits_of, number, remainder, remainder_from, no_key, lei_of, lei_text, judged_of}
 use Rattle.lei.specs.declared.Judged.TheVariants.{Lei, WrongForm, WrongRemainder}
 

@@ -1,5 +1,6 @@
 // LEIs in bytes: judged, taken as two numbers and written from them, and sought in a table of those known.
 #![tactic(auto)]
+
 ghost use Rattle.std.specs.Prelude.{◌≡◌, ◌+◌, ◌≤◌, ◌<◌, length};
 ghost use Rattle.lists.specs.Choice.{every};
 ghost use Rattle.lists.specs.Tables.{overwrite};
