@@ -1,10 +1,10 @@
 -- Which numbers are issuers, and which rating an issuer has, from the tests to the facts and back. Assumes nothing.
-use mathlib.Core.Path.{◌≡◌, refl, sym, ◌∙◌}
+use mathlib.Core.Path.{◌≡◌}
 use mathlib.Core.Logic.{◌⊎◌, inl, inr}
-use mathlib.Core.Bool.{Bool, true, false, and-false, or-true, false≢true}
-use Prim.Native.Nat.{ℕ, ◌≤◌, ◌<◌}
+use mathlib.Core.Bool.{true, false, and-false, or-true}
+use Prim.Native.Nat.{ℕ, ◌<◌}
 use native.Mathlib.Omega.{arith}
-use lib.Dec.{eqb, leb}
+use lib.Dec.{leb}
 use borrow.Author.Tests.{eq-eqb, eqb-true, lt-leb}
 use Rattle.lists.specs.Choice.{within}
 use Rattle.lists.proofs.Tests.{within_true, true_within, one_of, either_way}

@@ -1,5 +1,6 @@
 // A holding and the account that it is valued in: raw numbers, their ranges, and the records that numbers within them make.
 #![tactic(auto)]
+
 ghost use Rattle.std.specs.Prelude.{◌≡◌};
 ghost use Rattle.lists.specs.Choice.{first_of};
 ghost use Rattle.holding.specs.Holding.{head_fault, letter_of, letter_number, headed_of, identity_faults, term_faults, worth_faults, money_faults, fault_of, Builds};

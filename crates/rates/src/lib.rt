@@ -1,6 +1,7 @@
 // Article 7204 of the Bourse de Montréal, Groups I, II, V and XI paragraph 1: the period of a term, and the rate of a holding alone, margin units per
 // cent of market value, a unit being 1/146,000 of a cent.
 #![tactic(auto)]
+
 ghost use Rattle.std.specs.Prelude.{◌≡◌, ◌≤◌, ◌<◌};
 ghost use Rattle.rates.specs.Rate.{period_of, class_of, bond_rate, strip_rate, rate_of};
 

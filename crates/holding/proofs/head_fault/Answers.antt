@@ -1,5 +1,5 @@
 -- `head_fault` is `head_fault`: the valuation date is tested, and then the letter. Assumes nothing.
-use mathlib.Core.Path.{◌≡◌, sym, ◌∙◌}
+use mathlib.Core.Path.{sym, ◌∙◌}
 use Rattle.holding.proofs.Heads.{sound_head, unvalued_head, unlettered-head}
 use Rattle.holding.proofs.head_fault.Goals as goal
 

@@ -5,9 +5,9 @@ use Rattle.holding.proofs.row_of.Goals as goal
 pub returns : goal.returns
 unfolding row_of
 returns c = rw (
-      c.side_number.ensures,
-      c.kind_number.ensures,
-      c.issuer_number.ensures,
-      c.currency_number.ensures,
-      c.rating_number.ensures,
-    )
+  c.side_number.ensures,
+  c.kind_number.ensures,
+  c.issuer_number.ensures,
+  c.currency_number.ensures,
+  c.rating_number.ensures,
+)

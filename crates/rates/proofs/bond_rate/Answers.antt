@@ -5,15 +5,13 @@ use Prim.Native.Nat.{ℕ, ◌*◌, ◌/◌, ◌-◌, ◌≤◌, ◌<◌}
 use native.Mathlib.Nat.{mul-le-mul}
 use native.Mathlib.Omega.{arith}
 use lib.ListN.{get_or}
-use borrow.Author.Rules.{rules}
 use Rattle.dates.specs.Calendar.{days_between}
 use Rattle.holding.specs.declared.Account.{Account}
 use Rattle.rates.specs.Rate.{bond_rate, flat_rate, period_of}
 use Rattle.rates.proofs.Periods.{first-only, not_first}
 use Rattle.rates.proofs.FlatRates.{table, flat_right, flat_high}
 use Rattle.rates.proofs.Terms.{within-one, over-one, of-corporation}
-use Rattle.rates.proofs.bond_rate.Statement.{statement}
-use Rattle.rates.proofs.bond_rate.Tie as tie
+use Rattle.rates.proofs.bond_rate.Goals as goal
 
 -- what was read of the table, for the class and the period that were found, is the article's flat rate of the issuer's own class
 module _ (class period own flat : ℕ) (a : Account) (m : ℕ) (read : flat ≡ get_or (get_or table class []) (period - 1) 0) (p : class ≡ own) (q : period ≡ period_of a m) where
@@ -43,44 +41,11 @@ module _ (class period own flat : ℕ) (a : Account) (m : ℕ) (read : flat ≡ 
   late : (period ≡ 1 → ⊥) → (flat ≡ bond_rate own a m) × (flat ≤ 8000000000)
   late e = (entry ∙ sym (over-one own a m (not_first a m (λ f. e (q ∙ f)))), omega (arith, high))
 
-cast-flat : tie.Need-overflow-cast-flat
-cast-flat c =
-    let found = c.before in
-    record { fits = small _ _ _ _ _ _ refl found.class_of.ensures.0 found.before.requires.0 }
+pub returns-then-class-eq2 : goal.returns-then-class-eq2
+returns-then-class-eq2 c = whole _ _ _ _ _ _ refl c.class_of-class.ensures.0 c.requires.0 c.if-class-eq2.true
 
-mul-result : tie.Need-overflow-mul-result
-mul-result c =
-    let found = c.before.before.before.before in
-    record { fits = below _ _ _ _ _ _ refl found.class_of.ensures.0 found.before.requires.0 _ (omega arith) }
+pub returns-then-period-eq1 : goal.returns-then-period-eq1
+returns-then-period-eq1 c = early _ _ _ _ _ _ refl c.class_of-class.ensures.0 c.requires.0 _ (omega arith) (omega arith) c.if-class-eq2.false (omega arith)
 
-returns : tie.Need-returns
-returns c =
-    let found = c.before.before in
-    whole _ _ _ _ _ _ refl found.class_of.ensures.0 found.before.requires.0 c.if1.true
-
-returns-2 : tie.Need-returns-2
-returns-2 c =
-    let found = c.before.before.before.before in
-    early _ _ _ _ _ _ refl found.class_of.ensures.0 found.before.requires.0 _ (omega arith) (omega arith) c.before.before.if1.false (omega arith)
-
-returns-3 : tie.Need-returns-3
-returns-3 c =
-    let found = c.before.before.before in
-    late _ _ _ _ _ _ refl found.class_of.ensures.0 found.before.requires.0 c.if2.false
-
-pub bond-rate-spec : {M : Type 1} → statement M
-bond-rate-spec =
-    tie.close
-    (tie.spec
-    (λ c κs. search rules)
-    (λ c. search rules)
-    (λ c. search rules)
-    (λ c. search rules)
-    (λ c. search rules)
-    (λ c. search rules)
-    cast-flat
-    returns
-    (λ c κs. search rules)
-    mul-result
-    returns-2
-    returns-3)
+pub returns : goal.returns
+returns c = late _ _ _ _ _ _ refl c.class_of-class.ensures.0 c.requires.0 c.if-period-eq1.false
