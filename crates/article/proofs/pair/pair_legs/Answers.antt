@@ -3,7 +3,7 @@ use mathlib.Core.Path.{◌≡◌, ap, sym, ◌∙◌}
 use mathlib.Core.Bool.{Bool, true, false}
 use Prim.Native.Nat.{ℕ, ◌+◌, ◌-◌}
 use native.Mathlib.Omega.{arith}
-use borrow.Author.Tests.{not-true, not-false, eq-eqb}
+use borrow.Author.Tests.{eq-eqb}
 use Rattle.lists.proofs.Tests.{arms}
 use Rattle.article.proofs.PairRates.{permitted-high}
 use Rattle.article.proofs.Saved.{saving-high}
@@ -11,9 +11,7 @@ use Rattle.article.specs.Pair.{allowed, is_long, is_short, rule_of, permits, rul
 use Rattle.article.specs.declared.pair.Rule.{Rule}
 use Rattle.article.specs.declared.pair.Leg.{Leg}
 use Rattle.article.specs.declared.pair.Pair.TheVariants.{Allowed, NotAllowed}
-use borrow.Author.Rules.{rules}
-use Rattle.article.proofs.pair.pair_legs.Statement.{statement}
-use Rattle.article.proofs.pair.pair_legs.Tie as tie
+use Rattle.article.proofs.pair.pair_legs.Goals as goal
 
 module _ (l s : Leg) where
   no_pair : allowed l s ≡ false → Pairs l s NotAllowed
@@ -34,65 +32,21 @@ module _ (l s : Leg) where
       saving-high = saving-high l s f g;
     })
 
-returns : tie.Need-returns
+pub returns-then-long-ne0 : goal.returns-then-long-ne0
 unfolding allowed is_long is_short
-returns c = no_pair _ _ (search arms)
+returns-then-long-ne0 c = no_pair _ _ (search arms)
 
-returns-2 : tie.Need-returns-2
+pub returns-then-short-ne1 : goal.returns-then-short-ne1
 unfolding allowed is_long is_short
-returns-2 c = no_pair _ _ (search arms)
+returns-then-short-ne1 c = no_pair _ _ (search arms)
 
-returns-3 : tie.Need-returns-3
+pub returns-then-long-short : goal.returns-then-long-short
 unfolding allowed is_long is_short
-returns-3 c = no_pair _ _ (search arms)
+returns-then-long-short c = no_pair _ _ (search arms)
 
-rule-of-requires : tie.Need-rule-of-requires
-rule-of-requires c κs = search rules
+pub returns-then-not-is_permitted : goal.returns-then-not-is_permitted
+returns-then-not-is_permitted c = no_pair _ _ (decided _ _ c.if-long-ne0.false c.if-short-ne1.false c.if-long-short.false _ _ c.rule_of-rule.ensures c.is_permitted.ensures ∙ c.if-not-is_permitted.true)
 
-is-permitted-requires : tie.Need-is-permitted-requires
-is-permitted-requires c κs = search rules
-
-returns-4 : tie.Need-returns-4
-returns-4 c =
-    let at-rule = c.before.before in
-    let one-period = at-rule.before in
-    let a-short = one-period.before.before.before in
-    let a-long = a-short.before.before in
-    no_pair _ _
-    (decided _ _ a-long.if1.false a-short.if2.false one-period.if3.false _ _ at-rule.rule-of.ensures c.before.is-permitted.ensures
-    ∙ not-true _ c.if4.true)
-
-rule-rate-requires : tie.Need-rule-rate-requires
-rule-rate-requires c κs = search rules
-
-add-t7 : tie.Need-overflow-add-t7
-add-t7 c = search rules
-
-sub-t8 : tie.Need-overflow-sub-t8
-sub-t8 c = search rules
-
-returns-5 : tie.Need-returns-5
-returns-5 c =
-    let permitted = c.before.before.before in
-    let at-rule = permitted.before.before in
-    let one-period = at-rule.before in
-    let a-short = one-period.before.before.before in
-    let a-long = a-short.before.before in
-    let start = a-long.before.before in
-    a_pair _ _ a-long.if1.false a-short.if2.false one-period.if3.false _ _ at-rule.rule-of.ensures permitted.before.is-permitted.ensures _
-    (not-false _ permitted.if4.false) start.requires.0 start.requires.1 c.before.before.rule-rate.ensures.0
-
-pub pair-legs-spec : {M : Type 1} → statement M
-pair-legs-spec =
-    tie.close
-    (tie.spec
-    returns
-    returns-2
-    returns-3
-    rule-of-requires
-    is-permitted-requires
-    returns-4
-    rule-rate-requires
-    add-t7
-    sub-t8
-    returns-5)
+pub returns : goal.returns
+returns c = a_pair _ _ c.if-long-ne0.false c.if-short-ne1.false c.if-long-short.false _ _ c.rule_of-rule.ensures c.is_permitted.ensures _
+    c.if-not-is_permitted.false c.requires.0 c.requires.1 c.rule_rate-rate.ensures.0
