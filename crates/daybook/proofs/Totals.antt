@@ -32,11 +32,11 @@ module _ (a : Account) where
       (λ e. rw (own r rs period e) (in_period e (adds-up rs period)))
       (λ n. rw (other r rs period n) (in_another n (adds-up rs period)))
 
-  adds-up-only : (rows : List Row) (period units : ℕ) → AddsUp a period rows units → units ≡ total_of a rows period
+  adds-up-only : (period : ℕ) (rows : List Row) (units : ℕ) → AddsUp a period rows units → units ≡ total_of a rows period
   unfolding margin_of
-  adds-up-only rows period units none = unfold total_of sum_of in refl
-  adds-up-only rows period units (in_period {r = r} {rows = rs} {units = u} e s) = omega (arith, own r rs period e, adds-up-only rs period u s)
-  adds-up-only rows period units (in_another {r = r} {rows = rs} {units = u} n s) = adds-up-only rs period u s ∙ sym (other r rs period n)
+  adds-up-only period rows units none = unfold total_of sum_of in refl
+  adds-up-only period rows units (in_period {r = r} {rows = rs} {units = u} e s) = omega (arith, own r rs period e, adds-up-only period rs u s)
+  adds-up-only period rows units (in_another {r = r} {rows = rs} {units = u} n s) = adds-up-only period rs u s ∙ sym (other r rs period n)
 
   pub totals_afresh : (rows : List Row) → Afresh a rows (totals_of a rows)
   unfolding totals_of
@@ -50,4 +50,4 @@ module _ (a : Account) where
       let g = totals_afresh rows in
       ext_get_or 0 totals (totals_of a rows) (h.five ∙ sym g.five)
       (λ k q. let below : k < 5 = omega (arith, h.five) in
-      adds-up-only rows (suc k) _ (h.each_period k below) ∙ sym (adds-up-only rows (suc k) _ (g.each_period k below)))
+      adds-up-only (suc k) rows _ (h.each_period k below) ∙ sym (adds-up-only (suc k) rows _ (g.each_period k below)))

@@ -9,8 +9,8 @@ returns : tie.Need-returns
 unfolding column_in
 returns c = simp add-sub_cancel_left
 
-pub column-spec : {M : Type 1} → statement M
-column-spec =
+pub column_spec : {M : Type 1} → statement M
+column_spec =
     tie.close
     (tie.spec
     (λ c. search rules)

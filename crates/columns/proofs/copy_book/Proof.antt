@@ -5,47 +5,47 @@ use Rattle.columns.proofs.copy_book.Statement.{statement}
 use Rattle.columns.proofs.copy_book.Tie as tie
 
 -- the start, from where one of the last six columns is copied
-abbrev of-issuer : tie.After-copy-arg3 → tie.Start
+abbrev of-issuer : tie.After-copy-arg-3-1 → tie.Start
 of-issuer c =
     let side = c.before.before.before.before.before.before.before.before.before.before in
     side.before.before.before.before.before.before.before.before.before.before.before
 
-abbrev of-maturity : tie.After-copy-arg4 → tie.Start
+abbrev of-maturity : tie.After-copy-arg-4-1 → tie.Start
 of-maturity c = of-issuer c.before.before.before.before.before
 
-abbrev of-value : tie.After-copy-arg5 → tie.Start
+abbrev of-value : tie.After-copy-arg-5-1 → tie.Start
 of-value c = of-maturity c.before.before.before.before.before
 
-abbrev of-price : tie.After-copy-arg6 → tie.Start
+abbrev of-price : tie.After-copy-arg-6-1 → tie.Start
 of-price c = of-value c.before.before.before.before.before
 
-abbrev of-currency : tie.After-copy-arg7 → tie.Start
+abbrev of-currency : tie.After-copy-arg-7-1 → tie.Start
 of-currency c = of-price c.before.before.before.before.before
 
-abbrev of-rating : tie.After-copy-arg8 → tie.Start
+abbrev of-rating : tie.After-copy-arg-8-1 → tie.Start
 of-rating c = of-currency c.before.before.before.before.before
 
 -- all are copied: each copy, from the last back to the first
-module _ (c : tie.After-slice-known16) where
-  abbrev rating : tie.After-copy8
+module _ (c : tie.After-slice_known-16-1) where
+  abbrev rating : tie.After-copy-8
   rating = c.before.before
 
-  abbrev currency : tie.After-copy7
+  abbrev currency : tie.After-copy-7
   currency = rating.before.before.before.before.before
 
-  abbrev price : tie.After-copy6
+  abbrev price : tie.After-copy-6
   price = currency.before.before.before.before.before
 
-  abbrev value : tie.After-copy5
+  abbrev value : tie.After-copy-5
   value = price.before.before.before.before.before
 
-  abbrev maturity : tie.After-copy4
+  abbrev maturity : tie.After-copy-4
   maturity = value.before.before.before.before.before
 
-  abbrev issuer : tie.After-copy3
+  abbrev issuer : tie.After-copy-3
   issuer = maturity.before.before.before.before.before
 
-  abbrev kind : tie.After-copy2
+  abbrev kind : tie.After-copy-2
   kind = issuer.before.before.before.before.before
 
   abbrev side : tie.After-copy
@@ -54,16 +54,16 @@ module _ (c : tie.After-slice-known16) where
 returns : tie.Need-returns
 returns c =
     copied_more _ _ 0 _ _ _ (side c).before.before.column.ensures (side c).copy.ensures
-    (copied_more _ _ 1 _ _ _ (kind c).before.before.column2.ensures (kind c).copy2.ensures
-    (copied_more _ _ 2 _ _ _ (issuer c).before.before.column3.ensures (issuer c).copy3.ensures
-    (copied_more _ _ 3 _ _ _ (maturity c).before.before.column4.ensures (maturity c).copy4.ensures
-    (copied_more _ _ 4 _ _ _ (value c).before.before.column5.ensures (value c).copy5.ensures
-    (copied_more _ _ 5 _ _ _ (price c).before.before.column6.ensures (price c).copy6.ensures
-    (copied_more _ _ 6 _ _ _ (currency c).before.before.column7.ensures (currency c).copy7.ensures
-    (copied_more _ _ 7 _ _ _ (rating c).before.before.column8.ensures (rating c).copy8.ensures (copied_none _ _ _ _))))))))
+    (copied_more _ _ 1 _ _ _ (kind c).before.before.column-2.ensures (kind c).copy-2.ensures
+    (copied_more _ _ 2 _ _ _ (issuer c).before.before.column-3.ensures (issuer c).copy-3.ensures
+    (copied_more _ _ 3 _ _ _ (maturity c).before.before.column-4.ensures (maturity c).copy-4.ensures
+    (copied_more _ _ 4 _ _ _ (value c).before.before.column-5.ensures (value c).copy-5.ensures
+    (copied_more _ _ 5 _ _ _ (price c).before.before.column-6.ensures (price c).copy-6.ensures
+    (copied_more _ _ 6 _ _ _ (currency c).before.before.column-7.ensures (currency c).copy-7.ensures
+    (copied_more _ _ 7 _ _ _ (rating c).before.before.column-8.ensures (rating c).copy-8.ensures (copied_none _ _ _ _))))))))
 
-pub copy-book-spec : {M : Type 1} → statement M
-copy-book-spec =
+pub copy_book_spec : {M : Type 1} → statement M
+copy_book_spec =
     tie.close
     (tie.spec
     (λ c κs. search rules)
@@ -82,12 +82,12 @@ copy-book-spec =
     (λ c κs. let start = of-currency c in search (rules, column_fits))
     (λ c κs. let start = of-currency c.before.before.before in search rules)
     (λ c κs. let start = of-rating c in search (rules, column_fits))
-    (λ c. (side c).copy.auto.1.0)
-    (λ c. (kind c).copy2.auto.1.0)
-    (λ c. (issuer c).copy3.auto.1.0)
-    (λ c. (maturity c).copy4.auto.1.0)
-    (λ c. (value c).copy5.auto.1.0)
-    (λ c. (price c).copy6.auto.1.0)
-    (λ c. (currency c).copy7.auto.1.0)
-    (λ c. (rating c).copy8.auto.1.0)
+    (λ c. (side c).copy.auto.to)
+    (λ c. (kind c).copy-2.auto.to)
+    (λ c. (issuer c).copy-3.auto.to)
+    (λ c. (maturity c).copy-4.auto.to)
+    (λ c. (value c).copy-5.auto.to)
+    (λ c. (price c).copy-6.auto.to)
+    (λ c. (currency c).copy-7.auto.to)
+    (λ c. (rating c).copy-8.auto.to)
     returns)

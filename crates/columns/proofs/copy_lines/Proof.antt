@@ -4,8 +4,8 @@ use Rattle.columns.proofs.Tables.{column_fits, copied_none, copied_more}
 use Rattle.columns.proofs.copy_lines.Statement.{statement}
 use Rattle.columns.proofs.copy_lines.Tie as tie
 
-pub copy-lines-spec : {M : Type 1} → statement M
-copy-lines-spec =
+pub copy_lines_spec : {M : Type 1} → statement M
+copy_lines_spec =
     tie.close
     (tie.spec
     (λ c κs. search rules)

@@ -6,25 +6,25 @@ use Rattle.columns.proofs.Entry.{Putting, putting_none, value_there, putting_mor
 use Rattle.columns.proofs.put_entry.Statement.{statement}
 use Rattle.columns.proofs.put_entry.Tie as tie
 
-abbrev invariant-loop : tie.invariant-loop
+abbrev invariant-loop : tie.invariant-loop-j
 invariant-loop values count rows k table₀ j₀ table j = Putting count rows k values table₀ j table
 
-abbrev decreases-loop : tie.decreases-loop
+abbrev decreases-loop : tie.decreases-loop-j
 decreases-loop values count rows k table₀ j₀ table j = count - j
 
-abbrev start : tie.In-loop invariant-loop decreases-loop → tie.Start invariant-loop decreases-loop
+abbrev start : tie.In-loop-j invariant-loop decreases-loop → tie.Start invariant-loop decreases-loop
 start c = c.before.before.before.before
 
-there : (c : tie.In-loop invariant-loop decreases-loop) → 8 * ((start c).args.rows * c.before.loop.j + (start c).args.k) + 8 ≤ length c.before.loop.table
-there c = value_there (start c).requires c.loop-test.true c.before.loop.invariant
+there : (c : tie.In-loop-j invariant-loop decreases-loop) → 8 * ((start c).args.rows * c.before.loop-j.j + (start c).args.k) + 8 ≤ length c.before.loop-j.table
+there c = value_there (start c).requires c.loop-j-test.true c.before.loop-j.invariant
 
-loop-again : tie.Need-loop-preserved invariant-loop decreases-loop
+loop-again : tie.Need-loop-j-preserved invariant-loop decreases-loop
 loop-again c =
     let at = c.before.before.before.before.before in
-    putting_more (start at).requires at.loop-test.true at.before.loop.invariant _ c.before.before.put_word.ensures
+    putting_more (start at).requires at.loop-j-test.true at.before.loop-j.invariant _ c.before.before.put_word.ensures
 
-pub put-entry-spec : {M : Type 1} → statement M
-put-entry-spec =
+pub put_entry_spec : {M : Type 1} → statement M
+put_entry_spec =
     tie.close
     (tie.spec
     invariant-loop

@@ -16,10 +16,10 @@ use Rattle.figures.specs.Margins.{MarginsLent, left_margin, Margins}
 use Rattle.figures.proofs.margins_of.Statement.{statement}
 use Rattle.figures.proofs.margins_of.Tie as tie
 
-abbrev invariant-loop : tie.invariant-loop
+abbrev invariant-loop : tie.invariant-loop-i
 invariant-loop n legs left margins₀ total₀ i₀ margins total i = (i ≤ n) × (length margins ≡ length margins₀) × Margins i legs left margins₀ margins total
 
-abbrev decreases-loop : tie.decreases-loop
+abbrev decreases-loop : tie.decreases-loop-i
 decreases-loop n legs left margins₀ total₀ i₀ margins total i = n - i
 
 -- the margin of a holding, by its leg
@@ -39,32 +39,32 @@ module _ {n : ℕ} {legs left old : List ℕ} (lent : MarginsLent n legs left ol
     sum_high = omega (arith, high, m.sum_high);
   }
 
-loop-holds : tie.Need-loop-init invariant-loop decreases-loop
+loop-holds : tie.Need-loop-i-init invariant-loop decreases-loop
 unfolding sum_to list_to front
 loop-holds c = (search rules, refl, record { each = refl; sum = refl; sum_high = omega arith })
 
-mul-margin-2 : tie.Need-overflow-mul-margin-2 invariant-loop decreases-loop
+mul-margin-2 : tie.Need-overflow_mul-margin invariant-loop decreases-loop
 mul-margin-2 c =
     let turn = c.before.before.before.before in
-    record { fits = omega (arith, high turn.before.before.before.before.before.requires turn.loop-test.true c.before.before.leg-in.ensures) }
+    record { fits = omega (arith, high turn.before.before.before.before.before.requires turn.loop-i-test.true c.before.before.leg_in-leg.ensures) }
 
-add_total : tie.Need-overflow-add-total invariant-loop decreases-loop
+add_total : tie.Need-overflow_add-total invariant-loop decreases-loop
 add_total c =
     let turn = c.before.before.before.before in
-    record { fits = omega (arith, high turn.before.before.before.before.before.requires turn.loop-test.true c.before.before.leg-in.ensures) }
+    record { fits = omega (arith, high turn.before.before.before.before.before.requires turn.loop-i-test.true c.before.before.leg_in-leg.ensures) }
 
-loop-again : tie.Need-loop-preserved invariant-loop decreases-loop
+loop-again : tie.Need-loop-i-preserved invariant-loop decreases-loop
 loop-again c =
     let turn = c.before.before.before.before in
-    (search rules, search rules, more turn.before.before.before.before.before.requires turn.loop-test.true c.before.before.leg-in.ensures turn.before.loop.invariant.2)
+    (search rules, search rules, more turn.before.before.before.before.before.requires turn.loop-i-test.true c.before.before.leg_in-leg.ensures turn.before.loop-i.invariant.2)
 
 returns : tie.Need-returns invariant-loop decreases-loop
 returns c =
-    let end : c.before.before.before.before.before.args.n ≡ c.before.loop.i = omega arith in
-    rw end c.before.loop.invariant.2
+    let end : c.before.before.before.before.before.args.n ≡ c.before.loop-i.i = omega arith in
+    rw end c.before.loop-i.invariant.2
 
-pub margins-of-spec : {M : Type 1} → statement M
-margins-of-spec =
+pub margins_of_spec : {M : Type 1} → statement M
+margins_of_spec =
     tie.close
     (tie.spec
     invariant-loop

@@ -4,8 +4,8 @@ use Rattle.packed.proofs.Back.{back}
 use Rattle.packed.proofs.code_of.Statement.{statement}
 use Rattle.packed.proofs.code_of.Tie as tie
 
-pub code-of-spec : {M : Type 1} → statement M
-code-of-spec =
+pub code_of_spec : {M : Type 1} → statement M
+code_of_spec =
     tie.close
     (tie.spec
     (λ c. search rules)

@@ -4,6 +4,6 @@ use Rattle.packed.specs.Packed.{leg_in}
 use Rattle.packed.proofs.leg_in.Statement.{statement}
 use Rattle.packed.proofs.leg_in.Tie as tie
 
-pub leg-in-spec : {M : Type 1} → statement M
+pub leg_in_spec : {M : Type 1} → statement M
 unfolding leg_in
-leg-in-spec = tie.close (tie.spec (λ c. refl))
+leg_in_spec = tie.close (tie.spec (λ c. refl))

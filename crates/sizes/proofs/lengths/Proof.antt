@@ -8,19 +8,19 @@ use Rattle.sizes.proofs.Sizes.{first-tested}
 use Rattle.sizes.proofs.lengths.Statement.{statement}
 use Rattle.sizes.proofs.lengths.Tie as tie
 
-pub lengths-spec : {M : Type 1} → statement M
+pub lengths_spec : {M : Type 1} → statement M
 unfolding size_faults
-lengths-spec =
+lengths_spec =
     tie.close
     (tie.spec
     (λ c. search rules)
     (λ c. search rules)
-    (λ c. first-tested _ _ _ _ _ (first-here _ _ _ c.if1.true))
-    (λ c. first-tested _ _ _ _ _ (first_next _ _ _ c.before.if1.false (first-here _ _ _ (lt-ltb _ _ c.if2.true))))
-    (λ c. first-tested _ _ _ _ _ (first_next _ _ _ c.before.before.if1.false (first_next _ _ _ (le-ltb _ _ c.before.if2.false) (first-here _ _ _ (lt-ltb _ _ c.if3.true)))))
+    (λ c. first-tested _ _ _ _ _ (first-here _ _ _ c.if-unequal.true))
+    (λ c. first-tested _ _ _ _ _ (first_next _ _ _ c.before.if-unequal.false (first-here _ _ _ (lt-ltb _ _ c.if-n-gt256.true))))
+    (λ c. first-tested _ _ _ _ _ (first_next _ _ _ c.before.before.if-unequal.false (first_next _ _ _ (le-ltb _ _ c.before.if-n-gt256.false) (first-here _ _ _ (lt-ltb _ _ c.if-m-gt512.true)))))
     (λ c.
     first-tested _ _ _ _ _
-    (first_next _ _ _ c.before.before.before.if1.false (first_next _ _ _ (le-ltb _ _ c.before.before.if2.false) (first_next _ _ _ (le-ltb _ _ c.before.if3.false) (first-here _ _ _ c.if4.true)))))
+    (first_next _ _ _ c.before.before.before.if-unequal.false (first_next _ _ _ (le-ltb _ _ c.before.before.if-n-gt256.false) (first_next _ _ _ (le-ltb _ _ c.before.if-m-gt512.false) (first-here _ _ _ c.if-two.true)))))
     (λ c.
     first-tested _ _ _ _ _
-    (sym (first_of-none _ _ (c.before.before.before.if1.false, (le-ltb _ _ c.before.before.if2.false, (le-ltb _ _ c.before.if3.false, (c.if4.false, tt))))))))
+    (sym (first_of-none _ _ (c.before.before.before.if-unequal.false, (le-ltb _ _ c.before.before.if-n-gt256.false, (le-ltb _ _ c.before.if-m-gt512.false, (c.if-two.false, tt))))))))

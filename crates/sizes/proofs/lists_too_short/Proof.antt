@@ -4,5 +4,5 @@ use Rattle.sizes.proofs.Sizes.{short-tested}
 use Rattle.sizes.proofs.lists_too_short.Statement.{statement}
 use Rattle.sizes.proofs.lists_too_short.Tie as tie
 
-pub lists-too-short-spec : {M : Type 1} → statement M
-lists-too-short-spec = tie.close (tie.spec (λ c. sym (short-tested _ _ _)))
+pub lists_too_short_spec : {M : Type 1} → statement M
+lists_too_short_spec = tie.close (tie.spec (λ c. sym (short-tested _ _ _)))
