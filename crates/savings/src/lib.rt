@@ -1,5 +1,6 @@
 // What two legs save as a pair.
 #![tactic(auto)]
+
 ghost use Rattle.std.specs.Prelude.{◌≡◌, ◌≤◌};
 ghost use Rattle.article.specs.Pair.{rate_limit, saving_limit, RateInRange};
 ghost use Rattle.savings.specs.Savings.{rule_saving, saving_of};

@@ -1,7 +1,6 @@
 -- `saving` is `saving_of`: what the rule saves of the two rates, and 0 where a test fails. Assumes nothing.
 use mathlib.Core.Path.{◌≡◌}
 use mathlib.Core.Bool.{true, false}
-use mathlib.Core.Logic.{⊎_elim}
 use Prim.Native.Nat.{ℕ, ◌≤◌}
 use native.Mathlib.Omega.{arith}
 use lib.Dec.{eqb}
@@ -11,9 +10,8 @@ use Rattle.article.specs.Pair.{allowed, is_long, is_short, rule_of, pair_rate_of
 use Rattle.savings.specs.Savings.{rule_saving, saving_of}
 use Rattle.article.specs.declared.pair.Rule.{Rule}
 use Rattle.article.specs.declared.pair.Leg.{Leg}
-use borrow.Author.Rules.{rules}
-use Rattle.savings.proofs.saving.Statement.{statement}
-use Rattle.savings.proofs.saving.Tie as tie
+use Rattle.savings.proofs.saving.Goals.{else-long-eq0-via-then-long-eq0+then-short-eq1+else-long-short, else-long-eq0-via-then-long-eq0+else-short-eq1, else-long-eq0-via-else-long-eq0}
+use Rattle.savings.proofs.saving.Goals as goal
 
 module _ (l s : Leg) where
   no-saving : allowed l s ≡ false → (0 ≡ saving_of l s) × (0 ≤ saving_limit)
@@ -40,30 +38,14 @@ module _ (l s : Leg) where
       unfolding saving_of saving_rate_of pair_rate_of rule_saving allowed is_long is_short
       a-saving period rule found saving e = rw (e, found, eq-eqb _ _ long, short, period) (saving-permitted (rule_of l s) l.rate s.rate)
 
-rule-of-requires : tie.Need-rule-of-requires
-rule-of-requires c κs = search rules
+pub returns-then-long-short : goal.returns-then-long-short
+returns-then-long-short c = let same = a-saving _ _ c.if-long-eq0.true (eq-eqb _ _ c.if-short-eq1.true) (eq-eqb _ _ c.if-long-short.true) _ c.rule_of-rule.ensures _ c.rule_saving.ensures in
+    (same, rw same (saved_high _ _ c.requires.0 c.requires.1))
 
-rule-saving-requires : tie.Need-rule-saving-requires
-rule-saving-requires c κs = search rules
-
-returns : tie.Need-returns
-returns c =
-    let at-rule = c.before in
-    let one-period = at-rule.before in
-    let a-short = one-period.before.before.before in
-    let a-long = a-short.before.before in
-    let found = c.rule-saving.ensures in
-    let start = a-long.before.before in
-    let same = a-saving _ _ a-long.if1.true a-short.if2.true one-period.if3.true _ at-rule.rule-of.ensures _ found in
-    (same, rw same (saved_high _ _ start.requires.0 start.requires.1))
-
-returns-2 : tie.Need-returns-2
-returns-2 c =
-    no-saving _ _
-    (⊎_elim
-    (λ w. two-periods _ _ w.0.taken w.2.taken w.5.left)
-    (⊎_elim (λ w. not_short _ _ w.0.taken w.2.left) (λ w. not-long _ _ w.left))
-    c.if1.branch)
-
-pub saving-spec : {M : Type 1} → statement M
-saving-spec = tie.close (tie.spec rule-of-requires rule-saving-requires returns returns-2)
+pub returns : goal.returns
+returns c = no-saving _ _
+    (elim c.else-long-eq0.branch [
+      | else-long-eq0-via-then-long-eq0+then-short-eq1+else-long-short w ↦ two-periods _ _ w.if-long-eq0.true (eq-eqb _ _ w.if-short-eq1.true) (ne_eqb _ _ w.if-long-short.false)
+      | else-long-eq0-via-then-long-eq0+else-short-eq1 w ↦ not_short _ _ w.if-long-eq0.true (ne_eqb _ _ w.if-short-eq1.false)
+      | else-long-eq0-via-else-long-eq0 w ↦ not-long _ _ w.if-long-eq0.false
+    ])
