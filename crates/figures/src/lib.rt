@@ -1,5 +1,6 @@
 // The figures of a proposal: the margin of what is left of each holding, and total cents.
 #![tactic(auto)]
+
 ghost use Rattle.proposal.specs.Submission.{RoundedUp};
 ghost use Rattle.figures.specs.Margins.{MarginsLent, Margins};
 

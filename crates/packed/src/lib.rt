@@ -1,5 +1,6 @@
 // A leg packed into one number.
 #![tactic(auto)]
+
 ghost use Rattle.std.specs.Prelude.{◌≡◌};
 ghost use Rattle.packed.specs.Packed.{leg_in, Small};
 

@@ -1,5 +1,6 @@
 // A book and a proposal on it, in specs/, and what is found of them.
 #![tactic(auto)]
+
 ghost use Rattle.std.specs.Prelude.{◌≡◌};
 ghost use Rattle.proposal.specs.Outcome.{make_fault};
 

@@ -1,5 +1,6 @@
 // The byte lengths of what the host lends.
 #![tactic(auto)]
+
 ghost use Rattle.std.specs.Prelude.{◌≡◌, [], ◌∷◌};
 ghost use Rattle.sizes.specs.Sizes.{too_short, length_fault};
 
