@@ -1,5 +1,6 @@
 // An estimate of what two legs save as a pair, never too low, by a small number of each.
 #![tactic(auto)]
+
 ghost use Rattle.std.specs.Prelude.{◌≡◌, ◌-◌, ◌*◌, ◌≤◌, ◌<◌, min};
 ghost use Rattle.article.specs.Pair.{RateInRange};
 ghost use Rattle.marks.specs.Marks.{is_domestic, is_offered, is_government, has_partner, mark_of, across_mark, scan_rate, scan_limit, OtherClass, Asks};

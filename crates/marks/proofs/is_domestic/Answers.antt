@@ -9,21 +9,17 @@ use Rattle.lists.specs.Choice.{within}
 use Rattle.lists.proofs.Tests.{same_or_not}
 use Rattle.article.specs.Pair.{in_cad, is_canada, is_province}
 use Rattle.marks.specs.Marks.{is_domestic}
-use Rattle.marks.proofs.is_domestic.Statement.{statement}
-use Rattle.marks.proofs.is_domestic.Tie as tie
+use Rattle.marks.proofs.is_domestic.Goals as goal
 
 -- up to a number: 0, or from 1 on
 up_to : (high n : ℕ) → leb n high ≡ (eqb n 0 || within 1 high n)
 unfolding within
 up_to high n = same_or_not n 0 (λ e. rw e (leb-zero high)) (λ e. rw (ne_eqb n 0 e, le-leb 1 n (omega (arith, e))))
 
-returns : tie.Need-returns
+pub returns-then-leg-ne0 : goal.returns-then-leg-ne0
 unfolding is_domestic in_cad
-returns c = rw (ne_eqb _ _ c.if1.true)
+returns-then-leg-ne0 c = rw (ne_eqb _ _ c.if-leg-ne0.true)
 
-returns-2 : tie.Need-returns-2
+pub returns : goal.returns
 unfolding is_domestic in_cad is_canada is_province
-returns-2 c = rw (eq-eqb _ _ c.before.if1.false) (up_to 10 c.before.before.before.args.leg.issuer)
-
-pub is-domestic-spec : {M : Type 1} → statement M
-is-domestic-spec = tie.close (tie.spec returns returns-2)
+returns c = rw (eq-eqb _ _ c.if-leg-ne0.false) (up_to 10 c.args.leg.issuer)
