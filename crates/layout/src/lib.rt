@@ -1,15 +1,16 @@
 // The layout of a record: a letter, and after it fields, each of a sort.
 #![tactic(auto)]
+
 ghost use Rattle.std.specs.Prelude.{◌≡◌, ◌++◌, ◌-◌, take, drop, get_or};
 ghost use Rattle.rfc4180.specs.Reading.{field_count, texts_in};
 ghost use Rattle.codes.specs.Codes.{place_of};
 ghost use Rattle.layout.specs.Layout.{ratings, by_place, by_numeral, by_date, by_issuer, value_of, sorts_by, values_of, misrated, lei_numbers, sooner, Found, may_follow, entry, EntryAt};
 
 use codes::Place;
-use rfc4180::Scanned;
 use dates::text::Reading;
 use lei::Judged;
 use numerals::Numeral;
+use rfc4180::Scanned;
 
 // The number of values in a record: one for each field after its letter, and two for the LEI of its issuer.
 pub const VALUES: usize = rfc4180::FIELDS + 1;
