@@ -1,9 +1,14 @@
 // Runs the histories of orders on standard input: each order is given to a book in a list of 256 holdings, and what it gets is printed.
 // A step of a history is ten eight-byte little-endian numbers: its sort, its own numbers, and zeros. Lines are decimal numbers with commas.
 #![tactic(auto)]
+
+ghost use Rattle.std.specs.Prelude.{◌≤◌, length};
+
 use daybook::{Day, Finding};
 use desk::Order;
 use holding::{Currency, Holding, Issuer, Kind, Rating, Side};
+use std::io;
+use std::io::Read;
 
 // A list that has a book at its front, and what is stored with the book.
 #[derive(Clone, Copy)]
@@ -78,73 +83,73 @@ fn day_of(step: &[u8; 80]) -> Day {
 }
 
 // Prints a comma and a number.
-fn print_number(x: u64) {
-    io::write_all(libc::STDOUT_FILENO, b",");
-    io::print_decimal(libc::STDOUT_FILENO, x);
+fn print_number(rt: &impl Print, x: u64) -> io::Result<()> {
+    print!(rt; ",{x}")
 }
 
-fn end_line() {
-    io::write_all(libc::STDOUT_FILENO, b"\r\n");
+fn end_line(rt: &impl Print) -> io::Result<()> {
+    print!(rt; "\r\n")
 }
 
 // Prints the line of a new book.
-fn print_head(day: Day) {
-    io::write_all(libc::STDOUT_FILENO, b"N");
-    print_number(day.date);
-    print_number(day.letter);
-    end_line();
+fn print_head(rt: &impl Print, day: Day) -> io::Result<()> {
+    print!(rt; "N")?;
+    print_number(rt, day.date)?;
+    print_number(rt, day.letter)?;
+    end_line(rt)
 }
 
 // Prints what an order got, 0 and the new count or a refusal and its place, and the totals that are then stored.
-fn print_reply(finding: Finding, totals: [u64; 5]) {
+fn print_reply(rt: &impl Print, finding: Finding, totals: [u64; 5]) -> io::Result<()> {
     match finding {
         Finding::Done(count) => {
-            io::print_decimal(libc::STDOUT_FILENO, 0);
-            print_number(count);
+            print!(rt; "0")?;
+            print_number(rt, count)?;
         }
         Finding::Refused(number, place) => {
-            io::print_decimal(libc::STDOUT_FILENO, number);
-            print_number(place);
+            print!(rt; "{number}")?;
+            print_number(rt, place)?;
         }
     }
-    print_number(totals[0]);
-    print_number(totals[1]);
-    print_number(totals[2]);
-    print_number(totals[3]);
-    print_number(totals[4]);
-    end_line();
+    print_number(rt, totals[0])?;
+    print_number(rt, totals[1])?;
+    print_number(rt, totals[2])?;
+    print_number(rt, totals[3])?;
+    print_number(rt, totals[4])?;
+    end_line(rt)
 }
 
 // Prints the numbers of a holding.
-fn print_holding(h: Holding) {
+fn print_holding(rt: &impl Print, h: Holding) -> io::Result<()> {
     let row = holding::row_of(h);
-    io::write_all(libc::STDOUT_FILENO, b"H");
-    print_number(row.side);
-    print_number(row.kind);
-    print_number(row.issuer);
-    print_number(row.maturity);
-    print_number(row.value);
-    print_number(row.currency);
-    print_number(row.rating);
-    end_line();
+    print!(rt; "H")?;
+    print_number(rt, row.side)?;
+    print_number(rt, row.kind)?;
+    print_number(rt, row.issuer)?;
+    print_number(rt, row.maturity)?;
+    print_number(rt, row.value)?;
+    print_number(rt, row.currency)?;
+    print_number(rt, row.rating)?;
+    end_line(rt)
 }
 
 // Prints the holdings of a book, and what stands behind them where the list goes on.
-fn print_book(book: Book) {
+fn print_book(rt: &impl Print, book: Book) -> io::Result<()> {
     let list = book.list;
     let count = book.day.count;
     let mut i: usize = 0;
     while i < 256 {
-        print_holding(list[i]);
+        print_holding(rt, list[i])?;
         if i == count {
-            return;
+            return Ok(());
         }
         i = i + 1;
     }
+    Ok(())
 }
 
 // An order to a book, and its line.
-fn give(book: Book, order: Order) -> Book {
+fn give(rt: &impl Print, book: Book, order: Order) -> io::Result<Book> {
     let list = book.list;
     let day = book.day;
     let whole = desk::book_whole(list, day, order);
@@ -153,8 +158,8 @@ fn give(book: Book, order: Order) -> Book {
     let day = reply.day;
     let finding = reply.finding;
     let totals = day.totals;
-    print_reply(finding, totals);
-    Book { list, day }
+    print_reply(rt, finding, totals)?;
+    Ok(Book { list, day })
 }
 
 // A holding is written to a place of the list, where it has that.
@@ -175,38 +180,57 @@ fn store(book: Book, day: Day) -> Book {
 }
 
 // An empty book in the same list, and its line.
-fn start(book: Book, day: Day) -> Book {
-    print_head(day);
-    store(book, day)
+fn start(rt: &impl Print, book: Book, day: Day) -> io::Result<Book> {
+    print_head(rt, day)?;
+    Ok(store(book, day))
 }
 
 // One step: an empty book, a trade added or taken, a move, a holding written to a place, something else stored, or the book printed.
-fn run(book: Book, step: &[u8; 80]) -> Book {
+fn run(rt: &impl Print, book: Book, step: &[u8; 80]) -> io::Result<Book> {
     let sort = words::word(step, 0);
     match sort {
-        0 => start(book, day_of(step)),
-        1 => give(book, Order::Add(holding_of(step))),
-        2 => give(book, Order::Take(holding_of(step))),
-        3 => give(book, Order::MoveTo(words::word(step, 1))),
-        4 => put(book, holding_of(step), words::word(step, 8)),
-        5 => store(book, day_of(step)),
+        0 => start(rt, book, day_of(step)),
+        1 => give(rt, book, Order::Add(holding_of(step))),
+        2 => give(rt, book, Order::Take(holding_of(step))),
+        3 => give(rt, book, Order::MoveTo(words::word(step, 1))),
+        4 => Ok(put(book, holding_of(step), words::word(step, 8))),
+        5 => Ok(store(book, day_of(step))),
         _ => {
-            print_book(book);
-            book
+            print_book(rt, book)?;
+            Ok(book)
         }
     }
 }
 
-fn main() {
+// Reads until the buffer is full, the input ends or a read fails, and returns how many bytes were read.
+fn read_full<R: Read>(input: &mut R, buffer: &mut [u8]) -> usize
+    ensures { result ≤ length buffer.new }
+{
+    let mut done: usize = 0;
+    while done < buffer.len() {
+        let Ok(more) = input.read(&mut buffer[done..]) else {
+            return done;
+        };
+        if more == 0 {
+            return done;
+        }
+        done = done + more;
+    }
+    done
+}
+
+fn main(rt: HostRuntime) -> io::Result<()> {
+    let mut input = rt.reader();
     let mut book = no_book();
     let mut turn: usize = 0;
     while turn < 100000 {
         let mut step = [0u8; 80];
-        let got = io::read_full(libc::STDIN_FILENO, &mut step);
+        let got = read_full(&mut input, &mut step);
         if got < 80 {
-            return;
+            return Ok(());
         }
-        book = run(book, &step);
+        book = run(&rt, book, &step)?;
         turn = turn + 1;
     }
+    Ok(())
 }

@@ -1,11 +1,14 @@
 // Runs the cases on standard input: for each its title after `# `, and what `margin` prints of its text.
 // A case is two eight-byte little-endian numbers, the bytes of the title and of the text, then the title, then the text.
 #![tactic(auto)]
+
 ghost use Rattle.std.specs.Prelude.{◌≡◌, ◌+◌, ◌≤◌, length, take};
 ghost use Rattle.reader.specs.File.{file_limit};
 ghost use Rattle.report.specs.Report.{report_room};
 
 use report::Printed;
+use std::io;
+use std::io::Read;
 
 // Room for a text of one byte more than a file may have, and for a title.
 fn text_buffer() -> [u8; reader::LIMIT + 1]
@@ -21,56 +24,85 @@ fn print_buffer() -> [u8; report::ROOM]
     [0; report::ROOM]
 }
 
+// Reads until the buffer is full, the input ends or a read fails, and returns how many bytes stand at the front of the buffer.
+fn read_full<R: Read>(input: &mut R, buffer: &mut [u8]) -> usize
+    ensures { (result ≤ length buffer.new) × (result ≡ length (take result buffer.new)) }
+{
+    let mut done: usize = 0;
+    while done < buffer.len() {
+        let Ok(more) = input.read(&mut buffer[done..]) else {
+            return done;
+        };
+        if more == 0 {
+            return done;
+        }
+        done = done + more;
+    }
+    done
+}
+
 // Reads so many bytes into the front of the buffer, as many as it has room for, and returns how many there were.
-fn read_part(n: u64, buffer: &mut [u8]) -> usize
+fn read_part<R: Read>(n: u64, input: &mut R, buffer: &mut [u8]) -> usize
     ensures { (result ≤ length buffer.new) × (result ≡ length (take result buffer.new)) }
 {
     if n < buffer.len() as u64 {
-        return io::read_full(libc::STDIN_FILENO, &mut buffer[..n as usize]);
+        return read_full(input, &mut buffer[..n as usize]);
     }
-    io::read_full(libc::STDIN_FILENO, buffer)
+    read_full(input, buffer)
 }
 
 // Reads a title, and prints it as a line after `# `.
-fn print_title(n: u64, buffer: &mut [u8]) {
-    let got = read_part(n, buffer);
-    io::write_all(libc::STDOUT_FILENO, b"# ");
-    io::write_all(libc::STDOUT_FILENO, &buffer[..got]);
-    io::write_all(libc::STDOUT_FILENO, b"\r\n");
+fn print_title<R: Read>(
+    rt: &impl Print,
+    n: u64,
+    input: &mut R,
+    buffer: &mut [u8],
+) -> io::Result<()> {
+    let got = read_part(n, input, buffer);
+    rt.write_all(b"# ")?;
+    rt.write_all(&buffer[..got])?;
+    rt.write_all(b"\r\n")
 }
 
 // Reads a text, and prints what `margin` does.
-fn print_text(n: u64, buffer: &mut [u8]) {
-    let got = read_part(n, buffer);
+fn print_text<R: Read>(
+    rt: &impl Print,
+    n: u64,
+    input: &mut R,
+    buffer: &mut [u8],
+) -> io::Result<()> {
+    let got = read_part(n, input, buffer);
     let mut out = print_buffer();
     let printed = printing::print_file(&buffer[..got], &mut out);
     let Printed::Written { bytes } = printed else {
-        return;
+        return Ok(());
     };
-    io::write_all(libc::STDOUT_FILENO, &out[..bytes]);
+    rt.write_all(&out[..bytes])
 }
 
 // One case; false at the end of the input.
-fn run_case() -> bool {
+fn run_case<R: Read>(rt: &impl Print, input: &mut R) -> io::Result<bool> {
     let mut header = [0u8; 16];
-    let got = io::read_full(libc::STDIN_FILENO, &mut header);
+    let got = read_full(input, &mut header);
     if got < 16 {
-        return false;
+        return Ok(false);
     }
     let title = words::word(&header, 0);
     let text = words::word(&header, 1);
     let mut buffer = text_buffer();
-    print_title(title, &mut buffer);
-    print_text(text, &mut buffer);
-    true
+    print_title(rt, title, input, &mut buffer)?;
+    print_text(rt, text, input, &mut buffer)?;
+    Ok(true)
 }
 
-fn main() {
+fn main(rt: HostRuntime) -> io::Result<()> {
+    let mut input = rt.reader();
     let mut case: usize = 0;
     while case < 4000 {
-        if !run_case() {
-            return;
+        if !run_case(&rt, &mut input)? {
+            return Ok(());
         }
         case = case + 1;
     }
+    Ok(())
 }

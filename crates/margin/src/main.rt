@@ -1,14 +1,16 @@
 // Reads a file on standard input, and prints its margin, or why it is refused.
 #![tactic(auto)]
+
 ghost use Rattle.std.specs.Prelude.{◌≡◌, ◌+◌, length};
 ghost use Rattle.reader.specs.File.{file_limit};
 ghost use Rattle.report.specs.Report.{report_room};
 ghost use Rattle.margin.specs.Input.{ReadInto};
 
 use report::Printed;
+use std::io::Read;
 
 // What the input is: a file of so many bytes, or none, where a read failed.
-#[derive(Clone, Copy)]
+#[derive(Drop)]
 enum Input {
     File(usize),
     Failed,
@@ -28,18 +30,16 @@ fn print_buffer() -> [u8; report::ROOM]
     [0; report::ROOM]
 }
 
-// Reads standard input into the front of the buffer, to its end or until the buffer is full. A pipe hands over its bytes in pieces, so that one
+// Reads the input into the front of the buffer, to its end or until the buffer is full. A pipe hands over its bytes in pieces, so that one
 // read is not enough. A read that fails, the first or a later one, leaves no file; one that a signal interrupts counts as failed.
-fn read_input(buffer: &mut [u8]) -> Input
+fn read_input<R: Read>(input: &mut R, buffer: &mut [u8]) -> Input
     ensures { ReadInto result buffer.new }
 {
     let mut n: usize = 0;
     while n < buffer.len() {
-        let got = libc::read(libc::STDIN_FILENO, &mut buffer[n..]);
-        if got < 0 {
+        let Ok(more) = input.read(&mut buffer[n..]) else {
             return Input::Failed;
-        }
-        let more = io::count(got, &buffer[n..]);
+        };
         if more == 0 {
             return Input::File(n);
         }
@@ -49,33 +49,29 @@ fn read_input(buffer: &mut [u8]) -> Input
 }
 
 // Prints the margin of a file, or its refusal.
-fn print_margin(text: &[u8]) {
+fn print_margin(rt: &(impl Print + Eprint), text: &[u8]) {
     let mut out = print_buffer();
     let printed = printing::print_file(text, &mut out);
     let Printed::Written { bytes } = printed else {
         return;
     };
-    if !io::write_all(libc::STDOUT_FILENO, &out[..bytes]) {
-        io::write_all(
-            libc::STDERR_FILENO,
-            b"margin: standard output could not be written to its end.\n",
-        );
+    if rt.write_all(&out[..bytes]).is_err() {
+        let _ = eprintln!(rt; "margin: standard output could not be written to its end.");
     }
 }
 
 // Says that there is no file to print of.
-fn say_unread() {
-    io::write_all(
-        libc::STDERR_FILENO,
-        b"margin: standard input could not be read to its end, and nothing is printed.\n",
+fn say_unread(rt: &impl Eprint) {
+    let _ = eprintln!(rt;
+        "margin: standard input could not be read to its end, and nothing is printed."
     );
 }
 
-fn main() {
+fn main(rt: HostRuntime) {
     let mut buffer = file_buffer();
-    let input = read_input(&mut buffer);
+    let input = read_input(&mut rt.reader(), &mut buffer);
     match input {
-        Input::File(n) => print_margin(&buffer[..n]),
-        Input::Failed => say_unread(),
+        Input::File(n) => print_margin(&rt, &buffer[..n]),
+        Input::Failed => say_unread(&rt),
     }
 }
