@@ -4,5 +4,5 @@ use Rattle.tally.specs.Lines.{stopped_at}
 use Rattle.tally.proofs.stopped.Statement.{statement}
 use Rattle.tally.proofs.stopped.Tie as tie
 
-pub stopped-spec : {M : Type 1} → statement M
-stopped-spec = tie.close (tie.spec (λ c κs. search rules) (λ c. unfold stopped_at in rw c.fault-at.ensures))
+pub stopped_spec : {M : Type 1} → statement M
+stopped_spec = tie.close (tie.spec (λ c κs. search rules) (λ c. unfold stopped_at in rw c.fault_at.ensures))
