@@ -9,5 +9,5 @@ returns : tie.Need-returns
 unfolding is_date is_real month_length month_lengths leap_day is_leap within
 returns c = record { found = refl; none = refl; valued = refl }
 
-pub closed-spec : {M : Type 1} → statement M
-closed-spec = tie.close (tie.spec returns)
+pub closed_spec : {M : Type 1} → statement M
+closed_spec = tie.close (tie.spec returns)

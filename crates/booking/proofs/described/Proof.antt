@@ -6,7 +6,7 @@ use Rattle.booking.proofs.described.Tie as tie
 
 returns : tie.Need-returns
 unfolding valued
-returns c = c.holding-of.ensures
+returns c = c.holding_of.ensures
 
-pub described-spec : {M : Type 1} → statement M
-described-spec = tie.close (tie.spec (λ c κs. search rules) returns)
+pub described_spec : {M : Type 1} → statement M
+described_spec = tie.close (tie.spec (λ c κs. search rules) returns)

@@ -5,10 +5,10 @@ use Rattle.booking.proofs.equal.Statement.{statement}
 use Rattle.booking.proofs.equal.Tie as tie
 
 returns : tie.Need-returns
-returns c = same-five _ _ c.well-formed.0.1.0.1 c.well-formed.1.0.1.0.1
+returns c = same-five _ _ c.well_formed.0.1.0.1 c.well_formed.1.0.1.0.1
 
-pub equal-spec : {M : Type 1} → statement M
-equal-spec =
+pub equal_spec : {M : Type 1} → statement M
+equal_spec =
     tie.close
     (tie.spec
     (λ c. search rules)

@@ -6,5 +6,5 @@ use Rattle.booking.proofs.is_alike.Tie as tie
 returns : tie.Need-returns
 returns c = alike_six _ _
 
-pub is-alike-spec : {M : Type 1} → statement M
-is-alike-spec = tie.close (tie.spec returns)
+pub is_alike_spec : {M : Type 1} → statement M
+is_alike_spec = tie.close (tie.spec returns)

@@ -7,5 +7,5 @@ use Rattle.booking.proofs.unseen.Tie as tie
 returns : tie.Need-returns
 returns c = λ a t. seen_none a t _ refl refl refl refl refl
 
-pub unseen-spec : {M : Type 1} → statement M
-unseen-spec = tie.close (tie.spec returns)
+pub unseen_spec : {M : Type 1} → statement M
+unseen_spec = tie.close (tie.spec returns)
