@@ -1,5 +1,6 @@
 // The file of a book and a proposal, read in one pass into a table of holdings and a table of lines.
 #![tactic(auto)]
+
 ghost use Rattle.std.specs.Prelude.{◌<◌, length};
 ghost use Rattle.lei.specs.Numbering.{table};
 ghost use Rattle.reader.specs.File.{TableRoom, NumbersIssuer, ReadsFile};
