@@ -4,7 +4,7 @@ use mathlib.Core.Logic.{◌↔◌}
 use mathlib.Core.List.{List}
 use Prim.Native.Nat.{ℕ, ◌<◌}
 use native.Mathlib.Omega.{arith}
-use lib.ListN.{length, get_or, length-map}
+use lib.ListN.{length, get_or, take, length-map}
 use Rattle.lists.proofs.Tables.{get_or-map_in}
 use Rattle.lists.proofs.Firsts.{None, Numbered, each-in_turn, none_first, first_of-none}
 use Rattle.article.specs.Answer.{make_answer}
@@ -13,7 +13,7 @@ use Rattle.codes.specs.declared.Place.{Place}
 use Rattle.rfc4180.specs.Reading.{Read, broken, records_of}
 use Rattle.layout.specs.Layout.{Meaning, good, refused, parse}
 use Rattle.layout.proofs.Letters.{parse-refused}
-use Rattle.reader.specs.File.{parsed_in, faults_of, at_record, file_faults, file_fault}
+use Rattle.reader.specs.File.{values_by, parsed_in, faults_of, at_record, file_faults, file_fault}
 
 -- the refusals of a record: its own, or 22, 3 and 9
 numbered_of : (n : ℕ) (before : Place) (count : ℕ → ℕ) (r : Read) (m : Meaning) → parse r ≡ m → Numbered number (faults_of n before count m)
@@ -29,7 +29,7 @@ numbered text =
         omega arith,
         each-in_turn _ (at_record (parsed_in text)) (length (parsed_in text)) (λ n q.
             let within : n < length records = omega (arith, length-map records parse) in
-            rw (get_or-map_in parse records n broken (refused 0) within) (numbered_of n _ _ (get_or records n broken) _ refl)),
+            rw (get_or-map_in parse records n broken (refused 0) within) (numbered_of n _ (λ k. length (values_by k (take n (parsed_in text)))) (get_or records n broken) _ refl)),
       ),
     )
 

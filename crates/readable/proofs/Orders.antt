@@ -11,7 +11,7 @@ use Rattle.lists.proofs.Firsts.{None, none-in_turn, in_turn-none}
 use Rattle.lists.proofs.Tests.{same_or_not}
 use Rattle.codes.specs.declared.Place.{Place}
 use Rattle.layout.specs.Layout.{Meaning, good, refused}
-use Rattle.reader.specs.File.{parsed_in, values_by, letter_of, at_record, file_faults}
+use Rattle.reader.specs.File.{parsed_in, values_by, letter_of, letter_before, at_record, file_faults}
 use Rattle.reader.proofs.Comes.{Comes, comes_exactly}
 
 -- how many there are of a letter
@@ -71,8 +71,8 @@ module _ (k most : ℕ) (limit : (before : Place) (count : ℕ → ℕ) (vs : Li
 -- the records of a file, where nothing came before
 at-exactly : (parsed : List Meaning) (n : ℕ) → None (at_record parsed n) ↔ ComesAt (refused 0) (λ k. 0) parsed n
 unfolding at_record
-at-exactly parsed zero = simp zero-add (comes_exactly 0 _ _ (get_or parsed 0 (refused 0)))
-at-exactly parsed (suc n) = simp zero-add (comes_exactly (suc n) _ _ (get_or parsed (suc n) (refused 0)))
+at-exactly parsed zero = simp zero-add (comes_exactly 0 (letter_before parsed 0) (λ k. length (values_by k (take 0 parsed))) (get_or parsed 0 (refused 0)))
+at-exactly parsed (suc n) = simp zero-add (comes_exactly (suc n) (letter_before parsed (suc n)) (λ k. length (values_by k (take (suc n) parsed))) (get_or parsed (suc n) (refused 0)))
 
 pub order-exactly : (text : List ℕ) → None (file_faults text) ↔ ((length text ≤ 65536) × (length text ≢ 0) × InOrder (refused 0) (λ k. 0) (parsed_in text))
 unfolding file_faults

@@ -123,7 +123,7 @@ module _ (known : List (List ℕ)) (m : Known known) (r : List (List ℕ)) (read
     where
       by : Parted known reads (submission_from known (map parse reads)) → Parted known (formed r ∷ reads) (submission_from known (good 2 vs ∷ map parse reads))
       by ([], ls, leis, all, h, l) = ([], r ∷ ls, leis, ap (formed r ∷◌) all, h, line_and (record_of r 2 vs e).0 l)
-      by (q ∷ hs, ls, leis, all, h, l) = absurd (late h _ (rw all at o.1).0)
+      by (q ∷ hs, ls, leis, all, h, l) = absurd (late h (plus count (good 2 vs)) (rw all at o.1).0)
   one_more (good (suc (suc (suc k))) vs) e none o p = absurd (omega (arith, parse-good (formed r) e))
   one_more (refused number) e none o p = absurd o.0
 
