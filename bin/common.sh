@@ -29,7 +29,7 @@ make_work() {
     trap - HUP INT TERM
 }
 
-# The crates of the repository that CRATE is built of, itself the last.
+# The crates of the repository that CRATE is built of, in the order in which rt builds them, itself the last.
 crates_of() { # CRATE
     CRATE=$1 awk '
         function visit(crate,    names, count, i) {
@@ -39,30 +39,42 @@ crates_of() { # CRATE
             for (i = 1; i <= count; i++) visit(names[i])
             print crate
         }
+        # A line is NAME: LIBRARY .. with words such as staticlib after the name.
         { sub(/#.*/, "") }
-        split($0, part, ":") == 2 { gsub(/[ \t]/, "", part[1]); needs[part[1]] = part[2] }
+        split($0, part, ":") == 2 { split(part[1], word, " "); needs[word[1]] = part[2] }
         END { visit(ENVIRON["CRATE"]) }' "$root/crates.txt"
 }
 
-# Copies what rt prints to LOG, and says of each crate that it proves how many of ALL are then proved. Crates that have not changed are counted
-# in silence.
-show_progress() { # ALL LOG
-    local line proved=0
+# Copies what rt prints to LOG, and says of each of the CRATES that it proves how many of them are then proved. Those that have not changed are
+# counted in silence.
+show_progress() { # LOG CRATE..
+    local log=$1 line crate='' begun=0 number
+    shift
     while IFS= read -r line; do
         printf '%s\n' "$line"
-        if [[ $line =~ ^rt:\ ([a-z0-9_]+)\ proved\ \((.*)\)$ ]]; then
-            proved=$((proved + 1))
-            [[ ${BASH_REMATCH[2]} == unchanged* ]] || say "$proved of $1 proved: ${BASH_REMATCH[1]} (${BASH_REMATCH[2]})"
+        if [[ $line =~ ^rt:\ chose\ --jobs\ [0-9]+\ for\ ([a-z0-9_]+)$ ]]; then
+            crate=${BASH_REMATCH[1]}
+            begun=$SECONDS
+        elif [[ $line == logic=proved* && -n $crate ]]; then
+            for ((number = 1; number < $#; number++)); do
+                [ "${!number}" != "$crate" ] || break
+            done
+            say "$number of $# proved: $crate ($((SECONDS - begun)) s)"
+            crate=''
         fi
-    done > "$2"
+    done > "$log"
 }
 
-# Proves CRATE and what it is built on, as far as it has changed; ends the command, with the end of the prover's log, where one is not proved.
-prove() { # CRATE
-    local all
+# Has rt prove CRATE and what it is built on, as far as it has changed, by its command VERB in the crate's folder: check, or run, which builds a
+# program and runs it on its example. What the program prints goes to the file `printed` of the temporary folder, and what rt says to `log`. Ends
+# the command, with the end of that, where one crate is not proved.
+prove() { # CRATE VERB
+    local crates example=$root/crates/$1/stdin printed=$work/printed
     command -v rt > /dev/null || fail "$1 has to be proved first, and the Rattle toolchain is not there: no command 'rt' on the PATH"
-    all=$(crates_of "$1" | wc -l)
-    if ! (cd "$root" && rt check "$1") < /dev/null 2>&1 | show_progress "$all" "$work/log"; then
+    mapfile -t crates < <(crates_of "$1")
+    [ -f "$example" ] || example=/dev/null
+    [ "$2" = run ] || printed=/dev/stdout
+    if ! (cd "$root/crates/$1" && rt "$2" 2>&1 > "$printed") < "$example" | show_progress "$work/log" "${crates[@]}"; then
         tail -n 20 "$work/log" >&2
         fail "$1 is not proved; above is the end of what the prover says"
     fi

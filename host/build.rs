@@ -1,7 +1,7 @@
 //! Links the archives that the proved crates are built into: the check with the reader, and booking.
 //!
-//! They are `target/staticlib/libhost.a` and `libbookhost.a` of this repository, unless the variable
-//! `MARGIN_ARCHIVE` has the paths of others, with colons between them.
+//! They are `crates/host/out/libhost.a` and `crates/bookhost/out/libbookhost.a` of this repository, unless
+//! the variable `MARGIN_ARCHIVE` has the paths of others, with colons between them.
 
 use std::path::{Path, PathBuf};
 use std::time::SystemTime;
@@ -57,12 +57,12 @@ fn link_one(archive: &Path) -> Result<(), String> {
     Ok(())
 }
 
-/// The archive of a crate in `target`, which must be there and not be older than what it is proved from.
+/// The archive in a crate's `out`, which must be there and not be older than what it is proved from.
 fn archive_of_the_repository(name: &str) -> Result<PathBuf, String> {
     let package = PathBuf::from(variable("CARGO_MANIFEST_DIR"));
     let root = package.parent().expect("a folder of the repository");
-    let archive = root.join(format!("target/staticlib/lib{name}.a"));
-    let command = format!("run `rt staticlib {name}` in the repository's root");
+    let archive = root.join(format!("crates/{name}/out/lib{name}.a"));
+    let command = format!("run `rt lib` in the repository's crates/{name}");
     println!("cargo::rerun-if-changed={}", archive.display());
     let Some(built) = changed(&archive) else {
         return Err(format!("{} is missing: {command}", archive.display()));
@@ -87,8 +87,7 @@ fn sources(root: &Path, name: &str) -> Result<Vec<PathBuf>, String> {
     let list = root.join("crates.txt");
     println!("cargo::rerun-if-changed={}", list.display());
     let text = fs::read_to_string(&list).map_err(|error| format!("{}: {error}", list.display()))?;
-    let named = format!("{name}:");
-    let Some(below) = text.lines().find_map(|line| line.strip_prefix(&named)) else {
+    let Some(below) = text.lines().find_map(|line| used_by(name, line)) else {
         return Err(format!("{} does not name the crate {name}", list.display()));
     };
     let mut sources = vec![list];
@@ -102,6 +101,12 @@ fn sources(root: &Path, name: &str) -> Result<Vec<PathBuf>, String> {
         }
     }
     Ok(sources)
+}
+
+/// The crates that a line of the list names for a crate: `NAME staticlib: LIBRARY ..`.
+fn used_by<'a>(name: &str, line: &'a str) -> Option<&'a str> {
+    let (crate_line, below) = line.split_once(':')?;
+    (crate_line.split_whitespace().next() == Some(name)).then_some(below)
 }
 
 /// When a file was last changed, if it is there.
