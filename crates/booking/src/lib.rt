@@ -1,5 +1,6 @@
 // An order judged on a book that is seen one holding at a time: by value, whatever list holds it.
 #![tactic(auto)]
+
 ghost use Rattle.std.specs.Prelude.{◌≡◌, true, false, ◌+◌, ◌-◌, ◌*◌, ◌≤◌, ◌<◌, get_or};
 ghost use Rattle.lists.specs.Choice.{same, first_of};
 ghost use Rattle.holding.specs.Holding.{Builds};

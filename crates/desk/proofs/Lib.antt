@@ -4,7 +4,3 @@ pub mod Apart
 pub mod Seen
 pub mod Judging
 pub mod Booked
-pub mod Rows
-pub mod Values
-pub mod Walks
-pub mod Shared

@@ -1,5 +1,6 @@
 // Booking into a lent list of holdings: an order is judged on the list as it stands, and what it changes is written in place.
 #![tactic(auto)]
+
 ghost use Rattle.std.specs.Prelude.{◌≡◌, length};
 ghost use Rattle.booking.specs.Seeing.{Countable, Fits, changed};
 ghost use Rattle.desk.specs.Desk.{order_of, traded_by, put_of, change_of, Views, ViewsAgain, Lies, Sees, Scans, Judgeable, Judges, Examines, Books};

@@ -32,7 +32,7 @@ pub returns-then-adds : goal.returns-then-adds
 unfolding trade_order
 returns-then-adds c =
     let rated =
-        described-rated c.args.t c.described-built.ensures c.in-Made.is c.period-period.ensures.0 (omega (arith, c.period-period.ensures)) c.rate_in-rate.ensures in
+    described-rated c.args.t c.described-built.ensures c.in-Made.is c.period-period.ensures.0 (omega (arith, c.period-period.ensures)) c.rate_in-rate.ensures in
     record {
       fits = λ _. c.adding.ensures.fits;
       settled = λ w rows traded.
@@ -44,7 +44,7 @@ pub returns-in-Made : goal.returns-in-Made
 unfolding trade_order
 returns-in-Made c =
     let rated =
-        described-rated c.args.t c.described-built.ensures c.in-Made.is c.period-period.ensures.0 (omega (arith, c.period-period.ensures)) c.rate_in-rate.ensures in
+    described-rated c.args.t c.described-built.ensures c.in-Made.is c.period-period.ensures.0 (omega (arith, c.period-period.ensures)) c.rate_in-rate.ensures in
     record {
       fits = c.taking.ensures.fits;
       settled = λ w rows traded.

@@ -1,14 +1,11 @@
 -- `change_of` is `change_of`. Assumes nothing.
-use mathlib.Core.Path.{◌≡◌, sym}
-use Prim.Native.Nat.{ℕ}
-use borrow.Author.Rules.{rules}
+use Rattle.std.proofs.Common.{◌≡◌, ℕ}
 use borrow.Author.Tests.{eq-eqb, ne_eqb}
 use Rattle.daybook.specs.declared.Finding.{TheVariants.Refused}
 use Rattle.booking.specs.Settling.{no_change}
 use Rattle.booking.specs.declared.Outcome.{Outcome}
 use Rattle.desk.specs.Desk.{change_of}
-use Rattle.desk.proofs.change_of.Statement.{statement}
-use Rattle.desk.proofs.change_of.Tie as tie
+use Rattle.desk.proofs.change_of.Goals as goal
 
 -- of a finding with a number and a place
 module _ (room : ℕ) (out : Outcome) {number place : ℕ} (found : out.reply.finding ≡ Refused number place) where
@@ -20,15 +17,12 @@ module _ (room : ℕ) (out : Outcome) {number place : ℕ} (found : out.reply.fi
   unfolding change_of
   none n = rw (found, ne_eqb number 0 n)
 
-returns : tie.Need-returns
+pub returns-in-Done : goal.returns-in-Done
 unfolding change_of
-returns c = rw c.enum_told.given.1
+returns-in-Done c = rw c.in-Done.is
 
-returns-2 : tie.Need-returns-2
-returns-2 c = some _ _ c.before.before.finding.given.1 c.if1.true
+pub returns-then-number-eq0 : goal.returns-then-number-eq0
+returns-then-number-eq0 c = some _ _ c.in-Refused.is c.if-number-eq0.true
 
-returns-3 : tie.Need-returns-3
-returns-3 c = none _ _ c.before.before.finding.given.1 c.if1.false
-
-pub change-of-spec : {M : Type 1} → statement M
-change-of-spec = tie.close (tie.spec (λ c. search rules) returns (λ c. search rules) returns-2 returns-3)
+pub returns-in-Refused : goal.returns-in-Refused
+returns-in-Refused c = none _ _ c.in-Refused.is c.if-number-eq0.false
