@@ -125,7 +125,7 @@ module _ (known : List (List ℕ)) (m : Known known) (r : List (List ℕ)) (read
       by ([], ls, leis, all, h, l) = ([], r ∷ ls, leis, ap (formed r ∷◌) all, h, line_and (record_of r 2 vs e).0 l)
       by (q ∷ hs, ls, leis, all, h, l) = absurd (late h (plus count (good 2 vs)) (rw all at o.1).0)
   one_more (good (suc (suc (suc k))) vs) e none o p = absurd (omega (arith, parse-good (formed r) e))
-  one_more (refused number) e none o p = absurd o.0
+  one_more (refused _) e none o p = absurd o.0
 
 -- records that come in order after one are good H, then good P
 parted : (reads : List Read) (known : List (List ℕ)) → Known known → (last : Meaning) (count : ℕ → ℕ) → NoHead last → InOrder last count (map parse reads)
@@ -143,7 +143,7 @@ first : (texts : List (List ℕ)) (reads : List Read) (count : ℕ → ℕ) (m :
 unfolding values_by holdings_of submission_of head_numbers list_to
 first texts reads count (good zero vs) e o (hs, ls, leis, all, h, l) = (texts, hs, ls, leis, ap (formed texts ∷◌) all, (record_of texts 0 vs e).0, h, l)
 first texts reads count (good (suc k) vs) e o p = absurd (omega (arith, eqb-true (suc k) 0 o.0.0))
-first texts reads count (refused number) e o p = absurd o.0
+first texts reads count (refused _) e o p = absurd o.0
 
 -- and all the records, if there is one, are a good D and these
 pub headed : (reads : List Read) (count : ℕ → ℕ) → (reads ≡ [] → ⊥) → InOrder (refused 0) count (map parse reads) → Headed reads (submission_of (map parse reads))
