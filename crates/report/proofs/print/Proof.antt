@@ -4,8 +4,8 @@ use Rattle.report.proofs.Prints.{put-prints, refused_prints}
 use Rattle.report.proofs.print.Statement.{statement}
 use Rattle.report.proofs.print.Tie as tie
 
-pub print-spec : {M : Type 1} → statement M
-print-spec =
+pub print_spec : {M : Type 1} → statement M
+print_spec =
     tie.close
     (tie.spec
     (λ c. refused_prints _ _ (search rules))

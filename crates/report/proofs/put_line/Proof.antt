@@ -10,21 +10,21 @@ use Rattle.report.proofs.Lines.{line-written}
 use Rattle.report.proofs.put_line.Statement.{statement}
 use Rattle.report.proofs.put_line.Tie as tie
 
-abbrev invariant-loop : tie.invariant-loop
+abbrev invariant-loop : tie.invariant-loop-i
 invariant-loop letter count at out₀ numbers next₀ i₀ out next i =
     (i ≤ count) × (length out ≡ length out₀) × (next ≤ next₀ + 21 * i) × Written (flat_map after_comma (take i numbers)) next₀ next out₀ out
 
-abbrev decreases-loop : tie.decreases-loop
+abbrev decreases-loop : tie.decreases-loop-i
 decreases-loop letter count at out₀ numbers next₀ i₀ out next i = count - i
 
-loop-again : tie.Need-loop-preserved invariant-loop decreases-loop
+loop-again : tie.Need-loop-i-preserved invariant-loop decreases-loop
 loop-again c =
     let put = c.before.before in
     let at = put.before.before.before in (
       search rules,
       search rules,
       search rules,
-      written-more after_comma _ at.loop.i (search rules) (search rules) at.loop.invariant.3 put.put-number.ensures.0,
+      written-more after_comma _ at.loop-i.i (search rules) (search rules) at.loop-i.invariant.3 put.put_number-next.ensures.0,
     )
 
 returns : tie.Need-returns invariant-loop decreases-loop
@@ -34,12 +34,12 @@ returns c =
     let at = back.before.before.before in
     let begun = at.before.before.before in
     let count = begun.before.before.before.args.count in
-    let all : at.loop.i ≡ count = search rules in
-    (line-written _ (search rules) (search rules) (search rules) begun.put_byte.ensures (rw all at at.loop.invariant.3) back.put-byte2.ensures feed.put-byte3.ensures, search rules)
+    let all : at.loop-i.i ≡ count = search rules in
+    (line-written _ (search rules) (search rules) (search rules) begun.put_byte-next.ensures (rw all at at.loop-i.invariant.3) back.put_byte-last.ensures feed.put_byte.ensures, search rules)
 
-pub put-line-spec : {M : Type 1} → statement M
+pub put_line_spec : {M : Type 1} → statement M
 unfolding flat_map
-put-line-spec =
+put_line_spec =
     tie.close
     (tie.spec
     invariant-loop

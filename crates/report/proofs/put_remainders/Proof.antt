@@ -13,18 +13,18 @@ use Rattle.report.proofs.Lines.{remainder-written, whole}
 use Rattle.report.proofs.put_remainders.Statement.{statement}
 use Rattle.report.proofs.put_remainders.Tie as tie
 
-abbrev invariant-loop : tie.invariant-loop
+abbrev invariant-loop : tie.invariant-loop-i
 invariant-loop count left margins ranks at out₀ next₀ i₀ out next i =
     (i ≤ 256) × (i ≤ count) × (length out ≡ length out₀) × (next ≤ next₀ + 66 * i)
     × Written (flat_map (judged_line left margins) (take i (list_to 256 (λ k. get_or ranks k 0)))) next₀ next out₀ out
 
-abbrev decreases-loop : tie.decreases-loop
+abbrev decreases-loop : tie.decreases-loop-i
 decreases-loop count left margins ranks at out₀ next₀ i₀ out next i = 256 - i
 
-abbrev start : tie.At-loop invariant-loop decreases-loop → tie.Start invariant-loop decreases-loop
+abbrev start : tie.At-loop-i invariant-loop decreases-loop → tie.Start invariant-loop decreases-loop
 start c = c.before.before.before.before.before
 
-loop-again : tie.Need-loop-preserved invariant-loop decreases-loop
+loop-again : tie.Need-loop-i-preserved invariant-loop decreases-loop
 loop-again c =
     let put = c.before.before in
     let units = put.before.before in
@@ -38,28 +38,28 @@ loop-again c =
       search rules,
       search rules,
       search rules,
-      written-more _ (list_to 256 ranking) at.loop.i (search rules) (search rules) at.loop.invariant.4
-          (remainder-written args.left.now args.margins.now args.ranks.now _ (search rules) number.entry.ensures cents.entry2.ensures units.entry3.ensures put.put-line.ensures.0),
+      written-more _ (list_to 256 ranking) at.loop-i.i (search rules) (search rules) at.loop-i.invariant.4
+          (remainder-written args.left.now args.margins.now args.ranks.now _ (search rules) number.entry-k.ensures cents.entry-cents.ensures units.entry-units.ensures put.put_line-next.ensures.0),
     )
 
 -- all 256 of the ranking are all that it has
-returns-2 : tie.Need-returns-2 invariant-loop decreases-loop
+returns-2 : tie.Need-returns invariant-loop decreases-loop
 returns-2 c =
     let at = c.before in
-    let end : at.loop.i ≡ 256 = search rules in
+    let end : at.loop-i.i ≡ 256 = search rules in
     let all = whole (λ k. get_or (start at).args.ranks.now k 0) (start at).args.count (omega arith) in
-    rw (end, all) at at.loop.invariant.4
+    rw (end, all) at at.loop-i.invariant.4
 
-pub put-remainders-spec : {M : Type 1} → statement M
+pub put_remainders_spec : {M : Type 1} → statement M
 unfolding flat_map
-put-remainders-spec =
+put_remainders_spec =
     tie.close
     (tie.spec
     invariant-loop
     decreases-loop
     (λ c. (search rules, search rules, search rules, search rules, written_none _ _))
     (λ c. search rules)
-    (λ c. rw c.if1.true at c.before.before.loop.invariant.4)
+    (λ c. rw c.if-i-count.true at c.before.before.loop-i.invariant.4)
     (λ c κs. search rules)
     (λ c κs. search rules)
     (λ c κs. search rules)

@@ -11,16 +11,16 @@ unfolding refusal_line answer_numbers
 returns c =
     let printed = c.before.before in
     let written = printed.before.before.before.before in
-    buffer_prints (search rules) written.put-line.ensures.0 printed.print.ensures
+    buffer_prints (search rules) written.put_line-n.ensures.0 printed.print.ensures
 
-pub refusal-spec : {M : Type 1} → statement M
-refusal-spec =
+pub refusal_spec : {M : Type 1} → statement M
+refusal_spec =
     tie.close
     (tie.spec
     (λ c. search rules)
     (λ c κs. search rules)
     (λ c. search rules)
-    (λ c. written-counted c.before.before.put-line.ensures.0)
+    (λ c. written-counted c.before.before.put_line-n.ensures.0)
     (λ c κs. search rules)
     (λ c. search rules)
     returns)

@@ -9,16 +9,16 @@ returns : tie.Need-returns
 returns c =
     let printed = c.before.before in
     let written = printed.before.before.before.before in
-    buffer_prints (search rules) written.put-report.ensures printed.print.ensures
+    buffer_prints (search rules) written.put_report-n.ensures printed.print.ensures
 
-pub report-spec : {M : Type 1} → statement M
-report-spec =
+pub report_spec : {M : Type 1} → statement M
+report_spec =
     tie.close
     (tie.spec
     (λ c. search rules)
     (λ c κs. search rules)
-    (λ c. written-few c.before.put-report.ensures)
-    (λ c. written-counted c.before.before.put-report.ensures)
+    (λ c. written-few c.before.put_report-n.ensures)
+    (λ c. written-counted c.before.before.put_report-n.ensures)
     (λ c κs. search rules)
     (λ c. search rules)
     returns)
