@@ -189,6 +189,7 @@ fn foreign_rule(long: Leg, short: Leg) -> Rule
 }
 
 // Whether both legs are approved participants'.
+#[tactic(auto, unfolding(crate::specs::Pair::are_participants, crate::specs::Pair::is_participant))]
 fn are_participants(long: Leg, short: Leg) -> bool
     ensures { result ≡ are_participants long short }
 {

@@ -16,4 +16,4 @@ pub returns-then-long-short : goal.returns-then-long-short
 returns-then-long-short c = two_currencies_rows _ _ c.if-long-short.true
 
 pub returns-then-long-le10 : goal.returns-then-long-le10
-returns-then-long-le10 c = c.domestic_rule.ensures ∙ domestic _ _ c.if-long-short.false c.if-long-eq0.true c.if-long-le10.true
+returns-then-long-le10 c = c.domestic_rule.ensures ∙ domestic _ _ c.if-long-short.false (omega arith) c.if-long-le10.true
