@@ -1,5 +1,6 @@
 // The lines of a proposal in turn, each against what is unpaired of its two holdings.
 #![tactic(auto)]
+
 ghost use Rattle.std.specs.Prelude.{◌≡◌, [], ◌∷◌};
 ghost use Rattle.columns.specs.Columns.{lines_in};
 ghost use Rattle.tally.specs.Lines.{Ready, applied_of, LinesLent, stopped_at, Takes};
@@ -34,6 +35,7 @@ pub struct Walked {
 
 impl Tally {
     // One pair line of an amount on its two legs.
+    #[tactic(auto, using(lists::proofs::Tests::tests), unfolding(crate::specs::Lines::applied_of, crate::specs::Lines::refusals, proposal::specs::Outcome::pair_faults, lists::specs::Choice::first_of, article::specs::Pair::is_long, article::specs::Pair::is_short))]
     pub fn apply(self, amount: u64, long: Leg, short: Leg) -> Applied
         requires { Ready self long short }
         ensures { result ≡ applied_of self amount long short }
