@@ -1,5 +1,5 @@
 -- Columns that are checked are printed as their outcome, and those of tables that a file was read into hold what it submits. Assumes nothing.
-use mathlib.Core.Path.{◌≡◌, refl, sym, ◌∙◌}
+use mathlib.Core.Path.{◌≡◌, refl, sym, subst, ◌∙◌}
 use mathlib.Core.Bool.{true, false}
 use mathlib.Core.List.{List, [], ◌∷◌, map}
 use Prim.Native.Nat.{ℕ, ◌*◌, ◌/◌, ◌≤◌}
@@ -8,7 +8,7 @@ use lib.Dec.{ltb}
 use lib.ListN.{length, replicate}
 use borrow.Author.Tests.{ltb-true}
 use Rattle.lists.specs.Choice.{every}
-use Rattle.lists.specs.Tables.{list_to}
+use Rattle.lists.specs.Tables.{Each, list_to}
 use Rattle.lists.proofs.Entries.{each-by, each_map}
 use Rattle.lists.proofs.Tables.{to_eq}
 use Rattle.holding.specs.declared.Head.{Head}
@@ -41,7 +41,7 @@ equal n count table few whole j js within =
     let long : ℕ → ℕ = λ k. length (column_in 512 n table k) in
     let full = each-by (λ k. long k ≡ 8 * n) (λ k. ltb k count) (λ k e. column-long 512 n k table (omega (arith, ltb-true k count e))) (j ∷ js) within in
     let entries : long j / 8 ≡ n = omega (arith, full.0) in
-    rw entries (each_map (λ size. size ≡ 8 * n) long (j ∷ js) full)
+    subst (λ (q : ℕ). Each (λ size. size ≡ 8 * q) (map long (j ∷ js))) (sym entries) (each_map (λ size. size ≡ 8 * n) long (j ∷ js) full)
 
 -- where numbers were entered, the columns of a table are what columns that held nothing are filled to
 bare-columns : {count n : ℕ} {numbers : List (List ℕ)} {old now : List ℕ} → Entered count 512 numbers old now → length numbers ≡ n
