@@ -1,5 +1,6 @@
 // A book as the host lends it: one list of bytes, 56 for each record, changed in place.
 #![tactic(auto)]
+
 ghost use Rattle.std.specs.Prelude.{◌≡◌, true, ◌+◌, ◌*◌, ◌≤◌, ◌<◌, length, take, set};
 ghost use Rattle.booking.specs.Seeing.{Seen, moved_up, changed, Fits, Concluded};
 ghost use Rattle.dates.specs.Calendar.{is_date};
