@@ -1,5 +1,6 @@
 // Texts that are named in a table, by their places there.
 #![tactic(auto)]
+
 ghost use Rattle.std.specs.Prelude.{◌≡◌, ◌*◌, ◌≤◌, length};
 ghost use Rattle.lists.specs.Choice.{same};
 ghost use Rattle.codes.specs.Codes.{place_of, cells};

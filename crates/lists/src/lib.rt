@@ -1,5 +1,6 @@
 // Lists and tests, in specs/ and proofs/: they know nothing of margin. One list is made here, and one written into another.
 #![tactic(auto)]
+
 ghost use Rattle.std.specs.Prelude.{◌≡◌, ◌≤◌, length, replicate};
 ghost use Rattle.lists.specs.Tables.{front};
 

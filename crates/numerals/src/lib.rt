@@ -1,5 +1,6 @@
 // Decimal numerals in bytes, read and written.
 #![tactic(auto)]
+
 ghost use Rattle.std.specs.Prelude.{◌≡◌, ◌+◌, ◌≤◌, ◌<◌, length};
 ghost use Rattle.numerals.specs.Numerals.{digits, numeral_of, Put};
 

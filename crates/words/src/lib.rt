@@ -1,5 +1,6 @@
 // Eight-byte little-endian numbers in byte slices.
 #![tactic(auto)]
+
 ghost use Rattle.std.specs.Prelude.{◌≡◌, ◌+◌, ◌*◌, ◌/◌, ◌%◌, ◌≤◌, ◌<◌, ◌^◌, length, take, set};
 ghost use Rattle.lists.specs.Tables.{front};
 ghost use Rattle.words.specs.Words.{encode, word_at, with_word};
