@@ -1,5 +1,6 @@
 // Whether the prices cover the book, and what they add up to.
 #![tactic(auto)]
+
 ghost use Rattle.std.specs.Prelude.{◌≡◌, false, ◌-◌, ◌*◌, ◌≤◌, ◌<◌, length};
 ghost use Rattle.article.specs.Pair.{RateInRange};
 ghost use Rattle.marks.specs.Marks.{scan_limit};

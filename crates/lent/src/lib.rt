@@ -1,5 +1,6 @@
 // The check on what the host lends: columns of bytes in, lists of bytes written.
 #![tactic(auto)]
+
 ghost use Rattle.std.specs.Prelude.{[], ◌∷◌};
 ghost use Rattle.article.specs.Answer.{make_answer};
 ghost use Rattle.words.specs.Words.{entries};

@@ -1,5 +1,6 @@
 // What the program `margin` prints of a file: read, checked and reported.
 #![tactic(auto)]
+
 ghost use Rattle.std.specs.Prelude.{[], ◌∷◌};
 ghost use Rattle.columns.specs.Columns.{make_columns};
 ghost use Rattle.printing.specs.Printed.{TablesHold, columns_of, PrintsColumns, PrintsFile};

@@ -1,5 +1,6 @@
 // The reader on what the host lends: a text in, columns of bytes filled, or the LEIs of its corporations written.
 #![tactic(auto)]
+
 ghost use Rattle.std.specs.Prelude.{◌≡◌, [], ◌∷◌, ◌*◌, ◌≤◌, length};
 ghost use Rattle.lists.specs.Tables.{front};
 ghost use Rattle.lei.specs.Numbering.{table};

@@ -1,5 +1,6 @@
 // The check: columns in, the answer out. Nothing is presumed of the columns; what it works on are lists that are lent to it.
 #![tactic(auto)]
+
 ghost use Rattle.std.specs.Prelude.{◌≡◌, [], ◌∷◌};
 ghost use Rattle.words.specs.Words.{entries};
 ghost use Rattle.columns.specs.Columns.{make_columns};
