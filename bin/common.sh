@@ -45,17 +45,20 @@ crates_of() { # CRATE
         END { visit(ENVIRON["CRATE"]) }' "$root/crates.txt"
 }
 
-# Copies what rt prints to LOG, and says of each of the CRATES that it proves how many of them are then proved. Those that have not changed are
-# counted in silence.
-show_progress() { # LOG CRATE..
-    local log=$1 line crate='' begun=0 number
-    shift
+# Copies what rt's command VERB prints to LOG, and says of each of the CRATES that it proves how many of them are then proved. Those that have not
+# changed are counted in silence, and under check also those of which nothing was left to prove.
+show_progress() { # VERB LOG CRATE..
+    local verb=$1 log=$2 line crate='' begun=0 number anew=''
+    shift 2
     while IFS= read -r line; do
         printf '%s\n' "$line"
         if [[ $line =~ ^rt:\ chose\ --jobs\ [0-9]+\ for\ ([a-z0-9_]+)$ ]]; then
             crate=${BASH_REMATCH[1]}
             begun=$SECONDS
-        elif [[ $line == logic=proved* && -n $crate ]]; then
+            anew=${verb#check}
+        elif [[ $line =~ ^crate\ .*\ checked=[1-9] ]]; then
+            anew=yes
+        elif [[ $line == logic=proved* && -n $crate && -n $anew ]]; then
             for ((number = 1; number < $#; number++)); do
                 [ "${!number}" != "$crate" ] || break
             done
@@ -74,7 +77,7 @@ prove() { # CRATE VERB
     mapfile -t crates < <(crates_of "$1")
     [ -f "$example" ] || example=/dev/null
     [ "$2" = run ] || printed=/dev/stdout
-    if ! (cd "$root/crates/$1" && rt "$2" 2>&1 > "$printed") < "$example" | show_progress "$work/log" "${crates[@]}"; then
+    if ! (cd "$root/crates/$1" && rt "$2" 2>&1 > "$printed") < "$example" | show_progress "$2" "$work/log" "${crates[@]}"; then
         tail -n 20 "$work/log" >&2
         fail "$1 is not proved; above is the end of what the prover says"
     fi
