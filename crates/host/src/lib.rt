@@ -1,5 +1,6 @@
 // The reader and the check for the desk's Rust host: columns and lent lists as byte slices.
 #![tactic(auto)]
+
 ghost use Rattle.std.specs.Prelude.{[], ◌∷◌};
 ghost use Rattle.holding.specs.Holding.{head_by};
 ghost use Rattle.columns.specs.Columns.{make_columns};
