@@ -1,12 +1,12 @@
 -- A change of a list: an entry put, entries moved up, or none. Assumes nothing.
 use mathlib.Core.Path.{◌≡◌, refl, sym, ap, ◌∙◌}
 use mathlib.Core.List.{List, [], ◌∷◌, ◌++◌, append_assoc}
-use Prim.Native.Nat.{ℕ, zero, suc, ◌+◌, ◌-◌, ◌≤◌, ◌<◌}
+use Prim.Native.Nat.{ℕ, zero, suc, ◌+◌, ◌-◌, ◌≤◌}
 use native.Mathlib.Omega.{arith}
 use lib.ListN.{length, take, drop, set, length-append, length-drop}
 use lib.Seq.{set_out, length-take-le, take-take, drop-drop}
 use Rattle.lists.specs.Tables.{front, overwrite}
-use Rattle.lists.proofs.Overwrite.{overwrite-none, length-overwrite}
+use Rattle.lists.proofs.Overwrite.{overwrite-none}
 use Rattle.booking.specs.Seeing.{moved_up, changed}
 use Rattle.booking.specs.Settling.{no_change}
 

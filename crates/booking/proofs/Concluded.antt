@@ -1,14 +1,14 @@
 -- The outcome of an order, stage by stage: before the holdings, of them, of the totals, of the order. Assumes nothing.
 use mathlib.Core.Path.{◌≡◌, refl, sym, ap, subst, ◌∙◌}
 use mathlib.Core.Logic.{◌⊎◌, inl, inr, ⊎_elim}
-use mathlib.Core.Bool.{Bool, true, false, not, cond}
-use mathlib.Core.List.{List, [], ◌∷◌, ◌++◌}
-use Prim.Native.Nat.{ℕ, ◌≤◌}
+use mathlib.Core.Bool.{Bool, true, false, cond}
+use mathlib.Core.List.{List}
+use Prim.Native.Nat.{ℕ}
 use native.Mathlib.Omega.{arith}
 use lib.Dec.{eqb}
 use lib.ListN.{length, take}
-use lib.Seq.{length-take-le, take-take}
-use borrow.Author.Tests.{eq-eqb, ne_eqb}
+use lib.Seq.{length-take-le}
+use borrow.Author.Tests.{ne_eqb}
 use Rattle.lists.specs.Choice.{same, first_of}
 use Rattle.lists.specs.Tables.{front}
 use Rattle.lists.proofs.Firsts.{Listed, first-append, first_of-none}
@@ -19,15 +19,15 @@ use Rattle.holding.specs.Holding.{head_faults}
 use Rattle.holding.specs.declared.{Account.Account, Row.Row}
 use Rattle.holding.proofs.Heads.{head-listed}
 use Rattle.article.specs.Answer.{Answer, make_answer}
-use Rattle.proposal.specs.Outcome.{at_place, first_fault}
+use Rattle.proposal.specs.Outcome.{at_place}
 use Rattle.proposal.proofs.{Places.first-at, Places.zero_at, Stages.refuses, Stages.passes, Clear.number}
-use Rattle.daybook.specs.Book.{valued, totals_of, head_of, account_at, Book, make_book, holdings_in}
-use Rattle.daybook.specs.Orders.{answer_of, lent_faults, rows_faults, totals_faults, order_faults, from_totals, from_rows, faults}
+use Rattle.daybook.specs.Book.{totals_of, head_of, account_at, Book, make_book, holdings_in}
+use Rattle.daybook.specs.Orders.{lent_faults, rows_faults, totals_faults, from_totals, from_rows, faults}
 use Rattle.daybook.specs.Orders.{holdings_after, day_after, book_after, accepted_answer, outcome, accepted, booked}
-use Rattle.daybook.specs.declared.{Day.Day, Reply.Reply}
+use Rattle.daybook.specs.declared.{Day.Day}
 use Rattle.daybook.specs.declared.Order.{Order, TheVariants.Add, TheVariants.Take, TheVariants.MoveTo}
-use Rattle.booking.specs.Seeing.{trade_of, on_date, Counted, Seen, Known, Examined, Concluded, changed}
-use Rattle.booking.specs.Settling.{no_change, refusal_of, settlement, Settles, Held, Traded, Tradable}
+use Rattle.booking.specs.Seeing.{trade_of, on_date, Counted, Seen, Known, Examined, Concluded}
+use Rattle.booking.specs.Settling.{refusal_of, settlement, Settles, Held, Traded, Tradable}
 use Rattle.booking.specs.declared.{Opening.Opening, Scan.Scan, Outcome.Outcome}
 use Rattle.booking.proofs.Changed.{unchanged}
 use Rattle.booking.proofs.Seen.{rows-numbered}

@@ -1,21 +1,21 @@
 -- A trade by the place that was counted of it: what stands there, and the totals once it is changed. Assumes nothing.
-use mathlib.Core.Path.{◌≡◌, refl, sym, ap, ◌∙◌}
-use mathlib.Core.Bool.{Bool, true, false, cond, false≢true}
+use mathlib.Core.Path.{◌≡◌, refl, sym, ◌∙◌}
+use mathlib.Core.Bool.{Bool, true, false, false≢true}
 use mathlib.Core.List.{List, [], ◌∷◌, ◌++◌}
-use Prim.Native.Nat.{ℕ, zero, suc, ◌+◌, ◌-◌, ◌*◌, ◌≤◌, ◌<◌}
+use Prim.Native.Nat.{ℕ, zero, suc, ◌+◌, ◌*◌, ◌≤◌, ◌<◌}
 use native.Mathlib.Omega.{arith}
-use lib.ListN.{length, get_or, take, drop, set, length-set}
-use Rattle.lists.specs.Tables.{list_to, sum_of, only}
+use lib.ListN.{length, get_or, take, drop, set}
+use Rattle.lists.specs.Tables.{sum_of, only}
 use Rattle.lists.proofs.Sums.{only_same, only-other}
 use Rattle.lists.proofs.Tables.{get_or-to}
 use Rattle.holding.specs.Holding.{holding_of}
-use Rattle.holding.specs.declared.{Account.Account, Row.Row, Holding.Holding}
+use Rattle.holding.specs.declared.{Account.Account, Row.Row}
 use Rattle.rates.specs.Rate.{period_of, rate_of}
 use Rattle.proposal.specs.Submission.{no_row}
-use Rattle.daybook.specs.Book.{alike, valued, place_in, held_in, added, taken, margin_of, total_of, totals_of}
+use Rattle.daybook.specs.Book.{alike, valued, place_in, margin_of, total_of, totals_of}
 use Rattle.daybook.specs.Bookings.{Equal}
 use Rattle.daybook.proofs.Descriptions.{one-description}
-use Rattle.daybook.proofs.Trades.{First, Nowhere, held_first}
+use Rattle.daybook.proofs.Trades.{First, Nowhere}
 use Rattle.booking.proofs.Rows.{set-total}
 
 module _ (t : Row) where

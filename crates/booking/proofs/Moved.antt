@@ -2,16 +2,16 @@
 use mathlib.Core.Path.{◌≡◌, refl, sym, ap, ◌∙◌}
 use mathlib.Core.Bool.{Bool, true, false}
 use mathlib.Core.Logic.{inl}
-use mathlib.Core.List.{List, [], ◌∷◌, ◌++◌}
+use mathlib.Core.List.{List, [], ◌∷◌}
 use Prim.Native.Nat.{ℕ, zero, suc, ◌+◌, ◌≤◌, ◌<◌}
 use native.Mathlib.Omega.{arith}
-use lib.Dec.{leb, eqb}
-use lib.ListN.{length, get_or, take}
+use lib.Dec.{leb}
+use lib.ListN.{length, get_or}
 use borrow.Author.Tests.{leb-true, leb-false, lt-leb, le-leb}
 use Rattle.lists.specs.Choice.{first_of}
 use Rattle.lists.specs.Tables.{Each, turns, in_turn, front}
 use Rattle.lists.proofs.Entries.{each_at}
-use Rattle.lists.proofs.Firsts.{None, first-append, first_of-none, first-refused, none_first}
+use Rattle.lists.proofs.Firsts.{first-append, first_of-none, first-refused, none_first}
 use Rattle.lists.proofs.Tests.{either_way}
 use Rattle.dates.specs.Calendar.{is_date}
 use Rattle.dates.proofs.Anniversaries.{anniversary-follows}
@@ -19,14 +19,14 @@ use Rattle.holding.specs.Holding.{fault_of, row_faults, Ranges, account_of}
 use Rattle.holding.specs.declared.{Account.Account, Row.Row}
 use Rattle.holding.proofs.Ranges.{fault-none, none_fault, row_listed, row-refused}
 use Rattle.article.specs.Answer.{Answer, make_answer}
-use Rattle.proposal.specs.{Submission.no_row, Outcome.at_place, Outcome.first_fault}
+use Rattle.proposal.specs.{Submission.no_row, Outcome.at_place}
 use Rattle.proposal.proofs.{Places.first-at, Places.zero_at, Clear.number}
-use Rattle.daybook.specs.Book.{totals_of, head_of, account_at}
+use Rattle.daybook.specs.Book.{head_of, account_at}
 use Rattle.daybook.specs.Orders.{at_row, rows_faults, date_faults, at_matured, matured_faults, order_faults, holdings_after, date_after, stored, day_after, accepted_answer}
 use Rattle.daybook.specs.declared.Day.{Day}
 use Rattle.daybook.specs.declared.Order.{TheVariants.MoveTo}
 use Rattle.daybook.proofs.Written.{front_same}
-use Rattle.booking.specs.Seeing.{trade_of, on_date, Seen}
+use Rattle.booking.specs.Seeing.{on_date, Seen}
 use Rattle.booking.specs.Settling.{no_change, refusal_of, acceptance_of, settlement, Settles, Held}
 use Rattle.booking.specs.declared.{Scan.Scan, Outcome.Outcome}
 use Rattle.booking.proofs.Changed.{unchanged}

@@ -1,14 +1,13 @@
 -- A book before its holdings, and what of it is seen once more. Assumes nothing.
-use mathlib.Core.Path.{◌≡◌, refl, sym, ap, ◌∙◌}
-use mathlib.Core.Bool.{Bool, true, false, ◌||◌}
+use mathlib.Core.Path.{◌≡◌, sym, ap, ◌∙◌}
+use mathlib.Core.Bool.{Bool, true, false}
 use Prim.Native.Nat.{ℕ, ◌≤◌, ◌<◌}
 use native.Mathlib.Omega.{arith}
-use lib.Dec.{ltb}
 use borrow.Author.Tests.{lt-ltb, le-ltb}
 use Rattle.lists.specs.Choice.{first_of}
 use Rattle.dates.specs.Calendar.{is_date}
 use Rattle.dates.proofs.Tested.{date-high}
-use Rattle.holding.specs.Holding.{head_faults, head_fault, headed_of, account_of}
+use Rattle.holding.specs.Holding.{head_fault, headed_of, account_of}
 use Rattle.holding.specs.declared.{Account.Account, Row.Row}
 use Rattle.holding.specs.declared.Headed.{TheVariants.For, TheVariants.NoAccount}
 use Rattle.holding.proofs.Heads.{head-valued, account-head, head-account, no_account}

@@ -1,6 +1,6 @@
 -- One holding more at the end of a book: its faults, the first one equal to a trade, and the totals. Assumes nothing.
 use mathlib.Core.Path.{◌≡◌, refl, sym, ap, ◌∙◌}
-use mathlib.Core.Bool.{Bool, true, false, cond}
+use mathlib.Core.Bool.{Bool, true, false}
 use mathlib.Core.List.{List, [], ◌∷◌, ◌++◌, append-nil, append_assoc}
 use Prim.Native.Nat.{ℕ, zero, suc, ◌+◌, ◌*◌, ◌≤◌, ◌<◌}
 use native.Mathlib.Nat.{mul-le-mul}
@@ -8,7 +8,6 @@ use native.Mathlib.Omega.{arith}
 use lib.Dec.{eqb}
 use lib.ListN.{length, get_or, set, length-append, length-set, get_or-append, get_or-eq_default}
 use lib.Seq.{get_or_at, get_or-set_same, get_or-set_other, ext_get_or}
-use Rattle.lists.specs.Choice.{first_of}
 use Rattle.lists.specs.Tables.{Each, list_to, turns, in_turn, sum_of, only}
 use Rattle.lists.proofs.Tests.{by-test, by_end, same_or_not}
 use Rattle.lists.proofs.Tables.{length_to, get_or-to}

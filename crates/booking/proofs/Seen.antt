@@ -1,23 +1,23 @@
 -- A book seen one holding more. Assumes nothing.
 use mathlib.Core.Path.{◌≡◌, refl, sym, ap, ◌∙◌}
-use mathlib.Core.Bool.{Bool, true, false}
+use mathlib.Core.Bool.{true, false}
 use mathlib.Core.List.{List, [], ◌∷◌, ◌++◌}
-use Prim.Native.Nat.{ℕ, suc, ◌+◌, ◌*◌, ◌≤◌, ◌<◌}
+use Prim.Native.Nat.{ℕ, suc, ◌+◌, ◌≤◌, ◌<◌}
 use native.Mathlib.Omega.{arith}
 use lib.ListN.{length, get_or, set}
 use Rattle.lists.specs.Choice.{first_of}
 use Rattle.lists.specs.Tables.{Each, turns, in_turn, list_to, sum_of}
 use Rattle.lists.proofs.Entries.{at_each}
-use Rattle.lists.proofs.Firsts.{None, Numbered, first-append, first_of-none, first_found, none_first, none-in_turn, in_turn-none, numbered-in_turn}
+use Rattle.lists.proofs.Firsts.{Numbered, first-append, first_of-none, first_found, none_first, in_turn-none, numbered-in_turn}
 use Rattle.lists.proofs.Tests.{same_or_not}
 use Rattle.dates.specs.Calendar.{is_date}
-use Rattle.holding.specs.Holding.{row_faults, fault_of, holding_of}
+use Rattle.holding.specs.Holding.{row_faults, fault_of}
 use Rattle.holding.specs.declared.{Account.Account, Row.Row}
-use Rattle.holding.proofs.Ranges.{row_listed, none-of-row}
-use Rattle.rates.specs.Rate.{period_of, rate_of}
+use Rattle.holding.proofs.Ranges.{row_listed}
+use Rattle.rates.specs.Rate.{period_of}
 use Rattle.article.specs.Answer.{Answer, make_answer}
-use Rattle.proposal.specs.{Submission.no_row, Submission.margin_limit, Outcome.at_place, Outcome.first_fault}
-use Rattle.proposal.proofs.{Places.none-at, Places.at_none, Places.listed_at, Places.zero_at, Places.first-at, Clear.number}
+use Rattle.proposal.specs.{Submission.no_row, Outcome.at_place, Outcome.first_fault}
+use Rattle.proposal.proofs.{Places.at_none, Places.listed_at, Places.zero_at, Places.first-at, Clear.number}
 use Rattle.daybook.specs.Book.{alike, place_in, held_in, margin_of, total_of, totals_of}
 use Rattle.daybook.specs.Orders.{at_row, rows_faults}
 use Rattle.booking.specs.Seeing.{Counted, Seen, Countable}

@@ -1,35 +1,35 @@
 -- An order settled: refused with all as it was, or accepted. Assumes nothing.
-use mathlib.Core.Path.{◌≡◌, refl, sym, ap, ◌∙◌}
-use mathlib.Core.Bool.{Bool, true, false, cond, ◌||◌, or-true}
+use mathlib.Core.Path.{◌≡◌, sym, ap, ◌∙◌}
+use mathlib.Core.Bool.{Bool, true, false, ◌||◌, or-true}
 use mathlib.Core.List.{List, [], ◌∷◌, ◌++◌, append_assoc}
 use Prim.Native.Nat.{ℕ, suc, ◌+◌, ◌-◌, ◌*◌, ◌≤◌, ◌<◌}
 use native.Mathlib.Omega.{arith}
-use lib.Dec.{eqb, leb, ltb}
+use lib.Dec.{eqb, ltb}
 use lib.ListN.{length, get_or, take, drop, set, length-set, length-append, length-drop}
 use lib.Seq.{length-take-le}
 use borrow.Author.Tests.{eq-eqb, ne_eqb, lt-ltb, le-ltb}
 use Rattle.lists.specs.Choice.{first_of}
 use Rattle.lists.specs.Tables.{front}
-use Rattle.lists.proofs.Firsts.{None, Listed, first_of-none, first-passed, none_first, none-append, numbered-append}
+use Rattle.lists.proofs.Firsts.{None, first_of-none, first-passed, none_first, none-append, numbered-append}
 use Rattle.lists.proofs.Tests.{same_or_not}
 use Rattle.holding.specs.declared.{Account.Account, Row.Row}
 use Rattle.article.specs.Answer.{Answer, make_answer}
 use Rattle.proposal.specs.{Submission.no_row, Outcome.at_place}
 use Rattle.proposal.proofs.Places.{none-at, first-at, zero_at}
 use Rattle.daybook.specs.Book.{valued, place_in, held_in, added, taken, margin_of, totals_of, head_of, account_at}
-use Rattle.daybook.specs.Orders.{answer_of, description_faults, sum_faults, joins, join_faults, taking_faults, order_faults, holdings_after, date_after, stored, day_after, accepted_answer}
-use Rattle.daybook.specs.declared.{Day.Day, Reply.Reply}
-use Rattle.daybook.specs.declared.Order.{Order, TheVariants.Add, TheVariants.Take, TheVariants.MoveTo}
+use Rattle.daybook.specs.Orders.{description_faults, sum_faults, joins, join_faults, taking_faults, order_faults, holdings_after, date_after, stored, day_after, accepted_answer}
+use Rattle.daybook.specs.declared.{Day.Day}
+use Rattle.daybook.specs.declared.Order.{Order, TheVariants.Add, TheVariants.Take}
 use Rattle.daybook.proofs.Described.{description-listed}
 use Rattle.daybook.proofs.Trades.{First, held_first, added_first, Nowhere, held_none, added_none, taken_part, taken_whole}
 use Rattle.daybook.proofs.Written.{front-set, front-joined}
-use Rattle.booking.specs.Seeing.{trade_of, Counted, moved_up, changed, Fits}
-use Rattle.booking.specs.Settling.{no_change, refusal_of, acceptance_of, adding_faults, settlement, Settles, Held, Traded, Rated}
+use Rattle.booking.specs.Seeing.{trade_of, changed, Fits}
+use Rattle.booking.specs.Settling.{refusal_of, acceptance_of, adding_faults, settlement, Settles, Traded, Rated}
 use Rattle.booking.specs.declared.{Scan.Scan, Change.Change, Outcome.Outcome}
 use Rattle.booking.proofs.Changed.{put_only, unchanged, closes_up}
-use Rattle.booking.proofs.Found.{first-at as first-found-at, nowhere_at, valued_equal, total-held, totals-set, totals-without}
+use Rattle.booking.proofs.Found.{first-at as first-found-at, nowhere_at, valued_equal, totals-set, totals-without}
 use Rattle.booking.proofs.Rows.{place-few, totals-more}
-use Rattle.booking.proofs.Tested.{adds-listed, adds-sum, adds-few, adds-room}
+use Rattle.booking.proofs.Tested.{adds-listed, adds-room}
 
 module _ {d : Day} {room : ℕ} {rows : List Row} {o : Order} where
   pub settles_refused : {n k : ℕ} {r : Outcome} → r ≡ refusal_of d room n k → (n ≡ 0 → ⊥) → settlement d room rows o ≡ make_answer n k 0 → Settles d room rows o r

@@ -1,26 +1,23 @@
 -- A trade's description, judged as a holding of one cent; and what its totals have room for. Assumes nothing.
 use mathlib.Core.Path.{◌≡◌, refl, sym, ap, ◌∙◌}
-use mathlib.Core.Bool.{Bool, true, false}
-use mathlib.Core.List.{List, [], ◌∷◌, ◌++◌}
+use mathlib.Core.List.{List, ◌++◌}
 use Prim.Native.Nat.{ℕ, suc, ◌+◌, ◌*◌, ◌≤◌, ◌<◌}
 use native.Mathlib.Nat.{mul-le-mul_right}
 use native.Mathlib.Omega.{arith}
 use lib.ListN.{length, get_or}
 use Rattle.lists.specs.Choice.{first_of, within}
-use Rattle.lists.specs.Tables.{list_to}
-use Rattle.lists.proofs.Firsts.{first-append, found_first}
+use Rattle.lists.proofs.Firsts.{found_first}
 use Rattle.lists.proofs.Tables.{get_or-to}
 use Rattle.lists.proofs.Tests.{same_or_not}
-use Rattle.dates.specs.Calendar.{is_date}
 use Rattle.holding.specs.Holding.{identity_faults, term_faults, worth_faults, money_faults, row_faults, fault_of, holding_of, out_of_term, Builds}
 use Rattle.holding.specs.declared.{Account.Account, Row.Row, Holding.Holding, Built.Built, Built.TheVariants.Made, Built.TheVariants.Refused}
 use Rattle.holding.proofs.Rows.{made_row, refused-row}
 use Rattle.rates.specs.Rate.{period_of, rate_of}
-use Rattle.article.specs.{Answer.Answer, Pair.rate_limit}
+use Rattle.article.specs.{Pair.rate_limit}
 use Rattle.proposal.specs.Submission.{no_row, margin_limit}
 use Rattle.proposal.proofs.Places.{first-at}
 use Rattle.daybook.specs.Book.{valued, place_in, held_in, total_of, totals_of, account_at}
-use Rattle.daybook.specs.Orders.{description_faults, sum_faults, join_faults, taking_faults, order_faults, accepted_answer}
+use Rattle.daybook.specs.Orders.{description_faults, sum_faults, join_faults, order_faults}
 use Rattle.daybook.specs.declared.Day.{Day}
 use Rattle.daybook.specs.declared.Order.{TheVariants.Add, TheVariants.Take}
 use Rattle.daybook.proofs.Trades.{held_first, held_none}

@@ -1,16 +1,15 @@
 -- A book seen one holding at a time, and what is to be done to its list: what the core of booking promises. Assumes nothing.
-use mathlib.Core.{Path.◌≡◌, Bool.Bool, Bool.true, Bool.false, List.List, List.[], List.◌∷◌, List.◌++◌}
+use mathlib.Core.{Path.◌≡◌, Bool.Bool, Bool.true, List.List, List.[], List.◌∷◌, List.◌++◌}
 use Rattle.std.specs.Prelude.{ℕ, ◌-◌, ◌*◌, ◌≤◌, ◌<◌, length, get_or, take, drop, set}
 use Rattle.lists.specs.{Choice.first_of, Tables.overwrite}
 use Rattle.dates.specs.Calendar.{is_date}
 use Rattle.holding.specs.declared.{Account.Account, Row.Row}
-use Rattle.article.specs.Answer.{Answer, make_answer}
+use Rattle.article.specs.Answer.{make_answer}
 use Rattle.proposal.specs.{Submission.no_row, Submission.margin_limit, Outcome.first_fault}
 use Rattle.daybook.specs.Book.{valued, place_in, held_in, totals_of, account_at, Book, make_book}
-use Rattle.daybook.specs.Orders.{answer_of, lent_faults, rows_faults, order_faults, holdings_after, day_after, accepted_answer, outcome, booked}
+use Rattle.daybook.specs.Orders.{answer_of, lent_faults, rows_faults, outcome, booked}
 use Rattle.daybook.specs.declared.Day.{Day}
 use Rattle.daybook.specs.declared.Order.{Order, TheVariants.Add, TheVariants.Take, TheVariants.MoveTo}
-use Rattle.daybook.specs.declared.Reply.{Reply}
 use Rattle.booking.specs.declared.{Opening.Opening, Scan.Scan, Change.Change, Outcome.Outcome}
 
 -- the trade of an order; a move has none

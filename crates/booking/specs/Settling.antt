@@ -1,5 +1,5 @@
 -- An order to a book that was seen without fault: what the parts of the core promise of it. Assumes nothing.
-use mathlib.Core.{Path.◌≡◌, Bool.Bool, Bool.cond, Bool.not, Bool.◌&&◌, Bool.true, List.List, List.[], List.◌∷◌, List.◌++◌}
+use mathlib.Core.{Path.◌≡◌, Bool.Bool, Bool.cond, Bool.◌&&◌, Bool.true, List.List, List.[], List.◌∷◌, List.◌++◌}
 use Rattle.std.specs.Prelude.{ℕ, suc, ◌*◌, ◌≤◌, ◌<◌}
 use lib.{Dec.leb, Dec.eqb, ListN.length, ListN.get_or, ListN.take}
 use Rattle.lists.specs.{Choice.first_of, Tables.front}
@@ -7,13 +7,13 @@ use Rattle.dates.specs.Calendar.{is_date}
 use Rattle.holding.specs.Holding.{holding_of}
 use Rattle.holding.specs.declared.{Account.Account, Row.Row}
 use Rattle.rates.specs.Rate.{period_of, rate_of}
-use Rattle.article.specs.Answer.{Answer, make_answer}
+use Rattle.article.specs.Answer.{Answer}
 use Rattle.article.specs.Pair.{rate_limit}
 use Rattle.proposal.specs.Submission.{margin_limit}
 use Rattle.proposal.specs.Outcome.{first_fault}
 use Rattle.daybook.specs.Book.{valued, account_at}
 use Rattle.daybook.specs.Orders.{answer_of, rows_faults, sum_faults, order_faults, holdings_after, day_after, accepted_answer, description_faults}
-use Rattle.daybook.specs.declared.{Day.Day, Reply.Reply}
+use Rattle.daybook.specs.declared.{Day.Day}
 use Rattle.daybook.specs.declared.Order.{Order, TheVariants.Add, TheVariants.Take, TheVariants.MoveTo}
 use Rattle.daybook.specs.declared.Finding.{TheVariants.Done, TheVariants.Refused}
 use Rattle.booking.specs.Seeing.{trade_of, on_date, Counted, Seen, changed, Fits}

@@ -1,6 +1,6 @@
 -- Document 01, "A book or proposal has as many holdings or lines as its columns have entries": columns, held and filled. Assumes nothing.
 use mathlib.Core.{Path.◌≡◌, List.List, List.[], List.◌∷◌, List.◌++◌, List.map}
-use Rattle.std.specs.Prelude.{ℕ, suc, ◌+◌, ◌*◌, ◌/◌, ◌≤◌, ◌<◌, length, get_or, take, drop}
+use Rattle.std.specs.Prelude.{ℕ, suc, ◌*◌, ◌/◌, ◌≤◌, ◌<◌, length, get_or, take, drop}
 use Rattle.lists.specs.Tables.{Each, list_to, front}
 use Rattle.holding.specs.Holding.{numbers_of, row_by}
 use Rattle.holding.specs.declared.{Head.Head, Row.Row}

@@ -1,5 +1,6 @@
 // Columns of bytes that stand one after another in a list, which is a table: written an entry at a time, and handed out.
 #![tactic(auto)]
+
 ghost use Rattle.std.specs.Prelude.{◌≡◌, [], ◌∷◌, ◌+◌, ◌*◌, ◌≤◌, length};
 ghost use Rattle.columns.specs.Columns.{column_in, EntryRoom, EntryPut, CopyRoom, copied};
 

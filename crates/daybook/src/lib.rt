@@ -1,5 +1,6 @@
 // The book through the day: what is stored with a book, an order to it, and the reply. What an order does to a book stands in specs/.
 #![tactic(auto)]
+
 use holding::Row;
 
 // What is stored with a book: its valuation date as a number YYYYMMDD, the number of its letter, how many holdings it has, and a total for each

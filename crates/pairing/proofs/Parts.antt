@@ -7,7 +7,7 @@ use native.Mathlib.Nat.{mul-le-mul_left}
 use native.Mathlib.Omega.{arith}
 use lib.Dec.{eqb}
 use Rattle.lists.specs.Tables.{Each, sum_of, only}
-use Rattle.pairing.specs.Pairing.{Terms, used, in_parts, saving_rate, AllowedPair, IsPairing, saving}
+use Rattle.pairing.specs.Pairing.{Terms, used, in_parts, AllowedPair, IsPairing, saving}
 use Rattle.pairing.specs.declared.Line.{Line}
 
 only-times : (N i x k : ℕ) → only i (N * x) k ≡ N * only i x k

@@ -1,5 +1,6 @@
 // A book opened: each holding's leg, packed, and its value, in lent lists.
 #![tactic(auto)]
+
 ghost use Rattle.std.specs.Prelude.{[], ◌∷◌};
 ghost use Rattle.positions.specs.Opens.{OpenRoom, Opens};
 

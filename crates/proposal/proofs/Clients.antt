@@ -2,20 +2,20 @@
 use mathlib.Core.Path.{◌≡◌, refl, sym, ap, ◌∙◌}
 use mathlib.Core.Bool.{Bool, true, false}
 use mathlib.Core.List.{List, [], ◌∷◌}
-use Prim.Native.Nat.{ℕ, ◌-◌, ◌*◌, ◌≤◌, ◌<◌}
+use Prim.Native.Nat.{ℕ, ◌*◌, ◌≤◌, ◌<◌}
 use native.Mathlib.Omega.{arith}
 use lib.ListN.{length}
-use Rattle.lists.specs.Tables.{Each, sum_to, sum_of}
+use Rattle.lists.specs.Tables.{Each, sum_of}
 use Rattle.lists.proofs.Sums.{sum_to_eq}
 use Rattle.holding.specs.Holding.{letter_of, account_of}
 use Rattle.holding.specs.declared.{Holding.Holding, Row.Row}
 use Rattle.article.specs.Article.{ClientPairs}
 use Rattle.article.proofs.Article.{article}
-use Rattle.pairing.specs.Pairing.{Terms, used, AllowedPair, IsPairing, pair_units, rest_units, sum_at, Least}
+use Rattle.pairing.specs.Pairing.{Terms, AllowedPair, IsPairing, pair_units, rest_units, sum_at, Least}
 use Rattle.pairing.specs.declared.Line.{Line}
-use Rattle.proposal.specs.Submission.{Submission, account_in, terms_of, priced, book_of, holding_at, RoundedUp}
+use Rattle.proposal.specs.Submission.{Submission, account_in, terms_of, priced, book_of, holding_at}
 use Rattle.proposal.specs.Outcome.{outcome}
-use Rattle.proposal.specs.Demands.{Acceptable, Limits, PairTerms}
+use Rattle.proposal.specs.Demands.{Limits, PairTerms}
 use Rattle.proposal.specs.Clients.{client, participant, Clients}
 use Rattle.proposal.proofs.Demands.{demands}
 

@@ -3,7 +3,6 @@
 use mathlib.Core.{Path.◌≡◌, Bool.Bool, List.List}
 use Rattle.std.specs.Prelude.{ℕ, ◌≤◌}
 use Rattle.holding.specs.declared.{AccountKind.TheVariants.Client, AccountKind.TheVariants.Participant, Row.Row}
-use Rattle.article.specs.Answer.{Answer}
 use Rattle.pairing.specs.Pairing.{IsPairing, sum_at}
 use Rattle.pairing.specs.declared.Line.{Line}
 use Rattle.proposal.specs.{Submission.Submission, Submission.account_in, Submission.terms_of, Submission.priced, Outcome.outcome, Demands.Limits}

@@ -1,5 +1,5 @@
 -- `adding`: refused, to the first equal holding, or joined at the end. Assumes nothing.
-use Rattle.std.proofs.Common.{◌≡◌, ℕ, ◌+◌, ◌*◌, ◌≤◌, sym, refl, ◌∙◌, arith, rules}
+use Rattle.std.proofs.Common.{◌*◌, ◌≤◌, sym, refl, ◌∙◌, arith, rules}
 use native.Mathlib.Nat.{mul-le-mul}
 use Rattle.proposal.specs.Submission.{margin_limit}
 use Rattle.booking.proofs.Tested.{adds-value, adds-sum, adds-few}

@@ -1,7 +1,6 @@
 -- `see`: after a fault nothing, a fault with its place, or what a holding without fault adds. Assumes nothing.
-use Rattle.std.proofs.Common.{◌≡◌, ℕ, ◌-◌, ◌*◌, ◌≤◌, refl, sym, ◌∙◌, arith}
+use Rattle.std.proofs.Common.{◌-◌, refl, sym, ◌∙◌, arith}
 use Rattle.holding.proofs.Rows.{made_row, refused-row}
-use Rattle.proposal.specs.Submission.{margin_limit}
 use Rattle.booking.proofs.Rows.{made-margin, made-high, made-period}
 use Rattle.booking.proofs.Seen.{seen-refused, seen-fault, seen-counted, totals-next, counted-here, counted_past, counted_later}
 use Rattle.booking.proofs.see.Goals as goal

@@ -1,5 +1,5 @@
 -- `taking`: refused, from the first equal holding, or all of it. Assumes nothing.
-use Rattle.std.proofs.Common.{◌≡◌, ℕ, ◌*◌, ◌≤◌, ◌<◌, arith, rules}
+use Rattle.std.proofs.Common.{◌*◌, ◌≤◌, ◌<◌, arith}
 use native.Mathlib.Nat.{mul-le-mul_left}
 use Rattle.booking.proofs.Settled.{fits-put, refusal-fits, takes_zero, takes-more, taking-refused, taking-there, taking-whole}
 use Rattle.booking.proofs.taking.Goals as goal

@@ -1,5 +1,5 @@
 -- `traded`: a description with a fault, an adding, or a taking. Assumes nothing.
-use Rattle.std.proofs.Common.{◌≡◌, ℕ, ◌-◌, subst, arith}
+use Rattle.std.proofs.Common.{◌-◌, subst, arith}
 use Rattle.lists.proofs.Tests.{by-test}
 use Rattle.holding.specs.declared.Account.{Account}
 use Rattle.daybook.specs.declared.Order.{Order}

@@ -1,5 +1,5 @@
 -- `write` moves entries up one at a time, and puts one at its place, where the list has it. Assumes nothing.
-use Rattle.std.proofs.Common.{◌≡◌, ◌-◌, ◌≤◌, List, length, refl, sym, ◌∙◌, add-one, arith}
+use Rattle.std.proofs.Common.{◌≡◌, ◌-◌, ◌≤◌, List, refl, sym, ◌∙◌, add-one, arith}
 use lib.ListN.{set, length-set}
 use lib.Seq.{set_out}
 use Rattle.holding.specs.declared.Holding.{Holding}

@@ -1,5 +1,5 @@
 -- The rows before i are opened: their legs and values are in the lists. Assumes nothing.
-use Rattle.std.proofs.Common.{List, ℕ, [], ◌∷◌, ◌-◌, ◌≡◌}
+use Rattle.std.proofs.Common.{[], ◌∷◌, ◌-◌, ◌≡◌}
 use Rattle.columns.specs.Columns.{count_in}
 use Rattle.positions.proofs.Opening.{Opening}
 use Rattle.positions.proofs.open.Given as goal

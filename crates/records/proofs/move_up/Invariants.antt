@@ -1,5 +1,5 @@
 -- The bytes before j have moved. Assumes nothing.
-use Rattle.std.proofs.Common.{◌-◌, ◌*◌, ◌≡◌}
+use Rattle.std.proofs.Common.{◌-◌}
 use Rattle.records.proofs.Rewriting.{Moving}
 use Rattle.records.proofs.move_up.Given as goal
 

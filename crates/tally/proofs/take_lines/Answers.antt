@@ -1,7 +1,6 @@
 -- `take_lines` finds the first fault of the lines in turn, and takes the lines before it off what is left. The invariant is `Walk`.
 -- Assumes nothing.
-use Rattle.std.proofs.Common.{List, ℕ, [], ◌∷◌, ◌+◌, ◌*◌, ◌/◌, ◌≡◌, ◌≤◌, ◌<◌, length, sym, arith, rules}
-use lib.ListN.{length-set}
+use Rattle.std.proofs.Common.{List, ℕ, [], ◌∷◌, ◌+◌, ◌*◌, ◌/◌, ◌≡◌, ◌≤◌, ◌<◌, length, sym, arith}
 use Rattle.lists.specs.Tables.{Each}
 use Rattle.lists.proofs.Entries.{each_so}
 use Rattle.words.specs.Words.{entries, word_at}
