@@ -1,5 +1,6 @@
 // Booking for the desk's Rust host, in an archive of its own: lists of records as byte slices.
 #![tactic(auto)]
+
 ghost use Rattle.std.specs.Prelude.{[], ◌∷◌};
 ghost use Rattle.holding.specs.Holding.{head_by, row_by};
 ghost use Rattle.daybook.specs.declared.Order.{TheVariants.Add, TheVariants.Take, TheVariants.MoveTo};

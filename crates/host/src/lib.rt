@@ -13,6 +13,7 @@ use holding::Head;
 // The check of a proposal, for the host: returns the refusal number, 0 for accepted. Scratch has 4 entries for a book of up to 4 holdings,
 // 16 for one of up to 16, and 256 for any other. Nothing is presumed of the bytes or the lengths; that a pointer leads to its bytes, and that no other
 // refers to a list meanwhile, is what a slice means, and the host's borrow sees to it.
+#[tactic(auto, using(crate::proofs::Scratch::few, crate::proofs::Scratch::more))]
 #[unsafe(no_mangle)]
 pub extern "C" fn margin_check(
     date: u64,
