@@ -6,7 +6,7 @@ use lib.ListN.{replicate}
 use Rattle.lists.specs.Tables.{ascii}
 use Rattle.holding.specs.declared.Row.{Row}
 use Rattle.pairing.specs.declared.Line.{Line}
-use Rattle.edges.proofs.Cases.{Case, rates, pair, pairs, no_pair, no_pairs, proposal, prints, D, H, H_in, P, unended}
+use Rattle.edges.proofs.Cases.{Case, rates, pair, pairs, no_pair, no_pairs, proposal, prints, D, H, H_in, P}
 use Rattle.edges.proofs.Cases.{line, row, of, L, S, B, C, R, CA, ON, QC, US, GB, CAD, USD, GBP, file, file_lines}
 
 -- kind, issuer and currency with a term of each period, and of 20 years; and Group I rates for these, Canada's
