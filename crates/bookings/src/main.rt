@@ -8,7 +8,6 @@ use daybook::{Day, Finding};
 use desk::Order;
 use holding::{Currency, Holding, Issuer, Kind, Rating, Side};
 use std::io;
-use std::io::Read;
 
 // A list that has a book at its front, and what is stored with the book.
 #[derive(Clone, Copy)]
@@ -202,30 +201,13 @@ fn run(rt: &impl Print, book: Book, step: &[u8; 80]) -> io::Result<Book> {
     }
 }
 
-// Reads until the buffer is full, the input ends or a read fails, and returns how many bytes were read.
-fn read_full<R: Read>(input: &mut R, buffer: &mut [u8]) -> usize
-    ensures { result ≤ length buffer.new }
-{
-    let mut done: usize = 0;
-    while done < buffer.len() {
-        let Ok(more) = input.read(&mut buffer[done..]) else {
-            return done;
-        };
-        if more == 0 {
-            return done;
-        }
-        done = done + more;
-    }
-    done
-}
-
 fn main(rt: HostRuntime) -> io::Result<()> {
     let mut input = rt.reader();
     let mut book = no_book();
     let mut turn: usize = 0;
     while turn < 100000 {
         let mut step = [0u8; 80];
-        let got = read_full(&mut input, &mut step);
+        let got = input::read_full(&mut input, &mut step);
         if got < 80 {
             return Ok(());
         }

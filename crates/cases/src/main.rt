@@ -24,31 +24,14 @@ fn print_buffer() -> [u8; report::ROOM]
     [0; report::ROOM]
 }
 
-// Reads until the buffer is full, the input ends or a read fails, and returns how many bytes stand at the front of the buffer.
-fn read_full<R: Read>(input: &mut R, buffer: &mut [u8]) -> usize
-    ensures { (result ≤ length buffer.new) × (result ≡ length (take result buffer.new)) }
-{
-    let mut done: usize = 0;
-    while done < buffer.len() {
-        let Ok(more) = input.read(&mut buffer[done..]) else {
-            return done;
-        };
-        if more == 0 {
-            return done;
-        }
-        done = done + more;
-    }
-    done
-}
-
 // Reads so many bytes into the front of the buffer, as many as it has room for, and returns how many there were.
 fn read_part<R: Read>(n: u64, input: &mut R, buffer: &mut [u8]) -> usize
     ensures { (result ≤ length buffer.new) × (result ≡ length (take result buffer.new)) }
 {
     if n < buffer.len() as u64 {
-        return read_full(input, &mut buffer[..n as usize]);
+        return input::read_full(input, &mut buffer[..n as usize]);
     }
-    read_full(input, buffer)
+    input::read_full(input, buffer)
 }
 
 // Reads a title, and prints it as a line after `# `.
@@ -83,7 +66,7 @@ fn print_text<R: Read>(
 // One case; false at the end of the input.
 fn run_case<R: Read>(rt: &impl Print, input: &mut R) -> io::Result<bool> {
     let mut header = [0u8; 16];
-    let got = read_full(input, &mut header);
+    let got = input::read_full(input, &mut header);
     if got < 16 {
         return Ok(false);
     }
