@@ -8,10 +8,10 @@ use native.Mathlib.Omega.{arith}
 use lib.Dec.{ltb}
 use borrow.Author.Tests.{not-false, ltb-false}
 use Rattle.lists.specs.Choice.{first_of}
-use Rattle.lists.proofs.Tests.{neither}
+use Rattle.lists.proofs.Tests.{tests, neither}
 use Rattle.lists.proofs.Firsts.{None, Listed}
 use Rattle.holding.specs.Holding.{value_limit}
-use Rattle.article.specs.Pair.{allowed, pair_rate_of, saving_rate_of, rate_limit, saving_limit}
+use Rattle.article.specs.Pair.{is_long, is_short, allowed, pair_rate_of, saving_rate_of, rate_limit, saving_limit}
 use Rattle.article.specs.declared.pair.Leg.{Leg}
 use Rattle.article.proofs.Legs.{allowed_meets, allowed_high}
 use Rattle.article.proofs.Saved.{saving-high}
@@ -83,3 +83,13 @@ module _ (t : Tally) (amount : ℕ) (long short : Leg) {r : Applied} (applies : 
         high = high (le_trans within ready.left)
             (allowed_high long short may ready.long_rate ready.short_rate) (saving-high long short ready.long_rate ready.short_rate);
       }
+
+-- what refuses a line on its two legs, each where those before it do not
+module _ (t : Tally) (amount : ℕ) (long short : Leg) where
+  pub not_long : (long.side ≡ 0 → ⊥) → Refused 12 ≡ applied_of t amount long short
+  unfolding applied_of refusals pair_faults first_of is_long is_short
+  not_long n = search tests
+
+  pub not_short : long.side ≡ 0 → (short.side ≡ 1 → ⊥) → Refused 12 ≡ applied_of t amount long short
+  unfolding applied_of refusals pair_faults first_of is_long is_short
+  not_short l n = search tests

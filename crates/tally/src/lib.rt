@@ -35,7 +35,7 @@ pub struct Walked {
 
 impl Tally {
     // One pair line of an amount on its two legs.
-    #[tactic(auto, using(lists::proofs::Tests::tests), unfolding(crate::specs::Lines::applied_of, crate::specs::Lines::refusals, proposal::specs::Outcome::pair_faults, lists::specs::Choice::first_of, article::specs::Pair::is_long, article::specs::Pair::is_short))]
+    #[tactic(auto, using(crate::proofs::OneLine::not_long, crate::proofs::OneLine::not_short))]
     pub fn apply(self, amount: u64, long: Leg, short: Leg) -> Applied
         requires { Ready self long short }
         ensures { result ≡ applied_of self amount long short }

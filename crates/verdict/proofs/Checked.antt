@@ -336,7 +336,8 @@ module _ (two : Bool) (head : Head) (side : List ℕ) (rest : List (List ℕ)) (
                   let long = length_to n (left_margin legs left') in
                   omega (arith, ap (λ (xs : List ℕ). length xs) found.each, front_long (list_to n (left_margin legs left')) margins₀ (omega (arith, long)), q)
 
-              pub all_judged : {ranks₀ ranks : List ℕ} {units cents : ℕ} → ranks ≡ front (ranking_of (entry margins) n) ranks₀ → total ≡ w.saving → units ≡ w.units + sum → RoundedUp units cents
+              pub all_judged : {ranks₀ ranks : List ℕ} {units cents : ℕ} → ranks ≡ front (ranking_of (entry margins) n) ranks₀ → total ≡ w.saving
+                  → units ≡ w.units + sum → RoundedUp units cents
                   → Judges two head c (make_scratch left₀ margins₀ ranks₀) (make_scratch left' margins ranks) (Accepted units cents)
               all_judged {ranks₀} {units = units} {cents} p q u r =
                   figures-judged two head c _ _ units cents (totals-equal b s.lines _ figures next (sym total_found ∙ q ∙ saving_found)) (u ∙ units_are) r

@@ -38,8 +38,9 @@ module _ (head : Head) {two : Bool} {side kind issuer maturity value currency ra
     dated = head_dated two head side (kind ∷ issuer ∷ maturity ∷ value ∷ currency ∷ rating ∷ []) price long (short ∷ amount ∷ []) sized found made
 
     -- the book was opened without fault
-    held : {left₀ legs left : List ℕ} {f : Fault} → (length side / 8 ≤ 256 → length side / 8 ≤ length left₀) → Opens a (side ∷ kind ∷ issuer ∷ maturity ∷ value ∷ currency ∷ rating ∷ []) price left₀ legs left f → f.number ≡ 0
-        → Held two head side (kind ∷ issuer ∷ maturity ∷ value ∷ currency ∷ rating ∷ []) price long (short ∷ amount ∷ []) left₀ legs left
+    held : {left₀ legs left : List ℕ} {f : Fault} → (length side / 8 ≤ 256 → length side / 8 ≤ length left₀)
+        → Opens a (side ∷ kind ∷ issuer ∷ maturity ∷ value ∷ currency ∷ rating ∷ []) price left₀ legs left f
+        → f.number ≡ 0 → Held two head side (kind ∷ issuer ∷ maturity ∷ value ∷ currency ∷ rating ∷ []) price long (short ∷ amount ∷ []) left₀ legs left
     held room opens none = book_held two head side (kind ∷ issuer ∷ maturity ∷ value ∷ currency ∷ rating ∷ []) price long (short ∷ amount ∷ []) dated (room sized.few) opens none
 
 pub check_spec : {M : Type 1} → statement M
@@ -74,7 +75,10 @@ check_spec =
     unfold entries in
     book_refused _ _ _ _ _ _ _ (dated c.args.head c.lengths-number.ensures c.if-number-ne0.false c.account_of-headed.ensures c.in-For.is)
     (c.requires.left_held z.few) c.open-fault.ensures c.if-fault-ne0.true c.refused-then-fault-ne0.ensures)
-    (λ c κs. unfold entries in lines_lent _ _ _ _ _ _ _ (held c.args.head c.lengths-number.ensures c.if-number-ne0.false c.account_of-headed.ensures c.in-For.is c.requires.left_held c.open-fault.ensures c.if-fault-ne0.false))
+    (λ c κs.
+    unfold entries in
+    lines_lent _ _ _ _ _ _ _
+    (held c.args.head c.lengths-number.ensures c.if-number-ne0.false c.account_of-headed.ensures c.in-For.is c.requires.left_held c.open-fault.ensures c.if-fault-ne0.false))
     (λ c κs. search rules)
     (λ c. search rules)
     (λ c. search rules)
@@ -82,7 +86,10 @@ check_spec =
     unfold entries in
     line_refused _ _ _ _ _ _ _ (held c.args.head c.lengths-number.ensures c.if-number-ne0.false c.account_of-headed.ensures c.in-For.is c.requires.left_held c.open-fault.ensures c.if-fault-ne0.false)
     c.take_lines-walked.ensures c.if-fault-ne0-2.true c.refused-then-fault-ne0-2.ensures)
-    (λ c κs. unfold entries in prices_lent _ _ _ _ _ _ _ (held c.args.head c.lengths-number.ensures c.if-number-ne0.false c.account_of-headed.ensures c.in-For.is c.requires.left_held c.open-fault.ensures c.if-fault-ne0.false))
+    (λ c κs.
+    unfold entries in
+    prices_lent _ _ _ _ _ _ _
+    (held c.args.head c.lengths-number.ensures c.if-number-ne0.false c.account_of-headed.ensures c.in-For.is c.requires.left_held c.open-fault.ensures c.if-fault-ne0.false))
     (λ c κs. search rules)
     (λ c. search rules)
     (λ c. search rules)
@@ -112,8 +119,11 @@ check_spec =
     omega (arith, c.take_lines-walked.ensures.units-high, c.margins_of.ensures.sum_high, z.few))
     (λ c κs.
     unfold entries in
-    let h = held c.args.head c.lengths-number.ensures c.if-number-ne0.false c.account_of-headed.ensures c.in-For.is c.requires.left_held c.open-fault.ensures c.if-fault-ne0.false in
-    (margins_held _ _ _ _ _ _ _ h c.take_lines-walked.ensures c.if-fault-ne0-2.false _ c.first_uncovered-pair.ensures (search rules) c.priced_total.ensures c.margins_of.ensures (c.requires.margins_held h.sized.few), c.requires.ranks_held h.sized.few))
+    let h = held c.args.head c.lengths-number.ensures c.if-number-ne0.false c.account_of-headed.ensures c.in-For.is c.requires.left_held c.open-fault.ensures c.if-fault-ne0.false in (
+      margins_held _ _ _ _ _ _ _ h c.take_lines-walked.ensures c.if-fault-ne0-2.false _ c.first_uncovered-pair.ensures (search rules)
+          c.priced_total.ensures c.margins_of.ensures (c.requires.margins_held h.sized.few),
+      c.requires.ranks_held h.sized.few,
+    ))
     (λ c κs. search rules)
     (λ c. search rules)
     (λ c. search rules)

@@ -1,9 +1,12 @@
 -- `apply` refuses at the first of 12 to 15 that holds, and else takes the line off the tally. Assumes nothing.
+use Prim.Native.Nat.{ℕ, ◌≤◌}
 use native.Mathlib.Nat.{le_trans}
 use native.Mathlib.Omega.{arith}
 use Rattle.lists.specs.Choice.{first_of}
 use Rattle.lists.proofs.Tests.{tests}
+use Rattle.holding.specs.Holding.{value_limit}
 use Rattle.article.specs.Pair.{is_long, is_short}
+use Rattle.article.specs.declared.pair.Leg.{Leg}
 use Rattle.article.proofs.Answered.{Answered, answered-refused, answered-allowed}
 use Rattle.proposal.specs.Outcome.{pair_faults}
 use Rattle.tally.specs.Lines.{refusals, taken, applied_of}
@@ -16,48 +19,34 @@ returns-in-NotAllowed c = search (tests, answered-refused c.pair_legs-pair.ensur
 
 pub returns-then-amount-eq0 : goal.returns-then-amount-eq0
 unfolding applied_of refusals pair_faults first_of is_long is_short
-returns-then-amount-eq0 c =
-    let found : Answered c.args.long c.args.short c.in-Allowed.rate c.in-Allowed.saving = answered-allowed c.pair_legs-pair.ensures c.in-Allowed.is in
-    search (tests, found.may)
+returns-then-amount-eq0 c = search (tests, (answered-allowed c.pair_legs-pair.ensures c.in-Allowed.is).may)
 
 pub returns-then-self-amount : goal.returns-then-self-amount
 unfolding applied_of refusals pair_faults first_of is_long is_short
-returns-then-self-amount c =
-    let found : Answered c.args.long c.args.short c.in-Allowed.rate c.in-Allowed.saving = answered-allowed c.pair_legs-pair.ensures c.in-Allowed.is in
-    search (tests, found.may)
+returns-then-self-amount c = search (tests, (answered-allowed c.pair_legs-pair.ensures c.in-Allowed.is).may)
 
 pub returns-then-self-amount-2 : goal.returns-then-self-amount-2
 unfolding applied_of refusals pair_faults first_of is_long is_short
-returns-then-self-amount-2 c =
-    let found : Answered c.args.long c.args.short c.in-Allowed.rate c.in-Allowed.saving = answered-allowed c.pair_legs-pair.ensures c.in-Allowed.is in
-    search (tests, found.may)
+returns-then-self-amount-2 c = search (tests, (answered-allowed c.pair_legs-pair.ensures c.in-Allowed.is).may)
+
+-- an amount that a leg has, at the rates of its pair, is within the limits
+adds : {long short : Leg} {rate saving amount value : ℕ} → Answered long short rate saving → amount ≤ value → value ≤ value_limit → High amount rate saving
+adds found some most = high (le_trans some most) found.rate-high found.saving-high
 
 pub overflow_mul-result : goal.overflow_mul-result
-overflow_mul-result c =
-    let found : Answered c.args.long c.args.short c.in-Allowed.rate c.in-Allowed.saving = answered-allowed c.pair_legs-pair.ensures c.in-Allowed.is in
-    let adds : High c.args.amount c.in-Allowed.rate c.in-Allowed.saving = high (le_trans c.if-self-amount.false c.requires.left) found.rate-high found.saving-high in
-    record { fits = omega arith }
+overflow_mul-result c = record { fits = omega (arith, adds (answered-allowed c.pair_legs-pair.ensures c.in-Allowed.is) c.if-self-amount.false c.requires.left) }
 
 pub overflow_add-result : goal.overflow_add-result
-overflow_add-result c =
-    let found : Answered c.args.long c.args.short c.in-Allowed.rate c.in-Allowed.saving = answered-allowed c.pair_legs-pair.ensures c.in-Allowed.is in
-    let adds : High c.args.amount c.in-Allowed.rate c.in-Allowed.saving = high (le_trans c.if-self-amount.false c.requires.left) found.rate-high found.saving-high in
-    record { fits = omega arith }
+overflow_add-result c = record { fits = omega (arith, adds (answered-allowed c.pair_legs-pair.ensures c.in-Allowed.is) c.if-self-amount.false c.requires.left) }
 
 pub overflow_mul-result-in-Allowed : goal.overflow_mul-result-in-Allowed
-overflow_mul-result-in-Allowed c =
-    let found : Answered c.args.long c.args.short c.in-Allowed.rate c.in-Allowed.saving = answered-allowed c.pair_legs-pair.ensures c.in-Allowed.is in
-    let adds : High c.args.amount c.in-Allowed.rate c.in-Allowed.saving = high (le_trans c.if-self-amount.false c.requires.left) found.rate-high found.saving-high in
-    record { fits = omega arith }
+overflow_mul-result-in-Allowed c = record { fits = omega (arith, adds (answered-allowed c.pair_legs-pair.ensures c.in-Allowed.is) c.if-self-amount.false c.requires.left) }
 
 pub overflow_add-result-in-Allowed : goal.overflow_add-result-in-Allowed
-overflow_add-result-in-Allowed c =
-    let found : Answered c.args.long c.args.short c.in-Allowed.rate c.in-Allowed.saving = answered-allowed c.pair_legs-pair.ensures c.in-Allowed.is in
-    let adds : High c.args.amount c.in-Allowed.rate c.in-Allowed.saving = high (le_trans c.if-self-amount.false c.requires.left) found.rate-high found.saving-high in
-    record { fits = omega arith }
+overflow_add-result-in-Allowed c = record { fits = omega (arith, adds (answered-allowed c.pair_legs-pair.ensures c.in-Allowed.is) c.if-self-amount.false c.requires.left) }
 
 pub returns-in-Allowed : goal.returns-in-Allowed
 unfolding applied_of refusals pair_faults first_of is_long is_short taken
 returns-in-Allowed c =
-    let found : Answered c.args.long c.args.short c.in-Allowed.rate c.in-Allowed.saving = answered-allowed c.pair_legs-pair.ensures c.in-Allowed.is in
+    let found = answered-allowed c.pair_legs-pair.ensures c.in-Allowed.is in
     rw (← found.pair_rate_lem, ← found.saving_rate_lem) (search (tests, found.may))
