@@ -7,7 +7,7 @@ use Rattle.article.specs.Answer.{Answer, make_answer}
 use Rattle.article.specs.Pair.{allowed, pair_rate_of, saving_rate_of, pair_answer, pair_of, rate_limit, saving_limit, Pairs}
 use Rattle.article.specs.declared.pair.Leg.{Leg}
 use Rattle.article.specs.declared.pair.Pair.{Pair}
-use Rattle.article.specs.declared.pair.Pair.TheVariants.{Allowed, NotAllowed}
+use Rattle.std.specs.Prelude.{Option, Some, None}
 
 -- a test's value from the number of the answer that it picked
 refused-by : (t : Bool) (rate saving : ℕ) → make_answer 13 0 0 ≡ cond t (make_answer 0 rate saving) (make_answer 13 0 0) → t ≡ false
@@ -28,13 +28,13 @@ pub record Answered (l s : Leg) (rate saving : ℕ) : Type 0 where
   pub rate-high : rate ≤ rate_limit
   pub saving-high : saving ≤ saving_limit
 
-module _ {l s : Leg} {p : Pair} (found : Pairs l s p) where
-  pub answered-refused : p ≡ NotAllowed → allowed l s ≡ false
+module _ {l s : Leg} {p : Option Pair} (found : Pairs l s p) where
+  pub answered-refused : p ≡ None → allowed l s ≡ false
   unfolding pair_answer pair_of
   answered-refused e = refused-by (allowed l s) _ _ (rw e at found.answered)
 
-  pub answered-allowed : {rate saving : ℕ} → p ≡ Allowed rate saving → Answered l s rate saving
+  pub answered-allowed : {q : Pair} → p ≡ Some q → Answered l s q.rate q.saving
   unfolding pair_answer pair_of
-  answered-allowed {rate} {saving} e =
-      let (may, r, k) = given_by (allowed l s) _ _ rate saving (rw e at found.answered) in
+  answered-allowed {q} e =
+      let (may, r, k) = given_by (allowed l s) _ _ q.rate q.saving (rw e at found.answered) in
       record { may = may; pair_rate_lem = r; saving_rate_lem = k; rate-high = rw e at found.rate-high; saving-high = rw e at found.saving-high }

@@ -8,7 +8,7 @@ use lib.Dec.{ltb}
 use borrow.Author.Tests.{eq-eqb, ne_eqb, ltb-true, ltb-false}
 use Rattle.lists.specs.Choice.{first_of}
 use Rattle.lists.proofs.Tests.{not_both, same_or_not, either_way, by-test}
-use Rattle.holding.proofs.Issuers.{above_range}
+use Rattle.holding.proofs.Issuers.{above_range, no_corporation_lem as below_corporations}
 use Rattle.article.specs.Pair.{is_canada, is_province, is_us, is_gb, is_corporate, in_cad, in_usd, in_gbp, kinds_pair, same_class, mixed_class, class_rule, domestic_rule}
 use Rattle.article.specs.Pair.{are_participants, one_bond, bond_rating, same_corporation, corporate_rule, same_government, foreign_rule, both_cad, same_foreign, cad_rule, rule_of, Outside, OneIssuer}
 use Rattle.article.specs.declared.pair.Rule.{Rule}
@@ -37,6 +37,11 @@ module _ (l s : Leg) where
         same_or_not l.currency 1
         (λ e. rw (ne_eqb _ 0 f, eq-eqb _ _ e, eq-eqb _ _ (sym same ∙ e)))
         (λ e. let ne : l.currency ≢ 0 = f in let gbp : l.currency ≡ 2 = omega arith in rw (ne_eqb _ 0 f, ne_eqb _ 1 e, eq-eqb _ _ gbp, eq-eqb _ _ (sym same ∙ gbp)))
+
+    -- paragraph 2 has Canada and the provinces in CAD
+    pub domestic : l.currency ≡ 0 → l.issuer ≤ 10 → domestic_rule l s ≡ rule_of l s
+    unfolding cad_rule is_corporate
+    domestic c h = rw (below_corporations l.issuer (omega arith)) at (cad c)
 
   -- an issuer after the provinces has no class
   no_class : 10 < l.issuer → domestic_rule l s ≡ NotAllowed
@@ -114,3 +119,10 @@ module _ (l s : Leg) where
   pub no_government : (l.issuer ≡ 0 → ⊥) → (l.issuer ≡ 11 → ⊥) → (l.issuer ≡ 12 → ⊥) → NotAllowed ≡ foreign_rule l s
   unfolding foreign_rule same_government is_canada is_us is_gb
   no_government f g h = rw (ne_eqb _ 0 f, ne_eqb _ 11 g, ne_eqb _ 12 h, and-false (are_participants l s && one_bond l s))
+
+-- what decides paragraph 3, paragraph 4, and which of the two
+pub ruleset corporate = (unrated, not-corporate, rated-bond)
+
+pub ruleset foreign_government = (of_canada, of-us, of-gb, no_government)
+
+pub ruleset outside = (two-issuers, no_bond, no_participants, outside_cad, outside_foreign, no_currency)

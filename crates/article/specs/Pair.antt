@@ -1,14 +1,13 @@
 -- Document 01, "A pair", from the article's Group XI(2), with document 02 g), which provinces, a), from Group XI(4), d), from Group XI(3), and e), who may have them.
 -- Assumes nothing.
 use mathlib.Core.{Bool.Bool, Bool.true, Bool.false, Bool.cond, Bool.not, Bool.◌&&◌, Bool.◌||◌, Path.◌≡◌, List.[], List.◌∷◌, Logic.◌⊎◌}
-use Rattle.std.specs.Prelude.{ℕ, ◌+◌, ◌-◌, ◌*◌, ◌/◌, ◌≤◌, ◌<◌, min, max, eqb}
+use Rattle.std.specs.Prelude.{ℕ, ◌+◌, ◌-◌, ◌*◌, ◌/◌, ◌≤◌, ◌<◌, min, max, eqb, Option, Some, None}
 use Rattle.lists.specs.Choice.{first_of, within}
 use Rattle.article.specs.Answer.{Answer, make_answer}
 use Rattle.rates.specs.Rate.{period_of, rate_of, flat_rate}
 use Rattle.holding.specs.Holding.{letter_number, row_of, is_corporation}
 use Rattle.holding.specs.declared.{Account.Account, Holding.Holding}
 use Rattle.article.specs.declared.pair.{Rule.Rule, Rule.TheVariants.Difference, Rule.TheVariants.HalfSum, Rule.TheVariants.Capped, Rule.TheVariants.NotAllowed, Leg.Leg, Pair.Pair}
-use Rattle.article.specs.declared.pair.Pair.TheVariants as pairs
 
 -- what a pair asks of a holding in an account: the number of the account's letter, those of its side, kind, issuer, currency and rating, its period, and its rate alone
 unfoldable pub leg_of : Account → Holding → Leg
@@ -168,9 +167,9 @@ unfoldable pub saving_rate_of : Leg → Leg → ℕ
 saving_rate_of l s = l.rate + s.rate - pair_rate_of l s
 
 -- the paper's number and values of each answer: 0 with the pair's rate and the saving rate, or 13
-unfoldable pub pair_answer : Pair → Answer
-pair_answer (pairs.Allowed rate saving) = make_answer 0 rate saving
-pair_answer pairs.NotAllowed = make_answer 13 0 0
+unfoldable pub pair_answer : Option Pair → Answer
+pair_answer (Some p) = make_answer 0 p.rate p.saving
+pair_answer None = make_answer 13 0 0
 
 -- the answer on two legs as a pair
 unfoldable pub pair_of : Leg → Leg → Answer
@@ -192,7 +191,7 @@ pub record RateInRange (l : Leg) : Type 0 where
   pub strip : is_corporate l ≡ true → is_strip l ≡ true → (2 * l.rate ≡ 3 * flat_rate 2 l.period) ⊎ ((l.period ≡ 5) × (l.rate ≡ 43800))
 
 -- what pairing two legs promises
-pub record Pairs (l s : Leg) (r : Pair) : Type 0 where
+pub record Pairs (l s : Leg) (r : Option Pair) : Type 0 where
   pub answered : pair_answer r ≡ pair_of l s
   pub rate-high : (pair_answer r).first ≤ rate_limit
   pub saving-high : (pair_answer r).second ≤ saving_limit

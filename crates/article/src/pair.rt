@@ -1,13 +1,13 @@
 // A pair of a long and a short: whether the article allows it, its rate, and what it saves.
-ghost use Rattle.std.specs.Prelude.{◌≡◌, cond, ◌+◌, ◌≤◌, max};
+ghost use Rattle.std.specs.Prelude.{◌≡◌, cond, ◌+◌, ◌≤◌};
 ghost use Rattle.article.specs.Pair.{leg_of, kinds_pair, provinces_pair, class_rule, domestic_rule, is_corporate, bond_rating, corporate_rule};
-ghost use Rattle.article.specs.Pair.{are_participants, one_bond, OneIssuer, foreign_rule, Outside, rule_of, permits, rule_rate, rate_limit, RateInRange, Pairs};
+ghost use Rattle.article.specs.Pair.{are_participants, one_bond, OneIssuer, foreign_rule, Outside, rule_of, rule_rate, rate_limit, RateInRange, Pairs};
 ghost use Rattle.holding.specs.Holding.{InRange};
 
 use holding::{Account, Holding};
 
-// Which rule a pair has.
-#[derive(Clone, Copy)]
+// Which rule a pair has; that it has none is a case too, as document 01 has it.
+#[derive(Clone, Copy, PartialEq, Eq)]
 pub enum Rule {
     Difference,
     HalfSum,
@@ -16,6 +16,8 @@ pub enum Rule {
 }
 
 // What a pair asks of one leg: the number of its account's letter, those of its side, kind, issuer, currency and rating, its period, and its rate alone.
+// They are numbers, since document 01 has the rule chosen by a match over the numbers of issuers and kinds; and a leg is read back from any number, so that the range
+// of its rate is a clause of those who ask for it and no part of the type.
 #[derive(Clone, Copy)]
 pub struct Leg {
     pub letter: u64,
@@ -28,11 +30,11 @@ pub struct Leg {
     pub rate: u64,
 }
 
-// A pair's rate and the rate that it saves, or that the article does not allow it.
+// A pair's rate and the rate that it saves.
 #[derive(Clone, Copy)]
-pub enum Pair {
-    Allowed { rate: u64, saving: u64 },
-    NotAllowed,
+pub struct Pair {
+    pub rate: u64,
+    pub saving: u64,
 }
 
 // What a pair asks of this holding, worked out once.
@@ -40,10 +42,9 @@ pub fn leg_of(account: Account, h: Holding) -> Leg
     ensures { (result ≡ leg_of account h) × (InRange account h → RateInRange result) }
 {
     let row = holding::row_of(h);
-    let letter = account.letter;
     let period = rates::period(account, h.maturity);
     Leg {
-        letter: holding::letter_number(letter),
+        letter: u64::from(account.letter),
         side: row.side,
         kind: row.kind,
         issuer: row.issuer,
@@ -55,6 +56,7 @@ pub fn leg_of(account: Account, h: Holding) -> Leg
 }
 
 // The rule of two provinces: two strips of any, a bond and a strip only of the same.
+#[tactic(auto, unfolding(crate::specs::Pair::provinces_pair, crate::specs::Pair::is_bond))]
 fn province_rule(long: Leg, short: Leg) -> Rule
     ensures { result ≡ cond (provinces_pair long short) Rule.Difference Rule.NotAllowed }
 {
@@ -89,27 +91,15 @@ fn class_rule(long: Leg, short: Leg) -> Rule
 }
 
 // Whether the two kinds pair in CAD: a bond with a strip or a strip with a strip.
+#[tactic(auto, unfolding(crate::specs::Pair::kinds_pair, crate::specs::Pair::is_bond, crate::specs::Pair::is_strip, lists::specs::Choice::within))]
 fn kinds_pair(long: Leg, short: Leg) -> bool
     ensures { result ≡ kinds_pair long short }
 {
-    let first = long.kind;
-    let second = short.kind;
-    match first {
-        0 => match second {
-            0 => false,
-            1..=2 => true,
-            _ => false,
-        },
-        1..=2 => match second {
-            0 => true,
-            1..=2 => true,
-            _ => false,
-        },
-        _ => false,
-    }
+    matches!((long.kind, short.kind), (0, 1..=2) | (1..=2, 0..=2))
 }
 
 // Paragraph 2: the rule by the numbers of the two kinds, and where they pair by those of the two issuers.
+#[tactic(auto, unfolding(crate::specs::Pair::domestic_rule))]
 fn domestic_rule(long: Leg, short: Leg) -> Rule
     ensures { result ≡ domestic_rule long short }
 {
@@ -120,36 +110,23 @@ fn domestic_rule(long: Leg, short: Leg) -> Rule
 }
 
 // Whether a leg is a corporation's.
+#[tactic(auto, unfolding(crate::specs::Pair::is_corporate))]
 pub fn is_corporate(leg: Leg) -> bool
     ensures { result ≡ is_corporate leg }
 {
-    let issuer = leg.issuer;
-    match issuer {
-        100..=355 => true,
-        _ => false,
-    }
+    holding::is_corporation(leg.issuer)
 }
 
 // Whether exactly one of the two is a bond.
+#[tactic(auto, unfolding(crate::specs::Pair::one_bond, crate::specs::Pair::is_bond, crate::specs::Pair::is_strip, lists::specs::Choice::within))]
 fn one_bond(long: Leg, short: Leg) -> bool
     ensures { result ≡ one_bond long short }
 {
-    let first = long.kind;
-    let second = short.kind;
-    match first {
-        0 => match second {
-            1..=2 => true,
-            _ => false,
-        },
-        1..=2 => match second {
-            0 => true,
-            _ => false,
-        },
-        _ => false,
-    }
+    matches!((long.kind, short.kind), (0, 1..=2) | (1..=2, 0))
 }
 
 // The rating of the bond, where just one of the two is one.
+#[tactic(auto, unfolding(crate::specs::Pair::bond_rating, crate::specs::Pair::is_bond))]
 fn bond_rating(long: Leg, short: Leg) -> u64
     ensures { result ≡ bond_rating long short }
 {
@@ -161,6 +138,7 @@ fn bond_rating(long: Leg, short: Leg) -> u64
 }
 
 // Paragraph 3, of a participant's bond and strip of one issuer: the greater rate, capped, where that is a corporation and the bond is rated.
+#[tactic(auto, using(crate::proofs::Outside::corporate))]
 fn corporate_rule(long: Leg, short: Leg) -> Rule
     requires { OneIssuer long short }
     ensures { result ≡ corporate_rule long short }
@@ -175,15 +153,14 @@ fn corporate_rule(long: Leg, short: Leg) -> Rule
 }
 
 // Paragraph 4, of a participant's bond and strip of one issuer: the difference, where that is Canada, US or GB.
+#[tactic(auto, using(crate::proofs::Outside::foreign_government))]
 fn foreign_rule(long: Leg, short: Leg) -> Rule
     requires { OneIssuer long short }
     ensures { result ≡ foreign_rule long short }
 {
     let issuer = long.issuer;
     match issuer {
-        0 => Rule::Difference,
-        11 => Rule::Difference,
-        12 => Rule::Difference,
+        0 | 11 | 12 => Rule::Difference,
         _ => Rule::NotAllowed,
     }
 }
@@ -200,6 +177,7 @@ fn are_participants(long: Leg, short: Leg) -> bool
 }
 
 // Paragraphs 3 and 4, by the number of the currency that both legs are in: approved participants', exactly one a bond, and the issuer is the same.
+#[tactic(auto, using(crate::proofs::Outside::outside))]
 fn outside_rule(long: Leg, short: Leg) -> Rule
     requires { Outside long short }
     ensures { result ≡ rule_of long short }
@@ -222,6 +200,7 @@ fn outside_rule(long: Leg, short: Leg) -> Rule
 }
 
 // The rule: paragraph 2 for Canada and the provinces in CAD, of clients too, paragraphs 3 and 4 for any other. Two currencies have none.
+#[tactic(auto, using(crate::proofs::Outside::two_currencies_rows, crate::proofs::Outside::domestic))]
 pub fn rule_of(long: Leg, short: Leg) -> Rule
     ensures { result ≡ rule_of long short }
 {
@@ -234,71 +213,49 @@ pub fn rule_of(long: Leg, short: Leg) -> Rule
     outside_rule(long, short)
 }
 
-fn is_permitted(rule: Rule) -> bool
-    ensures { result ≡ permits rule }
-{
-    match rule {
-        Rule::Difference => true,
-        Rule::HalfSum => true,
-        Rule::Capped => true,
-        Rule::NotAllowed => false,
-    }
-}
-
-fn greater(a: u64, b: u64) -> u64
-    ensures { result ≡ max a b }
-{
-    if a < b { b } else { a }
-}
-
 // The lesser of 29,200, which is 20 percent, and the greater of two rates.
+#[tactic(auto, unfolding(crate::specs::Pair::rule_rate))]
 pub fn capped(a: u64, b: u64) -> u64
     ensures { (result ≡ rule_rate Rule.Capped a b) × (result ≤ a + b) }
 {
-    let rate = greater(a, b);
-    if 29200 < rate { 29200 } else { rate }
+    a.max(b).min(29200)
 }
 
 // The rate that a rule makes of two rates.
+#[tactic(auto, unfolding(crate::specs::Pair::rule_rate))]
 fn rule_rate(rule: Rule, long: u64, short: u64) -> u64
     requires { (long ≤ rate_limit) × (short ≤ rate_limit) }
     ensures { (result ≡ rule_rate rule long short) × (result ≤ long + short) }
 {
     match rule {
-        Rule::Difference => {
-            if long < short {
-                short - long
-            } else {
-                long - short
-            }
-        }
+        Rule::Difference => { long.abs_diff(short) }
         Rule::HalfSum => (long + short) / 2,
         Rule::Capped => capped(long, short),
         Rule::NotAllowed => long + short,
     }
 }
 
-// Two legs as a pair.
-pub fn pair_legs(long: Leg, short: Leg) -> Pair
+// Two legs as a pair, where the article allows it.
+pub fn pair_legs(long: Leg, short: Leg) -> Option<Pair>
     requires { RateInRange long × RateInRange short }
     ensures { Pairs long short result }
 {
     if long.side != 0 {
-        return Pair::NotAllowed;
+        return None;
     }
     if short.side != 1 {
-        return Pair::NotAllowed;
+        return None;
     }
     if long.period != short.period {
-        return Pair::NotAllowed;
+        return None;
     }
     let rule = rule_of(long, short);
-    if !is_permitted(rule) {
-        return Pair::NotAllowed;
+    if rule == Rule::NotAllowed {
+        return None;
     }
     let rate = rule_rate(rule, long.rate, short.rate);
-    Pair::Allowed {
+    Some(Pair {
         rate,
         saving: long.rate + short.rate - rate,
-    }
+    })
 }

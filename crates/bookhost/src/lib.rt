@@ -11,7 +11,7 @@ use holding::{Head, Row};
 
 // Adds a trade to a book, for the host: `list` has 56 bytes for each record and `count` says how many of them are the book's; `totals` has its five
 // totals. All of it is changed in place, and on a refusal none of it. Returns the refusal number, 0 for accepted; the new count stands in the answer slice.
-// Nothing is presumed of the bytes, the numbers or the lengths.
+// Nothing is presumed of the bytes, the numbers or the lengths. The C interface has a parameter for each number and each slice.
 #[unsafe(no_mangle)]
 pub extern "C" fn margin_add(
     list: &mut [u8],
@@ -45,7 +45,7 @@ pub extern "C" fn margin_add(
     records::book(list, count, totals, head, Order::Add(trade), answer)
 }
 
-// Takes a trade from a book, in the same way.
+// Takes a trade from a book, in the same way. The C interface has a parameter for each number; what the two share is `records::book`.
 #[unsafe(no_mangle)]
 pub extern "C" fn margin_take(
     list: &mut [u8],
@@ -79,7 +79,7 @@ pub extern "C" fn margin_take(
     records::book(list, count, totals, head, Order::Take(trade), answer)
 }
 
-// Moves a book to a later date, in the same way: no record changes.
+// Moves a book to a later date, in the same way: no record changes. The C interface has a parameter for each number.
 #[unsafe(no_mangle)]
 pub extern "C" fn margin_move(
     list: &[u8],

@@ -1,37 +1,37 @@
 -- A change of a list: an entry put, entries moved up, or none. Assumes nothing.
-use mathlib.Core.Path.{◌≡◌, refl, sym, ap, ◌∙◌}
-use mathlib.Core.List.{List, [], ◌∷◌, ◌++◌, append_assoc}
-use Prim.Native.Nat.{ℕ, zero, suc, ◌+◌, ◌-◌, ◌≤◌}
+use mathlib.Core.Path.{◌≡◌, sym, ap, ◌∙◌}
+use mathlib.Core.List.{List, ◌++◌, append_assoc}
+use Prim.Native.Nat.{ℕ, suc, ◌+◌, ◌-◌, ◌≤◌, ◌<◌}
 use native.Mathlib.Omega.{arith}
-use lib.ListN.{length, take, drop, set, length-append, length-drop}
-use lib.Seq.{set_out, length-take-le, take-take, drop-drop}
+use lib.ListN.{length, take, drop, length-append, length-drop}
+use lib.Seq.{length-take-le, take-take, drop-drop}
+use Rattle.std.specs.List.{copy_within}
+use Rattle.std.proofs.lemmas.List.{drop-take}
 use Rattle.lists.specs.Tables.{front, overwrite}
-use Rattle.lists.proofs.Overwrite.{overwrite-none}
-use Rattle.booking.specs.Seeing.{moved_up, changed}
-use Rattle.booking.specs.Settling.{no_change}
+use Rattle.booking.specs.Seeing.{moved_up, changed, Fits}
+use Rattle.booking.specs.declared.Change.{TheVariants.Stay, TheVariants.Put, TheVariants.CloseUp}
 
 module _ {A : Type 0} where
-  take_none : (n : ℕ) → take {A = A} n [] ≡ []
-  take_none zero = refl
-  take_none (suc n) = refl
+  -- after a refusal
+  pub unchanged : (entry : ℕ → A) (xs : List A) → changed Stay entry xs ≡ xs
+  unfolding changed
+  unchanged entry xs = λ i. xs
 
-  drop-take : (k n : ℕ) (l : List A) → drop k (take (k + n) l) ≡ take n (drop k l)
-  drop-take zero n l = let same : 0 + n ≡ n = omega arith in ap (λ (m : ℕ). take m l) same
-  drop-take (suc k) n [] = ap (drop (suc k)) (take_none (suc k + n)) ∙ sym (take_none n)
-  drop-take (suc k) n (x ∷ l) =
-      let same : suc k + n ≡ suc (k + n) = omega arith in
-      ap (λ (m : ℕ). drop (suc k) (take m (x ∷ l))) same ∙ drop-take k n l
+  -- entries copied within their list are written over it
+  pub copied : (from end at : ℕ) (xs : List A) → from ≤ end → end ≤ length xs → copy_within xs from end at ≡ overwrite at (take (end - from) (drop from xs)) xs
+  unfolding overwrite front
+  copied from end at xs within high =
+      let part = take (end - from) (drop from xs) in
+      let long : length part ≡ end - from = length-take-le (end - from) (drop from xs) (omega (arith, length-drop from xs)) in
+      append_assoc (take at xs) part (drop (at + (end - from)) xs)
+      ∙ ap (λ (l : List A). take at xs ++ (part ++ l)) (ap (λ (m : ℕ). drop (at + m) xs) (sym long) ∙ sym (drop-drop (length part) at xs))
 
-  module _ (x : A) (xs : List A) where
-    -- an entry is put
-    pub put_only : (at value : ℕ) → changed (record { first = 1; end = 0; at = at; value = value }) x xs ≡ set xs at x
-    unfolding changed moved_up
-    put_only at value = ap (λ (l : List A). set l at x) (overwrite-none 0 xs)
+  -- so are entries that move up
+  pub moved_within : (first end : ℕ) (xs : List A) → first ≤ end → end ≤ length xs → copy_within xs first end (first - 1) ≡ moved_up first end xs
+  unfolding moved_up
+  moved_within first end xs within high = copied first end (first - 1) xs within high
 
-    -- past the end
-    pub unchanged : (room : ℕ) → length xs ≡ room → changed (no_change room) x xs ≡ xs
-    unchanged room e = put_only room 0 ∙ set_out xs room x (omega (arith, e))
-
+  module _ (xs : List A) where
     -- entries after a place move up: the list without it, and the entry behind the new end as it was
     module _ (rows : List A) (k rest : ℕ) (within : k + 1 + rest ≤ length xs) (e : rows ≡ take (k + 1 + rest) xs) where
       abbrev later : List A
@@ -64,16 +64,31 @@ module _ {A : Type 0} where
           ∙ ap (λ (m : ℕ). take k xs ++ later ++ drop m xs) (sym without-long)
           ∙ ap (λ (l : List A). l ++ drop (length l) xs) (sym without)
 
-      pub closes_up : (room value : ℕ) → length xs ≡ room
-          → changed (record { first = k + 1; end = k + 1 + rest; at = room; value = value }) x xs ≡ front (take k rows ++ drop (suc k) rows) xs
-      unfolding changed front
-      closes_up room value l =
-          ap (λ (ys : List A). set ys room x) moved
-          ∙ set_out (front (take k rows ++ drop (suc k) rows) xs) room x
-          (omega (
-            arith,
-            l,
-            length-append (take k rows ++ drop (suc k) rows) (drop (length (take k rows ++ drop (suc k) rows)) xs),
-            length-drop (length (take k rows ++ drop (suc k) rows)) xs,
-            ap (λ (ys : List A). length ys) without ∙ without-long,
-          ))
+      pub closes_up : (entry : ℕ → A) → changed (CloseUp (k + 1) (k + 1 + rest)) entry xs ≡ front (take k rows ++ drop (suc k) rows) xs
+      unfolding changed
+      closes_up entry = moved
+
+-- what a list has room for
+pub fits_none : {room : ℕ} → Fits room Stay
+fits_none = record {
+  put = λ at value e. absurd (cc);
+  from = λ first end e. absurd (cc);
+  moves = λ first end e. absurd (cc);
+  until = λ first end e. absurd (cc);
+}
+
+pub fits_put : {room at value : ℕ} → at < room → Fits room (Put at value)
+fits_put {room} {at} {value} h = record {
+  put = λ x y e. let same : at ≡ x = cc in rw (← same) h;
+  from = λ first end e. absurd (cc);
+  moves = λ first end e. absurd (cc);
+  until = λ first end e. absurd (cc);
+}
+
+pub fits_close : {room first end : ℕ} → 1 ≤ first → first ≤ end → end ≤ room → Fits room (CloseUp first end)
+fits_close {room} {first} {end} low within high = record {
+  put = λ at value e. absurd (cc);
+  from = λ x y e. let same : first ≡ x = cc in omega (arith, same);
+  moves = λ x y e. let same : first ≡ x = cc in let last : end ≡ y = cc in omega (arith, same, last);
+  until = λ x y e. let last : end ≡ y = cc in omega (arith, last);
+}

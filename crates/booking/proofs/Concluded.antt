@@ -1,6 +1,5 @@
 -- The outcome of an order, stage by stage: before the holdings, of them, of the totals, of the order. Assumes nothing.
 use mathlib.Core.Path.{◌≡◌, refl, sym, ap, subst, ◌∙◌}
-use mathlib.Core.Logic.{◌⊎◌, inl, inr, ⊎_elim}
 use mathlib.Core.Bool.{Bool, true, false, cond}
 use mathlib.Core.List.{List}
 use Prim.Native.Nat.{ℕ}
@@ -12,9 +11,11 @@ use borrow.Author.Tests.{ne_eqb}
 use Rattle.lists.specs.Choice.{same, first_of}
 use Rattle.lists.specs.Tables.{front}
 use Rattle.lists.proofs.Firsts.{Listed, first-append, first_of-none}
-use Rattle.lists.proofs.Entries.{same_true}
+use Rattle.lists.proofs.Entries.{eq_same, ne_same}
 use Rattle.lists.proofs.Tests.{either_way}
-use Rattle.dates.specs.Calendar.{is_date}
+use Rattle.std.specs.Prelude.{Result, Ok, Err}
+use Rattle.refusals.specs.{Refusals.number_of, declared.Refusal.Refusal, declared.Refusal.TheVariants.Booking}
+use Rattle.booking.proofs.Refusals.{has_number}
 use Rattle.holding.specs.Holding.{head_faults}
 use Rattle.holding.specs.declared.{Account.Account, Row.Row}
 use Rattle.holding.proofs.Heads.{head-listed}
@@ -22,17 +23,17 @@ use Rattle.article.specs.Answer.{Answer, make_answer}
 use Rattle.proposal.specs.Outcome.{at_place}
 use Rattle.proposal.proofs.{Places.first-at, Places.zero_at, Stages.refuses, Stages.passes, Clear.number}
 use Rattle.daybook.specs.Book.{totals_of, head_of, account_at, Book, make_book, holdings_in}
-use Rattle.daybook.specs.Orders.{lent_faults, rows_faults, totals_faults, from_totals, from_rows, faults}
+use Rattle.daybook.specs.Orders.{whole, lent_faults, rows_faults, totals_faults, from_totals, from_rows, faults}
 use Rattle.daybook.specs.Orders.{holdings_after, day_after, book_after, accepted_answer, outcome, accepted, booked}
-use Rattle.daybook.specs.declared.{Day.Day}
+use Rattle.daybook.specs.declared.{Day.Day, Refused.Refused}
 use Rattle.daybook.specs.declared.Order.{Order, TheVariants.Add, TheVariants.Take, TheVariants.MoveTo}
-use Rattle.booking.specs.Seeing.{trade_of, on_date, Counted, Seen, Known, Examined, Concluded}
-use Rattle.booking.specs.Settling.{refusal_of, settlement, Settles, Held, Traded, Tradable}
-use Rattle.booking.specs.declared.{Opening.Opening, Scan.Scan, Outcome.Outcome}
-use Rattle.booking.proofs.Changed.{unchanged}
-use Rattle.booking.proofs.Seen.{rows-numbered}
+use Rattle.booking.specs.Seeing.{trade_of, on_date, Opened, Opens, OpensLater, Counted, Seen, changed, Concluded}
+use Rattle.booking.specs.Settling.{outcome_by, settlement, Settles, Held, Traded, Tradable, Adds, Takes}
+use Rattle.booking.specs.declared.{Scan.Scan, Settled.Settled, Outcome.Outcome, Change.TheVariants.Stay}
+use Rattle.booking.proofs.Seen.{rows-numbered, counted}
+use Rattle.booking.proofs.Moved.{moving_refused, moving_matured, moving_on}
 
-module _ {short : Bool} {d : Day} {list : List Row} {o : Order} {opening : Opening} {scan moved : Scan} (e : Examined short (make_book d list) o opening scan moved) where
+module _ (short : Bool) (d : Day) (list : List Row) (o : Order Row) where
   abbrev b : Book
   b = make_book d list
 
@@ -43,74 +44,76 @@ module _ {short : Bool} {d : Day} {list : List Row} {o : Order} {opening : Openi
   rows = holdings_in b
 
   -- an answer that refuses
-  refused_so : {n k : ℕ} {r : Outcome} → outcome short b o ≡ make_answer n k 0 → (n ≡ 0 → ⊥) → r ≡ refusal_of d room n k → Concluded short b o r
-  unfolding booked accepted
-  refused_so {n} s other q =
-      let no : eqb (outcome short b o).number 0 ≡ false = ap (λ (a : Answer). eqb a.number 0) s ∙ ne_eqb n 0 other in
-      rw q (record { answer = sym s; day = rw no; list = rw no (unchanged _ list room refl) })
+  refused_so : {x : Refusal} {k : ℕ} → outcome short b o ≡ make_answer (number_of x) k 0 → Concluded short b o (outcome_by d (Err (record { refusal = x; place = k })))
+  unfolding booked accepted changed
+  refused_so {x} s =
+      let no : eqb (outcome short b o).number 0 ≡ false = ap (λ (a : Answer). eqb a.number 0) s ∙ ne_eqb (number_of x) 0 (has_number x) in
+      record { answer = sym s; day = rw no; list = rw no; stays = λ _. refl }
 
   lent-listed : Listed (lent_faults short room d)
   unfolding lent_faults head_faults
   lent-listed = (omega arith, (omega arith, head-listed (head_of d)))
 
   -- before the holdings
-  pub concluded-before : {r : Outcome} → (opening.number ≡ 0 → ⊥) → r ≡ refusal_of d room opening.number 0 → Concluded short b o r
+  pub concluded-before : {x : Refusal} → Opens short room d (Err x) → Concluded short b o (outcome_by d (Err (whole x)))
   unfolding outcome faults
-  concluded-before other q =
-      refused_so (first-append (at_place 0 (lent_faults short room d)) (from_rows room d rows o) _ ∙ first-at 0 (lent_faults short room d) _ e.opens.number other _) other q
+  concluded-before {x} opens =
+      refused_so
+      (first-append (at_place 0 (lent_faults short room d)) (from_rows room d rows o) _
+      ∙ first-at 0 (lent_faults short room d) _ opens.number (has_number x) _)
 
-  module _ (none : opening.number ≡ 0) where
+  module _ {a : Account} (opens : Opens short room d (Ok a)) where
+    opened : Opened room d a
+    opened = opens.opened a refl
+
     from_rows_lem : outcome short b o ≡ first_of (from_rows room d rows o) (accepted_answer rows o)
     unfolding outcome faults
     from_rows_lem =
         first-append (at_place 0 (lent_faults short room d)) (from_rows room d rows o) _
-        ∙ first_of-none (at_place 0 (lent_faults short room d)) _ (zero_at 0 (lent_faults short room d) lent-listed (sym e.opens.number ∙ none))
+        ∙ first_of-none (at_place 0 (lent_faults short room d)) _ (zero_at 0 (lent_faults short room d) lent-listed (sym opens.number))
 
-    rows_are : take opening.count list ≡ rows
+    seen-rows : {r : Result Scan Refused} → Seen a (trade_of o) (take d.count list) r → Seen (account_at d) (trade_of o) rows r
     unfolding holdings_in
-    rows_are = ap (λ (n : ℕ). take n list) (e.opens.count none)
-
-    seen-rows : Seen (account_at d) (trade_of o) rows scan
-    seen-rows =
-        subst (λ (x : Account). Seen x (trade_of o) rows scan) (e.opens.account none)
-        (subst (λ (l : List Row). Seen opening.account (trade_of o) l scan) rows_are e.seen)
+    seen-rows {r} seen = subst (λ (x : Account). Seen x (trade_of o) rows r) opened.account seen
 
     -- the first fault of a holding
-    pub concluded-row : {r : Outcome} → (scan.number ≡ 0 → ⊥) → r ≡ refusal_of d room scan.number scan.place → Concluded short b o r
-    concluded-row other q =
-        refused_so (refuses (outcome short b o) (rows_faults (account_at d) rows) (from_totals room d rows o) (accepted_answer rows o) from_rows_lem _ seen-rows.fault other) other q
+    pub concluded-row : {x : Refused} → Seen a (trade_of o) (take d.count list) (Err x) → Concluded short b o (outcome_by d (Err x))
+    concluded-row {x} seen =
+        refused_so (refuses (outcome short b o) (rows_faults (account_at d) rows) (from_totals room d rows o) (accepted_answer rows o) from_rows_lem _ (seen-rows seen).fault
+        (has_number x.refusal))
 
-    module _ (clear : scan.number ≡ 0) where
+    module _ {scan : Scan} (seen : Seen a (trade_of o) (take d.count list) (Ok scan)) where
+      counted-rows : Counted (account_at d) (trade_of o) rows scan
+      counted-rows = counted (seen-rows seen)
+
       from-totals : outcome short b o ≡ first_of (from_totals room d rows o) (accepted_answer rows o)
       from-totals =
-          passes (outcome short b o) (rows_faults (account_at d) rows) (from_totals room d rows o) (accepted_answer rows o) from_rows_lem _ seen-rows.fault (rows-numbered (account_at d) rows) clear
-
-      totals-seen : scan.totals ≡ totals_of (account_at d) rows
-      totals-seen = (seen-rows.clear clear).totals
+          passes (outcome short b o) (rows_faults (account_at d) rows) (from_totals room d rows o) (accepted_answer rows o) from_rows_lem _ (seen-rows seen).fault
+          (rows-numbered (account_at d) rows) refl
 
       -- stored totals that are off
-      pub concluded-totals : {r : Outcome} → same d.totals scan.totals ≡ false → r ≡ refusal_of d room 27 0 → Concluded short b o r
+      pub concluded-totals : (d.totals ≡ scan.totals → ⊥) → Concluded short b o (outcome_by d (Err (whole Booking)))
       unfolding totals_faults at_place first_of
-      concluded-totals off q =
-          let differ : same d.totals (totals_of (account_at d) rows) ≡ false = ap (same d.totals) (sym totals-seen) ∙ off in
-          refused_so (from-totals ∙ rw differ) (λ z. omega arith) q
+      concluded-totals off =
+          let differ : same d.totals (totals_of (account_at d) rows) ≡ false = ap (same d.totals) (sym counted-rows.totals) ∙ ne_same d.totals scan.totals off in
+          refused_so (from-totals ∙ rw differ)
 
-      module _ (right : same d.totals scan.totals ≡ true) where
+      module _ (right : d.totals ≡ scan.totals) where
         settled-answer : outcome short b o ≡ settlement d room rows o
         unfolding totals_faults at_place first_of settlement
         settled-answer =
-            let equal : same d.totals (totals_of (account_at d) rows) ≡ true = ap (same d.totals) (sym totals-seen) ∙ right in
+            let equal : same d.totals (totals_of (account_at d) rows) ≡ true = eq_same d.totals (totals_of (account_at d) rows) (right ∙ counted-rows.totals) in
             from-totals ∙ rw equal
 
         rows_long : length rows ≡ d.count
         unfolding holdings_in
-        rows_long = length-take-le d.count list (omega (arith, e.opens.within, e.opens.count none))
+        rows_long = length-take-le d.count list opened.within
 
         held : Held d room rows
         held = record {
           count = rows_long;
-          within = omega (arith, rows_long, e.opens.within, e.opens.count none);
-          clear = sym (ap number seen-rows.fault) ∙ clear;
+          within = omega (arith, rows_long, opened.within);
+          clear = sym (ap number (seen-rows seen).fault);
         }
 
         -- the order decides
@@ -120,6 +123,7 @@ module _ {short : Bool} {d : Day} {list : List Row} {o : Order} {opening : Openi
           answer = s.answer ∙ sym settled-answer;
           day = s.day ∙ by-day;
           list = s.list list refl (ap (λ (n : ℕ). take n list) rows_long) ∙ by-list;
+          stays = λ other. s.stays (λ z. other (ap number settled-answer ∙ z));
         }
           where
             test : eqb (settlement d room rows o).number 0 ≡ eqb (outcome short b o).number 0
@@ -132,45 +136,51 @@ module _ {short : Bool} {d : Day} {list : List Row} {o : Order} {opening : Openi
             by-list = either_way (eqb (outcome short b o).number 0) (λ t. rw (test, t)) (λ f. rw (test, f))
 
         module _ {t : Row} where
-          counted-for : (o ≡ Add t) ⊎ (o ≡ Take t) → Counted (account_at d) t rows scan
+          traded : trade_of o ≡ t → Traded d room t scan rows
+          traded p = record { held = held; counted = subst (λ (x : Row). Counted (account_at d) x rows scan) p counted-rows; totals = right }
+
+          pub concluded-adding : {r : Result Settled Refused} → o ≡ Add t → Adds d room scan a t r → Concluded short b o (outcome_by d r)
           unfolding trade_of
-          counted-for (inl p) = subst (λ (x : Order). Counted (account_at d) (trade_of x) rows scan) p (seen-rows.clear clear)
-          counted-for (inr p) = subst (λ (x : Order). Counted (account_at d) (trade_of x) rows scan) p (seen-rows.clear clear)
+          concluded-adding {r} p adds =
+              concluded-so (subst (λ (x : Order Row). Settles d room rows x (outcome_by d r)) (sym p) (adds.settled opened.account rows (traded (ap trade_of p))))
 
-          traded : (o ≡ Add t) ⊎ (o ≡ Take t) → Traded d room t scan rows
-          traded p = record { held = held; counted = counted-for p; totals = same_true d.totals scan.totals right }
+          pub concluded-taking : {r : Result Settled Refused} → o ≡ Take t → Takes d scan a t r → Concluded short b o (outcome_by d r)
+          unfolding trade_of
+          concluded-taking {r} p takes =
+              concluded-so (subst (λ (x : Order Row). Settles d room rows x (outcome_by d r)) (sym p) (takes.settled opened.account room rows (traded (ap trade_of p))))
 
-          pub concluded-adding : {r : Outcome} → o ≡ Add t → ((rows : List Row) → Traded d room t scan rows → Settles d room rows (Add t) r) → Concluded short b o r
-          concluded-adding {r} p s = concluded-so (subst (λ (x : Order). Settles d room rows x r) (sym p) (s rows (traded (inl p))))
+        module _ {to : ℕ} (p : o ≡ MoveTo to) where
+          moves : {r : Outcome} → Settles d room rows (MoveTo to) r → Concluded short b o r
+          moves {r} s = concluded-so (subst (λ (x : Order Row). Settles d room rows x r) (sym p) s)
 
-          pub concluded-taking : {r : Outcome} → o ≡ Take t → ((rows : List Row) → Traded d room t scan rows → Settles d room rows (Take t) r) → Concluded short b o r
-          concluded-taking {r} p s = concluded-so (subst (λ (x : Order). Settles d room rows x r) (sym p) (s rows (traded (inr p))))
+          pub concluded-undated : {x : Refusal} → OpensLater d a to (Err x) → Concluded short b o (outcome_by d (Err (whole x)))
+          concluded-undated later = moves (moving_refused held to later.number)
 
-        seen-again : {to : ℕ} → o ≡ MoveTo to → is_date to ≡ true → Seen (on_date to (account_at d)) (trade_of (MoveTo to)) rows moved
-        seen-again {to} p v =
-            subst (λ (x : Order). Seen (on_date to (account_at d)) (trade_of x) rows moved) p
-            (subst (λ (x : Account). Seen (on_date to x) (trade_of o) rows moved) (e.opens.account none)
-            (subst (λ (l : List Row). Seen (on_date to opening.account) (trade_of o) l moved) rows_are (e.again to p v)))
+          module _ {then : Account} (later : OpensLater d a to (Ok then)) where
+            seen-again : {t : Row} {r : Result Scan Refused} → Seen then t (take d.count list) r → Seen (on_date to (account_at d)) t rows r
+            unfolding holdings_in
+            seen-again {t} {r} again = subst (λ (x : Account). Seen x t rows r) (later.account then refl ∙ ap (on_date to) opened.account) again
 
-        pub concluded_moving : {to : ℕ} {r : Outcome} → o ≡ MoveTo to
-            → ((rows : List Row) → Held d room rows → (is_date to ≡ true → Seen (on_date to (account_at d)) (trade_of (MoveTo to)) rows moved) → Settles d room rows (MoveTo to) r)
-            → Concluded short b o r
-        concluded_moving {to} {r} p s = concluded-so (subst (λ (x : Order). Settles d room rows x r) (sym p) (s rows held (seen-again p)))
+            pub concluded-matured : {t : Row} {x : Refused} → Seen then t (take d.count list) (Err x) → Concluded short b o (outcome_by d (Err x))
+            concluded-matured again = moves (moving_matured held to later.number (seen-again again))
 
--- what was seen without fault serves a trade
-module _ {d : Day} {room : ℕ} {o : Order} {opening : Opening} {scan : Scan} (known : Known d room o opening scan) where
-  pub known-trade : {t : Row} → (o ≡ Add t) ⊎ (o ≡ Take t) → opening.number ≡ 0 → scan.number ≡ 0 → same d.totals scan.totals ≡ true
-      → Tradable d scan opening.account t
-  unfolding trade_of
-  known-trade {t} p none clear right = record {
-    rows = known.rows;
-    few = known.few;
-    count = known.count none;
-    valued = known.valued;
-    clear = sym (ap number known.seen.fault) ∙ clear;
-    counted =
-        ⊎_elim
-        (λ q. subst (λ (x : Order). Counted opening.account (trade_of x) known.rows scan) q (known.seen.clear clear))
-        (λ q. subst (λ (x : Order). Counted opening.account (trade_of x) known.rows scan) q (known.seen.clear clear)) p;
-    totals = same_true d.totals scan.totals right;
-  }
+            pub concluded_moving : {t : Row} {moved : Scan} → Seen then t (take d.count list) (Ok moved)
+                → Concluded short b o (outcome_by d (Ok (record {
+                  day = record { date = to; letter = d.letter; count = d.count; totals = moved.totals };
+                  change = Stay;
+                })))
+            concluded_moving again = moves (moving_on held to later.number (seen-again again))
+
+      -- what was seen without fault serves a trade
+      pub known-trade : {t : Row} → trade_of o ≡ t → d.totals ≡ scan.totals → Tradable d scan a t
+      known-trade {t} p right =
+          let long : length (take d.count list) ≡ d.count = length-take-le d.count list opened.within in
+          record {
+            rows = take d.count list;
+            few = omega (arith, long, opened.few);
+            count = long;
+            valued = opened.valued;
+            clear = sym (ap number seen.fault);
+            counted = subst (λ (x : Row). Counted a x (take d.count list) scan) p (counted seen);
+            totals = right;
+          }

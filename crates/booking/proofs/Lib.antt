@@ -1,10 +1,13 @@
+pub mod Refusals
 pub mod Tested
 pub mod Rows
 pub mod Seen
 pub mod Opened
 pub mod Found
 pub mod Changed
-pub mod Settled
+pub mod Settling
 pub mod Moved
 pub mod Tradable
 pub mod Concluded
+pub mod Scanned
+pub mod Judged

@@ -7,31 +7,32 @@ use Prim.Native.Nat.{ℕ, zero, suc, ◌+◌, ◌≤◌, ◌<◌}
 use native.Mathlib.Omega.{arith}
 use lib.Dec.{leb}
 use lib.ListN.{length, get_or}
-use borrow.Author.Tests.{leb-true, leb-false, lt-leb, le-leb}
+use borrow.Author.Tests.{leb-true, leb-false}
 use Rattle.lists.specs.Choice.{first_of}
 use Rattle.lists.specs.Tables.{Each, turns, in_turn, front}
 use Rattle.lists.proofs.Entries.{each_at}
-use Rattle.lists.proofs.Firsts.{first-append, first_of-none, first-refused, none_first}
+use Rattle.lists.proofs.Firsts.{None, first-append, first_of-none, first-refused, none_first}
 use Rattle.lists.proofs.Tests.{either_way}
-use Rattle.dates.specs.Calendar.{is_date}
+use Rattle.std.specs.Prelude.{Ok, Err}
+use Rattle.refusals.specs.{Refusals.number_of, declared.Refusal.Refusal}
+use Rattle.booking.proofs.Refusals.{has_number}
 use Rattle.dates.proofs.Anniversaries.{anniversary-follows}
 use Rattle.holding.specs.Holding.{fault_of, row_faults, Ranges, account_of}
 use Rattle.holding.specs.declared.{Account.Account, Row.Row}
 use Rattle.holding.proofs.Ranges.{fault-none, none_fault, row_listed, row-refused}
 use Rattle.article.specs.Answer.{Answer, make_answer}
 use Rattle.proposal.specs.{Submission.no_row, Outcome.at_place}
-use Rattle.proposal.proofs.{Places.first-at, Places.zero_at, Clear.number}
+use Rattle.proposal.proofs.{Places.first-at, Places.none-at, Places.zero_at, Clear.number}
 use Rattle.daybook.specs.Book.{head_of, account_at}
-use Rattle.daybook.specs.Orders.{at_row, rows_faults, date_faults, at_matured, matured_faults, order_faults, holdings_after, date_after, stored, day_after, accepted_answer}
-use Rattle.daybook.specs.declared.Day.{Day}
+use Rattle.daybook.specs.Orders.{whole, at_row, rows_faults, date_faults, at_matured, matured_faults, order_faults, holdings_after, date_after, stored, day_after, accepted_answer}
+use Rattle.daybook.specs.declared.{Day.Day, Refused.Refused}
 use Rattle.daybook.specs.declared.Order.{TheVariants.MoveTo}
 use Rattle.daybook.proofs.Written.{front_same}
-use Rattle.booking.specs.Seeing.{on_date, Seen}
-use Rattle.booking.specs.Settling.{no_change, refusal_of, acceptance_of, settlement, Settles, Held}
-use Rattle.booking.specs.declared.{Scan.Scan, Outcome.Outcome}
-use Rattle.booking.proofs.Changed.{unchanged}
-use Rattle.booking.proofs.Seen.{rows-clear, rows-numbered}
-use Rattle.booking.proofs.Settled.{settles_refused, settles_accepted}
+use Rattle.booking.specs.Seeing.{on_date, Seen, changed}
+use Rattle.booking.specs.Settling.{outcome_by, settlement, Settles, Held}
+use Rattle.booking.specs.declared.{Scan.Scan, Change.TheVariants.Stay}
+use Rattle.booking.proofs.Seen.{rows-clear, rows-numbered, counted}
+use Rattle.booking.proofs.Settling.{settles_refused, settles_accepted}
 
 -- lists in turn whose firsts are the same, whatever follows
 turns-first : (f g : ℕ → List (Bool × Answer)) (i k : ℕ) → ((m : ℕ) → m < i + k → (w : Answer) → first_of (f m) w ≡ first_of (g m) w)
@@ -89,49 +90,58 @@ module _ (a : Account) (to : ℕ) (later : a.date < to) where
       turns-first (at_row then rows) (at_matured rows to) 0 (length rows)
       (λ m q w. first_of_lem (get_or rows m no_row) m (each_at (λ r. fault_of a r ≡ 0) no_row rows h m (omega arith)) w) z
 
-module _ {d : Day} {room to : ℕ} {rows : List Row} (held : Held d room rows) where
-  -- no date
-  pub moving_unreal : {r : Outcome} → is_date to ≡ false → r ≡ refusal_of d room 24 0 → Settles d room rows (MoveTo to) r
-  unfolding settlement order_faults date_faults at_place first_of
-  moving_unreal e q = settles_refused q (λ z. omega arith) (rw e)
+module _ {d : Day} {room : ℕ} {rows : List Row} (held : Held d room rows) (to : ℕ) where
+  -- to no date, or to none that is later
+  pub moving_refused : {x : Refusal} → number_of x ≡ first_of (date_faults d.date to) 0 → Settles d room rows (MoveTo to) (outcome_by d (Err (whole x)))
+  unfolding settlement order_faults
+  moving_refused {x} e =
+      settles_refused
+      (first-append (at_place 0 (date_faults d.date to)) (matured_faults rows to) _
+      ∙ first-at 0 (date_faults d.date to) (number_of x) e (has_number x) _)
 
-  module _ (real : is_date to ≡ true) where
-    -- not later
-    pub moving_back : {r : Outcome} → to ≤ d.date → r ≡ refusal_of d room 27 0 → Settles d room rows (MoveTo to) r
-    unfolding settlement order_faults date_faults at_place first_of
-    moving_back h q = settles_refused q (λ z. omega arith) (rw (real, le-leb to d.date h))
+  module _ (none : 0 ≡ first_of (date_faults d.date to) 0) where
+    unrefused : None (date_faults d.date to)
+    unfolding date_faults
+    unrefused = (none_first (λ (n : ℕ). n) (date_faults d.date to) 0 (omega arith, (omega arith, tt)) (sym none)).0
 
-    module _ (later : d.date < to) where
-      from-matured : (z : Answer) → first_of (order_faults room d rows (MoveTo to)) z ≡ first_of (matured_faults rows to) z
-      unfolding order_faults date_faults at_place first_of
-      from-matured z = rw (real, lt-leb to d.date later)
+    later : d.date < to
+    unfolding date_faults
+    later = leb-false to d.date unrefused.1.0
 
-      account-later : (account_at d).date < to
-      unfolding account_at account_of head_of
-      account-later = later
+    from-matured : (z : Answer) → first_of (order_faults room d rows (MoveTo to)) z ≡ first_of (matured_faults rows to) z
+    unfolding order_faults
+    from-matured z =
+        first-append (at_place 0 (date_faults d.date to)) (matured_faults rows to) z
+        ∙ first_of-none (at_place 0 (date_faults d.date to)) _ (none-at 0 (date_faults d.date to) unrefused)
 
-      same_first : (z : Answer) → first_of (rows_faults (on_date to (account_at d)) rows) z ≡ first_of (matured_faults rows to) z
-      same_first z = first-matured (account_at d) to account-later rows (rows-clear (account_at d) rows held.clear) z
+    account-later : (account_at d).date < to
+    unfolding account_at account_of head_of
+    account-later = later
 
-      module _ {t : Row} {moved : Scan} (seen : Seen (on_date to (account_at d)) t rows moved) where
-        -- matured by then
-        pub moving_matured : {r : Outcome} → (moved.number ≡ 0 → ⊥) → r ≡ refusal_of d room moved.number moved.place → Settles d room rows (MoveTo to) r
-        unfolding settlement
-        moving_matured other q =
-            settles_refused q other
-            (from-matured _ ∙ sym (same_first _)
-            ∙ first-refused number (rows_faults (on_date to (account_at d)) rows) (make_answer 0 0 0) (accepted_answer rows (MoveTo to)) refl (λ z. other (ap number seen.fault ∙ z))
-            ∙ sym seen.fault)
+    same_first : (z : Answer) → first_of (rows_faults (on_date to (account_at d)) rows) z ≡ first_of (matured_faults rows to) z
+    same_first z = first-matured (account_at d) to account-later rows (rows-clear (account_at d) rows held.clear) z
 
-        -- none has
-        pub moving_on : {r : Outcome} → moved.number ≡ 0
-            → r ≡ acceptance_of (record { date = to; letter = d.letter; count = d.count; totals = moved.totals }) (no_change room)
-            → Settles d room rows (MoveTo to) r
-        unfolding settlement day_after date_after holdings_after stored account_at account_of head_of on_date
-        moving_on e q =
-            settles_accepted q
-            (from-matured _ ∙ sym (same_first _)
-            ∙ first_of-none (rows_faults (on_date to (account_at d)) rows) _ (none_first number (rows_faults (on_date to (account_at d)) rows) (make_answer 0 0 0)
-            (rows-numbered (on_date to (account_at d)) rows) (sym (ap number seen.fault) ∙ e)).0)
-            (λ i. record { date = to; letter = d.letter; count = sym held.count i; totals = (seen.clear e).totals i })
-            (λ xs l k. unchanged _ xs room l ∙ sym (ap (λ (ys : List Row). front ys xs) (sym k) ∙ front_same (length rows) xs (omega (arith, l, held.within))))
+    -- matured by then
+    pub moving_matured : {t : Row} {x : Refused} → Seen (on_date to (account_at d)) t rows (Err x) → Settles d room rows (MoveTo to) (outcome_by d (Err x))
+    unfolding settlement
+    moving_matured {t} {x} seen =
+        settles_refused
+        (from-matured _ ∙ sym (same_first _)
+        ∙ first-refused number (rows_faults (on_date to (account_at d)) rows) (make_answer 0 0 0) (accepted_answer rows (MoveTo to)) refl
+        (λ z. has_number x.refusal (ap number seen.fault ∙ z))
+        ∙ sym seen.fault)
+
+    -- none has
+    pub moving_on : {t : Row} {moved : Scan} → Seen (on_date to (account_at d)) t rows (Ok moved)
+        → Settles d room rows (MoveTo to) (outcome_by d (Ok (record {
+          day = record { date = to; letter = d.letter; count = d.count; totals = moved.totals };
+          change = Stay;
+        })))
+    unfolding settlement day_after date_after holdings_after stored account_at account_of head_of on_date changed
+    moving_on {t} {moved} seen =
+        settles_accepted
+        (from-matured _ ∙ sym (same_first _)
+        ∙ first_of-none (rows_faults (on_date to (account_at d)) rows) _ (none_first number (rows_faults (on_date to (account_at d)) rows) (make_answer 0 0 0)
+        (rows-numbered (on_date to (account_at d)) rows) (sym (ap number seen.fault))).0)
+        (λ i. record { date = to; letter = d.letter; count = sym held.count i; totals = (counted seen).totals i })
+        (λ xs l k. sym (ap (λ (ys : List Row). front ys xs) (sym k) ∙ front_same (length rows) xs (omega (arith, l, held.within))))

@@ -13,8 +13,10 @@ use Rattle.lists.proofs.Tests.{by-test, by_end, same_or_not}
 use Rattle.lists.proofs.Tables.{length_to, get_or-to}
 use Rattle.lists.proofs.Sums.{sum_of-more, only_same, only-other}
 use Rattle.dates.specs.Calendar.{is_date}
+use Rattle.std.specs.Prelude.{Result, Ok}
+use Rattle.refusals.specs.declared.Refusal.{Refusal}
 use Rattle.holding.specs.Holding.{row_faults, fault_of, holding_of, Builds}
-use Rattle.holding.specs.declared.{Account.Account, Row.Row, Holding.Holding, Built.Built, Built.TheVariants.Made}
+use Rattle.holding.specs.declared.{Account.Account, Row.Row, Holding.Holding}
 use Rattle.holding.proofs.Ranges.{fault-none, in_range}
 use Rattle.holding.proofs.Rows.{made_row}
 use Rattle.rates.specs.Rate.{period_of, rate_of}
@@ -153,7 +155,7 @@ module _ (a : Account) where
         (λ k q. rw (get_or-eq_default (totals_of a rows) 0 {n = k} (omega (arith, length_to 5 (λ k. total_of a rows (suc k))))) (omega arith))
 
 -- the record that a row made, by its rate and its period
-module _ {a : Account} {r : Row} {b : Built} {h : Holding} (p : Builds a r b) (e : b ≡ Made h) where
+module _ {a : Account} {r : Row} {b : Result Holding Refusal} {h : Holding} (p : Builds a r b) (e : b ≡ Ok h) where
   pub made-margin : {rate : ℕ} → rate ≡ rate_of a h → rate * h.value ≡ margin_of a r
   unfolding margin_of holding_of
   made-margin s = rw (s, (made_row p e).2)

@@ -1,17 +1,13 @@
 -- Tests that code makes entry by entry, as the definitions make them of lists; and what refuses an added value. Assumes nothing.
-use mathlib.Core.Path.{◌≡◌, refl, ap, ◌∙◌}
+use mathlib.Core.Path.{◌≡◌, refl}
 use mathlib.Core.Bool.{Bool, true, false, ◌&&◌}
-use mathlib.Core.List.{List}
 use Prim.Native.Nat.{ℕ, ◌+◌, ◌≤◌, ◌<◌}
 use native.Mathlib.Omega.{arith}
 use lib.Dec.{eqb}
-use lib.ListN.{length, get_or}
 use borrow.Author.Tests.{lt-leb, le-leb, leb-false, not-false}
 use Rattle.lists.specs.Choice.{same, first_of, within}
-use Rattle.lists.specs.Tables.{list_to}
 use Rattle.lists.proofs.Firsts.{None, Listed, none_first}
 use Rattle.lists.proofs.Tests.{within_true, true_within, none_out, above-out, neither}
-use Rattle.lists.proofs.Tables.{to_back}
 use Rattle.holding.specs.declared.Row.{Row}
 use Rattle.daybook.specs.Book.{description_of, alike}
 use Rattle.daybook.specs.Orders.{sum_faults}
@@ -28,18 +24,6 @@ five false b c d e = refl
 six : (a b c d e f : Bool) → (((((a && b) && c) && d) && e) && f) ≡ (a && (b && (c && (d && (e && (f && true))))))
 six true b c d e f = five b c d e f
 six false b c d e f = refl
-
--- lists of five numbers
-module _ (xs ys : List ℕ) where
-  abbrev at : ℕ → Bool
-  at k = eqb (get_or xs k 0) (get_or ys k 0)
-
-  pub same-five : length xs ≡ 5 → length ys ≡ 5 → ((((at 0 && at 1) && at 2) && at 3) && at 4) ≡ same xs ys
-  unfolding same list_to
-  same-five h k =
-      five (at 0) (at 1) (at 2) (at 3) (at 4)
-      ∙ ap (λ (l : List ℕ). same l (list_to 5 (λ i. get_or ys i 0))) (to_back 5 xs 0 h)
-      ∙ ap (same xs) (to_back 5 ys 0 k)
 
 -- rows, by the six numbers of a description
 module _ (r t : Row) where
@@ -110,10 +94,6 @@ module _ (held value : ℕ) (joins : Bool) (count room : ℕ) where
     adds-sum = (within_true 1 100000000000 (held + value) both_within.1).1
 
     module _ (j : joins ≡ true) where
-      pub adds-few : count < 256
-      unfolding adding_faults sum_faults
-      adds-few = leb-false 256 count (rw j at unrefused.1.0)
-
       pub adds-room : count < room
       unfolding adding_faults sum_faults
       adds-room = leb-false room count (rw j at unrefused.1.1.0)

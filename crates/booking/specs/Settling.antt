@@ -1,8 +1,9 @@
 -- An order to a book that was seen without fault: what the parts of the core promise of it. Assumes nothing.
 use mathlib.Core.{Path.◌≡◌, Bool.Bool, Bool.cond, Bool.◌&&◌, Bool.true, List.List, List.[], List.◌∷◌, List.◌++◌}
-use Rattle.std.specs.Prelude.{ℕ, suc, ◌*◌, ◌≤◌, ◌<◌}
+use Rattle.std.specs.Prelude.{ℕ, suc, ◌*◌, ◌≤◌, ◌<◌, Result, Ok, Err}
 use lib.{Dec.leb, Dec.eqb, ListN.length, ListN.get_or, ListN.take}
 use Rattle.lists.specs.{Choice.first_of, Tables.front}
+use Rattle.refusals.specs.{Refusals.refused_by, declared.Refusal.Refusal}
 use Rattle.dates.specs.Calendar.{is_date}
 use Rattle.holding.specs.Holding.{holding_of}
 use Rattle.holding.specs.declared.{Account.Account, Row.Row}
@@ -14,35 +15,22 @@ use Rattle.proposal.specs.Outcome.{first_fault}
 use Rattle.daybook.specs.Book.{valued, account_at}
 use Rattle.daybook.specs.Orders.{answer_of, rows_faults, sum_faults, order_faults, holdings_after, day_after, accepted_answer, description_faults}
 use Rattle.daybook.specs.declared.{Day.Day}
-use Rattle.daybook.specs.declared.Order.{Order, TheVariants.Add, TheVariants.Take, TheVariants.MoveTo}
-use Rattle.daybook.specs.declared.Finding.{TheVariants.Done, TheVariants.Refused}
-use Rattle.booking.specs.Seeing.{trade_of, on_date, Counted, Seen, changed, Fits}
-use Rattle.booking.specs.declared.{Opening.Opening, Scan.Scan, Change.Change, Outcome.Outcome}
+use Rattle.daybook.specs.declared.Order.{Order, TheVariants.Add, TheVariants.Take}
+use Rattle.daybook.specs.declared.Refused.{Refused}
+use Rattle.booking.specs.Seeing.{trade_of, Counted, changed, Fits}
+use Rattle.booking.specs.declared.{Scan.Scan, AtRate.AtRate, Settled.Settled, Outcome.Outcome, Change.TheVariants.Stay}
 
--- nothing is to be seen, after a refusal of this number
-pub record Closed (number : ℕ) (r : Opening) : Type 0 where
-  pub found : r.number ≡ number
-  pub none : r.count ≡ 0
-  pub valued : is_date r.account.date ≡ true
-
--- no entry of a list of so many is changed
-abbrev pub no_change : ℕ → Change
-no_change room = record { first = 1; end = 0; at = room; value = 0 }
-
--- refused with number and place, all else as it was
-abbrev pub refusal_of : Day → ℕ → ℕ → ℕ → Outcome
-refusal_of d room number place = record { reply = record { finding = Refused number place; day = d }; change = no_change room }
-
--- accepted with the count that is then stored
-abbrev pub acceptance_of : Day → Change → Outcome
-acceptance_of d c = record { reply = record { finding = Done d.count; day = d }; change = c }
+-- the outcome of what is settled: accepted with the count that is then stored, or refused with all else as it was
+abbrev pub outcome_by : Day → Result Settled Refused → Outcome
+outcome_by d (Ok s) = record { reply = record { finding = Ok s.day.count; day = s.day }; change = s.change }
+outcome_by d (Err x) = record { reply = record { finding = Err x; day = d }; change = Stay }
 
 -- what refuses a value added to so much: 8, and where it joins so many 3 and 2
 unfoldable pub adding_faults : ℕ → ℕ → Bool → ℕ → ℕ → List (Bool × ℕ)
 adding_faults held value joins count room = sum_faults held value ++ ((joins && leb 256 count, 3) ∷ (joins && leb room count, 2) ∷ [])
 
 -- an order to so many holdings settled: the answer, what is then stored, and the list
-module _ (d : Day) (room : ℕ) (rows : List Row) (o : Order) where
+module _ (d : Day) (room : ℕ) (rows : List Row) (o : Order Row) where
   unfoldable pub settlement : Answer
   settlement = first_of (order_faults room d rows o) (accepted_answer rows o)
 
@@ -50,7 +38,8 @@ module _ (d : Day) (room : ℕ) (rows : List Row) (o : Order) where
     pub answer : answer_of r.reply.finding ≡ settlement
     pub day : r.reply.day ≡ cond (eqb settlement.number 0) (day_after d rows o) d
     pub list : (xs : List Row) → length xs ≡ room → take (length rows) xs ≡ rows
-        → changed r.change (valued (trade_of o) r.change.value) xs ≡ cond (eqb settlement.number 0) (front (holdings_after o rows) xs) xs
+        → changed r.change (valued (trade_of o)) xs ≡ cond (eqb settlement.number 0) (front (holdings_after o rows) xs) xs
+    pub stays : (settlement.number ≡ 0 → ⊥) → r.change ≡ Stay
 
 -- holdings without fault that are all of a book in a list of so many entries, with the totals that are stored
 pub record Held (d : Day) (room : ℕ) (rows : List Row) : Type 0 where
@@ -83,19 +72,11 @@ pub record Lowerable (d : Day) (s : Scan) (p rate : ℕ) : Type 0 where
   pub enough : rate * s.held ≤ get_or d.totals p 0
   pub there : 1 ≤ s.held → s.at < d.count
 
--- an adding and a taking are settled, whatever rows have these numbers
-pub record Adds (d : Day) (room : ℕ) (s : Scan) (t : Row) (p rate : ℕ) (r : Outcome) : Type 0 where
-  pub fits : Fits room r.change
-  pub settled : (rows : List Row) → Traded d room t s rows → Rated (account_at d) t p rate → Settles d room rows (Add t) r
-
-pub record Takes (d : Day) (room : ℕ) (s : Scan) (t : Row) (p rate : ℕ) (r : Outcome) : Type 0 where
-  pub fits : d.count ≤ room → Fits room r.change
-  pub settled : (rows : List Row) → Traded d room t s rows → Rated (account_at d) t p rate → Settles d room rows (Take t) r
-
--- a move, of rows that were seen once more
-pub record Moves (d : Day) (room to : ℕ) (moved : Scan) (r : Outcome) : Type 0 where
-  pub fits : Fits room r.change
-  pub settled : (rows : List Row) → Held d room rows → (is_date to ≡ true → Seen (on_date to (account_at d)) (trade_of (MoveTo to)) rows moved) → Settles d room rows (MoveTo to) r
+-- a trade: its description's first fault, or its place among the totals and its rate
+pub record Rates (a : Account) (t : Row) (r : Result AtRate Refusal) : Type 0 where
+  pub number : refused_by r ≡ first_of (description_faults a t) 0
+  pub place : (p : AtRate) → r ≡ Ok p → p.place < 5
+  pub rated : (p : AtRate) → r ≡ Ok p → Rated a t p.place p.rate
 
 -- what a trade asks of totals that were counted: rows of which they were
 pub record Tradable (d : Day) (s : Scan) (a : Account) (t : Row) : Type 0 where
@@ -107,10 +88,11 @@ pub record Tradable (d : Day) (s : Scan) (a : Account) (t : Row) : Type 0 where
   pub counted : Counted a t rows s
   pub totals : d.totals ≡ s.totals
 
--- an order to add or to take
-unfoldable pub trade_order : Bool → Row → Order
-trade_order adds t = cond adds (Add t) (Take t)
+-- an adding and a taking are settled, whatever rows have these numbers
+pub record Adds (d : Day) (room : ℕ) (s : Scan) (a : Account) (t : Row) (r : Result Settled Refused) : Type 0 where
+  pub fits : d.count ≤ room → Fits room (outcome_by d r).change
+  pub settled : a ≡ account_at d → (rows : List Row) → Traded d room t s rows → Settles d room rows (Add t) (outcome_by d r)
 
-pub record Trades (d : Day) (room : ℕ) (s : Scan) (a : Account) (t : Row) (adds : Bool) (r : Outcome) : Type 0 where
-  pub fits : d.count ≤ room → Fits room r.change
-  pub settled : a ≡ account_at d → (rows : List Row) → Traded d room t s rows → Settles d room rows (trade_order adds t) r
+pub record Takes (d : Day) (s : Scan) (a : Account) (t : Row) (r : Result Settled Refused) : Type 0 where
+  pub fits : (room : ℕ) → d.count ≤ room → Fits room (outcome_by d r).change
+  pub settled : a ≡ account_at d → (room : ℕ) (rows : List Row) → Traded d room t s rows → Settles d room rows (Take t) (outcome_by d r)

@@ -2,36 +2,36 @@
 // A case is two eight-byte little-endian numbers, the bytes of the title and of the text, then the title, then the text.
 #![tactic(auto)]
 
-ghost use Rattle.std.specs.Prelude.{◌≡◌, ◌+◌, ◌≤◌, length, take};
-ghost use Rattle.reader.specs.File.{file_limit};
-ghost use Rattle.report.specs.Report.{report_room};
+ghost use Rattle.std.specs.Prelude.{◌≤◌, length};
 
-use report::Printed;
 use std::io;
 use std::io::Read;
 
-// Room for a text of one byte more than a file may have, and for a title.
-fn text_buffer() -> [u8; reader::LIMIT + 1]
-    ensures { file_limit + 1 ≡ length result }
-{
-    [0; reader::LIMIT + 1]
+// How many bytes a title and a text have.
+#[derive(Clone, Copy)]
+struct Sizes {
+    title: u64,
+    text: u64,
 }
 
-// Room for what is printed.
-fn print_buffer() -> [u8; report::ROOM]
-    ensures { report_room ≡ length result }
-{
-    [0; report::ROOM]
+// The sizes of the next case; none at the end of the input.
+fn next_sizes<R: Read>(input: &mut R) -> Option<Sizes> {
+    let mut header = [0u8; 16];
+    if input::read_full(input, &mut header) < 16 {
+        return None;
+    }
+    Some(Sizes {
+        title: words::word(&header, 0),
+        text: words::word(&header, 1),
+    })
 }
 
 // Reads so many bytes into the front of the buffer, as many as it has room for, and returns how many there were.
 fn read_part<R: Read>(n: u64, input: &mut R, buffer: &mut [u8]) -> usize
-    ensures { (result ≤ length buffer.new) × (result ≡ length (take result buffer.new)) }
+    ensures { result ≤ length buffer.new }
 {
-    if n < buffer.len() as u64 {
-        return input::read_full(input, &mut buffer[..n as usize]);
-    }
-    input::read_full(input, buffer)
+    let most = n.min(buffer.len() as u64) as usize;
+    input::read_full(input, &mut buffer[..most])
 }
 
 // Reads a title, and prints it as a line after `# `.
@@ -55,37 +55,27 @@ fn print_text<R: Read>(
     buffer: &mut [u8],
 ) -> io::Result<()> {
     let got = read_part(n, input, buffer);
-    let mut out = print_buffer();
-    let printed = printing::print_file(&buffer[..got], &mut out);
-    let Printed::Written { bytes } = printed else {
+    let mut out = printing::print_buffer();
+    let Ok(bytes) = printing::print_file(&buffer[..got], &mut out) else {
         return Ok(());
     };
     rt.write_all(&out[..bytes])
 }
 
-// One case; false at the end of the input.
-fn run_case<R: Read>(rt: &impl Print, input: &mut R) -> io::Result<bool> {
-    let mut header = [0u8; 16];
-    let got = input::read_full(input, &mut header);
-    if got < 16 {
-        return Ok(false);
-    }
-    let title = words::word(&header, 0);
-    let text = words::word(&header, 1);
-    let mut buffer = text_buffer();
-    print_title(rt, title, input, &mut buffer)?;
-    print_text(rt, text, input, &mut buffer)?;
-    Ok(true)
+// One case.
+fn run_case<R: Read>(rt: &impl Print, sizes: Sizes, input: &mut R) -> io::Result<()> {
+    let mut buffer = printing::file_buffer();
+    print_title(rt, sizes.title, input, &mut buffer)?;
+    print_text(rt, sizes.text, input, &mut buffer)
 }
 
 fn main(rt: HostRuntime) -> io::Result<()> {
     let mut input = rt.reader();
-    let mut case: usize = 0;
-    while case < 4000 {
-        if !run_case(&rt, &mut input)? {
+    for _ in 0..4000 {
+        let Some(sizes) = next_sizes(&mut input) else {
             return Ok(());
-        }
-        case = case + 1;
+        };
+        run_case(&rt, sizes, &mut input)?;
     }
     Ok(())
 }

@@ -1,18 +1,16 @@
 -- The texts of a table, by place. Assumes nothing.
 use mathlib.Core.Path.{◌≡◌, refl, sym, ◌∙◌}
-use mathlib.Core.Logic.{◌≢◌}
-use mathlib.Core.Bool.{Bool, true, false}
+use mathlib.Core.Bool.{true, false, false≢true}
 use mathlib.Core.List.{List, []}
 use Prim.Native.Nat.{ℕ, zero, suc, ◌+◌, ◌-◌, ◌*◌, ◌≤◌, ◌<◌}
-use native.Mathlib.Nat.{zero-mul, mul-le-mul_right}
+use native.Mathlib.Nat.{zero-mul}
 use native.Mathlib.Omega.{arith}
 use lib.ListN.{length, get_or, take, drop}
 use lib.Seq.{drop-drop}
-use borrow.Author.Count.{below_none, below_more}
-use Rattle.lists.specs.Choice.{same}
-use Rattle.lists.proofs.Entries.{same_true, same_false}
 use Rattle.codes.specs.Codes.{place_of, cells}
-use Rattle.codes.specs.declared.Place.TheVariants.{At, Nowhere}
+use Rattle.std.specs.Prelude.{Option, Some, None, MatchOption}
+use Rattle.std.specs.Str.{bytes_eq}
+use Rattle.std.proofs.lemmas.Slice.Eq.{bytes_eq-Decides}
 use Rattle.codes.proofs.Places.{place-first, place_absent}
 
 pub length-cells : (width count : ℕ) (table : List ℕ) → length (cells width count table) ≡ count
@@ -28,43 +26,39 @@ get_or-cells width (suc count) table (suc k) h =
     let next : suc k * width ≡ width + k * width = omega arith in
     rw (next, ← drop-drop (k * width) width table) (get_or-cells width count (drop width table) k (omega arith))
 
--- a text that is sought among the texts of a table is none of the first n
-pub record Sought (text table : List ℕ) (width count n from : ℕ) : Type 0 where
-  pub few : n ≤ count
-  pub reached : from ≡ n * width
-  pub none : (k : ℕ) → k < n → text ≢ get_or (cells width count table) k []
+module _ (text table : List ℕ) (width : ℕ) where
+  -- the text at place n of the table is this one, or another
+  abbrev pub Here : ℕ → Type 0
+  Here n = text ≡ take width (drop (n * width) table)
 
-module _ (text table : List ℕ) (width count : ℕ) where
-  pub sought_none : Sought text table width count 0 0
-  sought_none = record { few = omega arith; reached = omega arith; none = below_none _ }
+  abbrev pub Other : ℕ → Type 0
+  Other n = Here n → ⊥
 
-  module _ {n from : ℕ} (s : Sought text table width count n from) (h : n < count) where
-    pub sought_room : count * width ≤ length table → from + width ≤ length table
-    sought_room l =
-        let m : (n + 1) * width ≤ count * width = mul-le-mul_right width (omega arith) in
-        omega (arith, s.reached)
+  abbrev cell : ℕ → List ℕ
+  cell n = take ((n + 1) * width - n * width) (drop (n * width) table)
 
-    -- the text at place n, as a part of the table
-    cell : get_or (cells width count table) n [] ≡ take (from + width - from) (drop from table)
-    cell =
-        let long : from + width - from ≡ width = omega arith in
-        get_or-cells width count table n h ∙ rw (long, s.reached)
+  cell-here : (n : ℕ) → cell n ≡ take width (drop (n * width) table)
+  cell-here n =
+      let long : (n + 1) * width - n * width ≡ width = omega arith in
+      rw long
 
-    module _ (found : Bool) (e : found ≡ same text (take (from + width - from) (drop from table))) where
-      pub sought_here : found ≡ true → At n ≡ place_of text (cells width count table)
-      sought_here t =
-          let here = same_true text (take (from + width - from) (drop from table)) (sym e ∙ t) ∙ sym cell in
-          let inside : n < length (cells width count table) = omega (arith, length-cells width count table) in
-          sym (place-first text (cells width count table) n (record { named = record { inside = inside; here = here }; before = s.none }))
+  -- as `==` finds it
+  pub test_here : (n : ℕ) → true ≡ bytes_eq text (cell n) → Here n
+  test_here n e = (bytes_eq-Decides text (cell n)).0 (sym e) ∙ cell-here n
 
-      pub sought_more : found ≡ false → Sought text table width count (n + 1) (from + width)
-      sought_more t =
-          let differ = same_false text (take (from + width - from) (drop from table)) (sym e ∙ t) in
-          record {
-            few = omega arith;
-            reached = omega (arith, s.reached);
-            none = below_more _ n s.none (λ q. differ (q ∙ cell));
-          }
+  pub test_other : (n : ℕ) → false ≡ bytes_eq text (cell n) → Other n
+  test_other n e h = false≢true (e ∙ (bytes_eq-Decides text (cell n)).1 (h ∙ sym (cell-here n)))
 
-  pub sought_all : (n from : ℕ) → Sought text table width count n from → count ≤ n → Nowhere ≡ place_of text (cells width count table)
-  sought_all n from s h = sym (place_absent text (cells width count table) (λ k l. s.none k (omega (arith, length-cells width count table))))
+  -- the first place whose text it is, or none, is its place
+  pub place_found : (count : ℕ) (found : Option ℕ)
+      → MatchOption found ((k : ℕ) → 0 ≤ k → k < count → Other k) (λ n. (0 ≤ n) × (n < count) × Here n × ((k : ℕ) → 0 ≤ k → k < n → Other k))
+      → found ≡ place_of text (cells width count table)
+  place_found count None h =
+      sym (place_absent text (cells width count table) (λ k l e.
+      let inside : k < count = omega (arith, length-cells width count table) in
+      h k (omega arith) inside (e ∙ get_or-cells width count table k inside)))
+  place_found count (Some n) (_, l, here, before) =
+      sym (place-first text (cells width count table) n (record {
+        named = record { inside = omega (arith, length-cells width count table); here = here ∙ sym (get_or-cells width count table n l) };
+        before = λ k m e. before k (omega arith) m (e ∙ get_or-cells width count table k (omega arith));
+      }))

@@ -5,7 +5,7 @@ use mathlib.Core.List.{List, [], ◌∷◌, map}
 use Prim.Native.Nat.{ℕ}
 use Rattle.lists.specs.Choice.{same}
 use Rattle.codes.specs.Codes.{place_from, place_of, cells}
-use Rattle.codes.specs.declared.Place.TheVariants.{At, Nowhere}
+use Rattle.std.specs.Prelude.{Some, None}
 use Rattle.codes.proofs.Places.{distinct}
 
 abbrev letters : List (List ℕ)
@@ -16,6 +16,6 @@ unfolding same cells
 different = refl
 
 -- `R`, `D`, `BC`, and the empty text
-pub places : map (λ text. place_of text letters) ((82 ∷ []) ∷ (68 ∷ []) ∷ (66 ∷ 67 ∷ []) ∷ [] ∷ []) ≡ At 2 ∷ Nowhere ∷ Nowhere ∷ Nowhere ∷ []
+pub places : map (λ text. place_of text letters) ((82 ∷ []) ∷ (68 ∷ []) ∷ (66 ∷ 67 ∷ []) ∷ [] ∷ []) ≡ Some 2 ∷ None ∷ None ∷ None ∷ []
 unfolding same cells place_of place_from
 places = refl

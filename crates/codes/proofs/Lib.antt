@@ -1,4 +1,3 @@
-pub mod Alike
 pub mod Places
 pub mod Cells
 pub mod Computed

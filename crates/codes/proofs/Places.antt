@@ -11,7 +11,7 @@ use borrow.Author.Tests.{not-true}
 use Rattle.lists.specs.Choice.{same, every}
 use Rattle.lists.proofs.Entries.{each-by, each_at, same_false, eq_same, ne_same, one-or-not}
 use Rattle.codes.specs.Codes.{place_from, place_of, Named}
-use Rattle.codes.specs.declared.Place.TheVariants.{At, Nowhere}
+use Rattle.std.specs.Prelude.{Some, None}
 
 -- the text is that of place n, and of none before
 pub record First (text : List ℕ) (ts : List (List ℕ)) (n : ℕ) : Type 0 where
@@ -29,7 +29,7 @@ module _ (text : List ℕ) where
   ahead : (t : List ℕ) (ts : List (List ℕ)) (n : ℕ) → Named text (t ∷ ts) (suc n) → Named text ts n
   ahead t ts n p = record { inside = omega (arith, p.inside); here = p.here }
 
-  from_first : (ts : List (List ℕ)) (j n : ℕ) → First text ts n → place_from j text ts ≡ At (j + n)
+  from_first : (ts : List (List ℕ)) (j n : ℕ) → First text ts n → place_from j text ts ≡ Some (j + n)
   unfolding place_from
   from_first [] j n f = absurd (omega (arith, f.named.inside))
   from_first (t ∷ ts) j zero f = rw (eq_same text t f.named.here, add-zero)
@@ -38,16 +38,16 @@ module _ (text : List ℕ) where
       let later : First text ts n = record { named = ahead t ts n f.named; before = λ k l. f.before (suc k) (omega arith) } in
       rw (ne_same text t (f.before 0 (omega arith)), ← next) (from_first ts (suc j) n later)
 
-  from_absent : (ts : List (List ℕ)) (j : ℕ) → Absent text ts → place_from j text ts ≡ Nowhere
+  from_absent : (ts : List (List ℕ)) (j : ℕ) → Absent text ts → place_from j text ts ≡ None
   unfolding place_from
   from_absent [] j h = refl
   from_absent (t ∷ ts) j h = rw (ne_same text t (h 0 (omega arith))) (from_absent ts (suc j) (λ k l. h (suc k) (omega arith)))
 
-  pub place-first : (ts : List (List ℕ)) (n : ℕ) → First text ts n → place_of text ts ≡ At n
+  pub place-first : (ts : List (List ℕ)) (n : ℕ) → First text ts n → place_of text ts ≡ Some n
   unfolding place_of
   place-first ts n f = from_first ts 0 n f ∙ rw (zero-add n)
 
-  pub place_absent : (ts : List (List ℕ)) → Absent text ts → place_of text ts ≡ Nowhere
+  pub place_absent : (ts : List (List ℕ)) → Absent text ts → place_of text ts ≡ None
   unfolding place_of
   place_absent ts h = from_absent ts 0 h
 
@@ -66,7 +66,7 @@ module _ (text : List ℕ) where
       later t ts n m f zero l = n
       later t ts n m f (suc k) l = f k (omega arith)
 
-  pub place-exactly : (ts : List (List ℕ)) (n : ℕ) → (place_of text ts ≡ At n) ↔ First text ts n
+  pub place-exactly : (ts : List (List ℕ)) (n : ℕ) → (place_of text ts ≡ Some n) ↔ First text ts n
   place-exactly ts n = (
     λ e. either ts
         (λ m f.
@@ -100,5 +100,5 @@ distinct-first text ts d n p = record { named = p; before = before ts d n p }
         let (a, b) = (and-eq-true_iff (every (λ u. not (same t u)) ts) (distinct ts)).0 d in
         before ts b n (ahead text t ts n p) k (omega arith)
 
-pub distinct-exactly : (text : List ℕ) (ts : List (List ℕ)) → distinct ts ≡ true → (n : ℕ) → (place_of text ts ≡ At n) ↔ Named text ts n
+pub distinct-exactly : (text : List ℕ) (ts : List (List ℕ)) → distinct ts ≡ true → (n : ℕ) → (place_of text ts ≡ Some n) ↔ Named text ts n
 distinct-exactly text ts d n = (λ e. ((place-exactly text ts n).0 e).named, λ p. place-first text ts n (distinct-first text ts d n p))

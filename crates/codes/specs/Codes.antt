@@ -1,16 +1,15 @@
 -- A text among named ones, by its place. Assumes nothing.
 use mathlib.Core.{Path.◌≡◌, Bool.cond, List.List, List.[], List.◌∷◌}
-use Rattle.std.specs.Prelude.{ℕ, zero, suc, ◌<◌, length, get_or, take, drop}
+use Rattle.std.specs.Prelude.{ℕ, zero, suc, ◌<◌, length, get_or, take, drop, Option, Some, None}
 use Rattle.lists.specs.Choice.{same}
-use Rattle.codes.specs.declared.Place.{Place, TheVariants.At, TheVariants.Nowhere}
 
 -- the first place of a text in a list of texts, whose places go from n on
-unfoldable pub place_from : ℕ → List ℕ → List (List ℕ) → Place
-place_from n text [] = Nowhere
-place_from n text (t ∷ ts) = cond (same text t) (At n) (place_from (suc n) text ts)
+unfoldable pub place_from : ℕ → List ℕ → List (List ℕ) → Option ℕ
+place_from n text [] = None
+place_from n text (t ∷ ts) = cond (same text t) (Some n) (place_from (suc n) text ts)
 
 -- the first place of a text in a list of texts, from 0
-unfoldable pub place_of : List ℕ → List (List ℕ) → Place
+unfoldable pub place_of : List ℕ → List (List ℕ) → Option ℕ
 place_of text ts = place_from 0 text ts
 
 -- the texts of a table that holds them one after another, `count` of them, each in `width` bytes

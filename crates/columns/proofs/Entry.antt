@@ -92,9 +92,9 @@ putting_all count rows k j values old now h p =
     let all : j ≡ count = omega arith in
     rw all at p.put
 
-module _ {count rows k j : ℕ} {values old so_far : List ℕ} (room : EntryRoom count rows k values old) (below : j < count) (p : Putting count rows k values old j so_far) where
+module _ {count rows k j : ℕ} {values old so_far : List ℕ} (many : count ≡ length values) (room : EntryRoom rows k values old) (below : j < count) (p : Putting count rows k values old j so_far) where
   column-there : (i : ℕ) → i < count → 8 * (rows * i + rows) ≤ length so_far
-  column-there i h = omega (arith, p.put.long, room.whole, mul-le-mul_left rows h)
+  column-there i h = omega (arith, p.put.long, room.whole, mul-le-mul_left rows (rw many at h))
 
   pub value_there : 8 * (rows * j + k) + 8 ≤ length so_far
   value_there = omega (arith, room.within, column-there j below)

@@ -1,4 +1,4 @@
-pub mod Columns
 pub mod Entry
 pub mod ReadBack
+pub mod Submitted
 pub mod Tables

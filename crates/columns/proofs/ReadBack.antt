@@ -18,7 +18,7 @@ use Rattle.words.specs.Words.{word_at, entries, decode, encode}
 use Rattle.words.proofs.Encoded.{length-encode}
 use Rattle.words.proofs.ReadBack.{read_back, decode-encode}
 use Rattle.columns.specs.Columns.{Columns, make_columns, count_in, numbers_at, rows_in, lines_in, submission, RowAt, LineAt, column, filled_from, filled}
-use Rattle.columns.proofs.Columns.{row_at, line_at}
+use Rattle.columns.proofs.Submitted.{row_at, line_at}
 
 -- numbers that eight bytes hold
 abbrev pub Fits : List ℕ → Type 0

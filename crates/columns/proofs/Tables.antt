@@ -3,7 +3,7 @@ use mathlib.Core.Path.{◌≡◌, refl, sym, ap, ◌∙◌}
 use mathlib.Core.List.{List, [], ◌∷◌, ◌++◌, map, map-append, map-map}
 use Prim.Native.Nat.{ℕ, suc, ◌+◌, ◌*◌, ◌≤◌, ◌<◌}
 use native.Mathlib.Omega.{arith}
-use lib.ListN.{length, get_or, take, drop, length-append, length-take, length-drop, length-map}
+use lib.ListN.{length, get_or, take, drop, length-append, length-drop, length-map}
 use lib.Seq.{length-take-le, take-take}
 use Rattle.lists.specs.Tables.{list_to, front}
 use Rattle.lists.proofs.Tables.{to_back}
@@ -50,21 +50,6 @@ module _ {count rows n : ℕ} {numbers : List (List ℕ)} {old now : List ℕ} (
   unfolding copied filled_from column
   entered-copied j [] h = refl
   entered-copied j (list ∷ lists) h = λ i. front (entered-column j (omega arith) i) list ∷ entered-copied (suc j) lists (omega arith) i
-
--- a column of a table fits a list that has room for its entries
-pub column_fits : (rows n j : ℕ) (table from list : List ℕ) → from ≡ column_in rows n table j → 8 * n ≤ length list → length from ≤ length list
-unfolding column_in
-column_fits rows n j table from list e h = rw e (omega (arith, length-take (8 * n) (drop (8 * (rows * j)) table)))
-
--- one column copied, and then those after it
-pub copied_none : (rows n j : ℕ) (table : List ℕ) → [] ≡ copied rows n table j []
-unfolding copied
-copied_none rows n j table = refl
-
-pub copied_more : (rows n j : ℕ) (table old : List ℕ) (olds : List (List ℕ)) {from new : List ℕ} {news : List (List ℕ)} → from ≡ column_in rows n table j → new ≡ front from old
-    → news ≡ copied rows n table (suc j) olds → new ∷ news ≡ copied rows n table j (old ∷ olds)
-unfolding copied
-copied_more rows n j table old olds e p q = rw (p, e, q)
 
 -- the columns of a table of holdings, where the price's is the sixth, and of a table of lines
 abbrev pub by_tables : List (List ℕ) → List (List ℕ) → Columns

@@ -101,11 +101,10 @@ pub record Entered (count rows : ℕ) (numbers : List (List ℕ)) (old now : Lis
   pub long : length now ≡ length old
   pub each : (j : ℕ) → j < count → column_in rows rows now j ≡ column (map (λ ns. get_or ns j 0) numbers) (column_in rows rows old j)
 
--- what writing an entry asks: the table has just the columns that are counted, the entry is within them, and a value is there for each
-pub record EntryRoom (count rows k : ℕ) (values table : List ℕ) : Type 0 where
-  pub whole : length table ≡ 8 * (rows * count)
+-- what writing an entry asks: the table has a column for each value and no more, and the entry is within them
+pub record EntryRoom (rows k : ℕ) (values table : List ℕ) : Type 0 where
+  pub whole : length table ≡ 8 * (rows * length values)
   pub within : k < rows
-  pub enough : count ≤ length values
 
 -- an entry that was written: value j in column j, and all else as it was
 pub record EntryPut (count rows k : ℕ) (values old now : List ℕ) : Type 0 where

@@ -17,22 +17,22 @@ module _ (price value : List ℕ) where
   priced_value k = word_at price k * word_at value k
 
   -- before holding i
-  pub record Added (total i : ℕ) : Type 0 where
+  pub record Summed (total i : ℕ) : Type 0 where
     pub few : i ≤ entries price
     pub sum : total ≡ sum_to i priced_value
 
-  pub priced-high : Valued price value → (k : ℕ) → k < entries price → priced_value k ≤ saved_limit
-  priced-high v k h = mul-le-mul (v.prices k h) (v.values k h)
+  pub priced_high : Valued price value → (k : ℕ) → k < entries price → priced_value k ≤ saved_limit
+  priced_high v k h = mul-le-mul (v.prices k h) (v.values k h)
 
-  pub added_none : Added 0 0
+  pub added_none : Summed 0 0
   unfolding sum_to
   added_none = record { few = omega arith; sum = refl }
 
-  module _ {total i : ℕ} (a : Added total i) where
+  module _ {total i : ℕ} (a : Summed total i) where
     pub added_high : Valued price value → total ≤ i * saved_limit
-    added_high v = rw a.sum (sum_to_bound i saved_limit priced_value (λ k h. priced-high v k (omega (arith, a.few))))
+    added_high v = rw a.sum (sum_to_bound i saved_limit priced_value (λ k h. priced_high v k (omega (arith, a.few))))
 
-    pub added_more : {x : ℕ} → i < entries price → x ≡ priced_value i → Added (total + x) (i + 1)
+    pub added_more : {x : ℕ} → i < entries price → x ≡ priced_value i → Summed (total + x) (i + 1)
     added_more h e = record { few = omega arith; sum = rw e (sum_to-more priced_value i total a.sum) }
 
     pub added_all : entries price ≤ i → Totals price value total
@@ -42,3 +42,5 @@ module _ (price value : List ℕ) where
           let e : i ≡ b.count = omega (arith, a.few) in
           a.sum ∙ ap (λ (k : ℕ). sum_to k priced_value) e ∙ sum_to_eq b.count _ _ (λ k l. rw (prices k (omega arith), values k (omega arith)));
     }
+
+pub ruleset sum_steps = (priced_high, added_high, added_none, added_more, added_all)

@@ -16,9 +16,11 @@ use Rattle.article.specs.declared.pair.Leg.{Leg}
 use Rattle.savings.specs.Savings.{saving_of}
 use Rattle.proposal.proofs.PricedBooks.{saving_rate_lem}
 use Rattle.proposal.specs.Submission.{PricedBook}
+use Rattle.std.specs.Prelude.{Ok, Err}
+use Rattle.refusals.specs.declared.Refusal.TheVariants.{NotCovered}
 use Rattle.proposal.specs.Outcome.{make_fault, fault_answer, uncovered, at_pair, at_long, uncovered_pairs}
 use Rattle.packed.specs.Packed.{leg_at, LegsOf, Same}
-use Rattle.cover.specs.Cover.{PairCovered, FirstOpen, Finds}
+use Rattle.cover.specs.Cover.{PairCovered, LongCovered, FirstOpen, Finds}
 
 -- a pair is uncovered where its two prices add up to less than its legs save
 uncovered-saving : (b : PricedBook) (i j : ℕ) → uncovered b i j ≡ ltb (b.price i + b.price j) (saving_of (b.leg i) (b.leg j))
@@ -40,8 +42,8 @@ not-long : (l s : Leg) → (l.side ≡ 0 → ⊥) → saving_of l s ≡ 0
 unfolding saving_of allowed is_long
 not-long l s h = rw (ne_eqb _ _ h)
 
-pub other-covered : (legs price : List ℕ) (i : ℕ) {leg : Leg} → leg ≡ leg_at legs i → (leg.side ≡ 0 → ⊥) → (j : ℕ) → PairCovered legs price i j
-other-covered legs price i found h j = rw (not-long (leg_at legs i) (leg_at legs j) (rw found at h)) (omega arith)
+pub other_covered : (legs price : List ℕ) (i : ℕ) {leg : Leg} → leg ≡ leg_at legs i → (leg.side ≡ 0 → ⊥) → (j : ℕ) → PairCovered legs price i j
+other_covered legs price i found h j = rw (not-long (leg_at legs i) (leg_at legs j) (rw found at h)) (omega arith)
 
 -- a book that the lists hold
 module _ {n : ℕ} {legs : List ℕ} (price : List ℕ) {b : PricedBook} (h : LegsOf b n legs) (p : Same n (word_at price) b.price) where
@@ -56,7 +58,7 @@ module _ {n : ℕ} {legs : List ℕ} (price : List ℕ) {b : PricedBook} (h : Le
     pair_open : word_at price i + word_at price j < saving_of (leg_at legs i) (leg_at legs j) → uncovered b i j ≡ true
     pair_open c = test ∙ lt-ltb _ _ c
 
-  row-none : (i : ℕ) → i < n → ((j : ℕ) → j < n → PairCovered legs price i j) → None (at_long b i)
+  row-none : (i : ℕ) → i < n → LongCovered n legs price i → None (at_long b i)
   unfolding at_long
   row-none i f c =
       let count = h.count in
@@ -65,33 +67,30 @@ module _ {n : ℕ} {legs : List ℕ} (price : List ℕ) {b : PricedBook} (h : Le
 -- the first i holdings are covered, as the long, with every holding
 pub record Closed (n : ℕ) (legs price : List ℕ) (i : ℕ) : Type 0 where
   pub few : i ≤ n
-  pub rows : (k : ℕ) → k < i → (j : ℕ) → j < n → PairCovered legs price k j
+  pub rows : (k : ℕ) → k < i → LongCovered n legs price k
 
 module _ {n : ℕ} {legs price : List ℕ} where
   pub closed_none : Closed n legs price 0
   closed_none = record { few = omega arith; rows = λ k h. absurd (omega arith) }
 
   module _ {i : ℕ} (c : Closed n legs price i) where
-    pub closed_more : i < n → ((j : ℕ) → j < n → PairCovered legs price i j) → Closed n legs price (i + 1)
-    closed_more h g = record { few = omega arith; rows = below_more (λ (k : ℕ). (j : ℕ) → j < n → PairCovered legs price k j) i c.rows g }
+    pub closed_more : i < n → LongCovered n legs price i → Closed n legs price (i + 1)
+    closed_more h g = record { few = omega arith; rows = below_more (LongCovered n legs price) i c.rows g }
 
-    -- no holding was found that i is not covered with
-    pub closed_row : {r : ℕ} → i < n → FirstOpen n legs price i r → n ≤ r → Closed n legs price (i + 1)
-    closed_row h o e = closed_more h (λ j l. o.covered j (omega arith))
-
-    pub finds_open : {j : ℕ} → i < n → FirstOpen n legs price i j → j < n → Finds n legs price (make_fault 16 i j)
+    pub finds_open : {A : Type 0} {j : ℕ} → i < n → FirstOpen n legs price i j → Finds {A = A} n legs price (Err (make_fault NotCovered i j))
     unfolding fault_answer uncovered_pairs at_long
-    finds_open {j} h o g = record {
+    finds_open {j} h o = record {
       found = λ b held prices.
           let count = held.count in
+          let g : j < n = o.held in
           sym (first-in_turn (at_long b) b.count i (make_answer 16 i j) (make_answer 0 0 0) (omega arith)
           (λ k l. row-none price held prices k (omega arith) (c.rows k l))
           (λ w. first-in_turn (at_pair b i) b.count j (make_answer 16 i j) w (omega arith)
-          (λ k l. pair-none price held prices i k (omega arith) (omega arith) (o.covered k l))
-          (λ v. at_pair_lem b (pair_open price held prices i j h g (o.short g)) v)));
+          (λ k l. pair-none price held prices i k (omega arith) (omega arith) (o.before k l))
+          (λ v. at_pair_lem b (pair_open price held prices i j h g o.short) v)));
     }
 
-    pub finds_none : n ≤ i → Finds n legs price (make_fault 0 0 0)
+    pub finds_none : {A : Type 0} {x : A} → n ≤ i → Finds n legs price (Ok x)
     unfolding fault_answer uncovered_pairs
     finds_none e = record {
       found = λ b held prices.
@@ -109,9 +108,5 @@ module _ (legs price : List ℕ) (i j : ℕ) {long short : Leg} {first second sa
   pub first_more : saving ≤ first + second → PairCovered legs price i j
   first_more h = omega (arith, saves)
 
-  pub first-here : {n : ℕ} → ((k : ℕ) → k < j → PairCovered legs price i k) → j < n → first + second < saving → FirstOpen n legs price i j
-  first-here lower g h = record { few = omega arith; covered = lower; short = λ l. omega (arith, saves) }
-
--- none is open
-pub first-all : {n : ℕ} (legs price : List ℕ) (i : ℕ) → ((k : ℕ) → k < n → PairCovered legs price i k) → FirstOpen n legs price i n
-first-all legs price i all = record { few = omega arith; covered = all; short = λ l. absurd (omega arith) }
+  pub first-here : {n : ℕ} → LongCovered j legs price i → j < n → first + second < saving → FirstOpen n legs price i j
+  first-here before g h = record { held = g; before = before; short = omega (arith, saves) }

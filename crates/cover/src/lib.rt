@@ -1,345 +1,191 @@
 // Whether the prices cover the book, and what they add up to.
 #![tactic(auto)]
 
-ghost use Rattle.std.specs.Prelude.{◌≡◌, false, ◌-◌, ◌*◌, ◌≤◌, ◌<◌, length};
+ghost use Rattle.std.specs.Prelude.{◌≡◌, false, ◌≤◌, ◌<◌, IfSome, IfNone};
 ghost use Rattle.article.specs.Pair.{RateInRange};
 ghost use Rattle.marks.specs.Marks.{scan_limit};
 ghost use Rattle.packed.specs.Packed.{AtMost, entry};
-ghost use Rattle.cover.specs.Cover.{Priced, FirstOpen, Finds, Valued, Totals, Covered, RowCovered, Places, Shorts, Parts, Free, ShortsByPart};
+ghost use Rattle.cover.specs.Cover.{Priced, Finds, Valued, Totals, Covered, RowCovered, Added, Parts, Free};
+ghost use Rattle.cover.specs.Books.{count_of, ShortsOf, CoveredIn, OpenIn, FindsIn};
+
+mod book;
 
 use article::pair::Leg;
+use book::Book;
 use proposal::Fault;
+use refusals::Refusal;
 
-// Whether a long with this mark, rate and price may be uncovered with one of the first m shorts. The loop has no exit: so it runs on many
-// shorts at once.
-fn row_open(
-    m: usize,
-    marks: &[u16; 256],
-    rates: &[u16; 256],
-    prices: &[u16; 256],
-    mark: u16,
-    rate: u16,
-    price: u16,
-) -> bool
-    requires { (m ≤ 256) × ((rate ≤ scan_limit) × (AtMost scan_limit m (entry rates.now))) }
-    ensures { result ≡ false → Covered mark rate price marks.now rates.now prices.now 0 m }
-{
-    let mut worst: u16 = 0;
-    let mut j: usize = 0;
-    while j < m {
-        let s = marks::asked(mark, rate, marks[j], rates[j]);
-        let missing = marks::above(marks::above(s, price), prices[j]);
-        worst = marks::greater(worst, missing);
-        j = j + 1;
-    }
-    0 < worst
+// Shorts, in the first `count` places of columns: the marks of each for the long strips and for the long bonds, the rate that it is scanned by, and its price.
+// Columns, since the scan reads eight shorts of each at once: a list of structs is not read eight at a time.
+#[derive(Clone, Copy)]
+struct Shorts {
+    marks: [u16; 256],
+    strips: [u16; 256],
+    rates: [u16; 256],
+    prices: [u16; 256],
+    count: usize,
 }
 
-// The same for a long leg. Two bonds save nothing, so a bond is scanned against the strips alone.
-fn long_open(
-    m: usize,
-    marks: &[u16; 256],
-    strips: &[u16; 256],
-    rates: &[u16; 256],
-    prices: &[u16; 256],
-    long: Leg,
-    price: u16,
-) -> bool
-    requires { (m ≤ 256) × (RateInRange long × (AtMost scan_limit m (entry rates.now))) }
-    ensures { result ≡ false → RowCovered long price marks.now strips.now rates.now prices.now 0 m }
-{
-    let mark = marks::mark_of(long.kind != 0, long);
-    let rate = marks::scan_rate(long);
-    if long.kind == 0 {
-        return row_open(m, strips, rates, prices, mark, rate, price);
+impl Shorts {
+    // One more short.
+    fn add(&mut self, leg: Leg, price: u16)
+        requires { RateInRange leg × (self.old.count < 256) }
+        ensures { Added leg price self.old self.new }
+    {
+        let k = self.count;
+        let mark = marks::mark_of(leg.kind == 0, leg);
+        self.marks[k] = marks::across_mark(leg.kind, mark);
+        self.strips[k] = marks::strip_mark(leg.kind, mark);
+        self.rates[k] = marks::scan_rate(leg);
+        self.prices[k] = price;
+        self.count = k + 1;
     }
-    row_open(m, marks, rates, prices, mark, rate, price)
-}
 
-// The shorts of the first n holdings in columns, and how many they are.
-fn shorts_of(
-    n: usize,
-    legs: &[u64],
-    price: &[u8],
-    marks: &mut [u16; 256],
-    strips: &mut [u16; 256],
-    rates: &mut [u16; 256],
-    prices: &mut [u16; 256],
-) -> usize
-    requires { Priced n legs.now price.now × Places marks.old strips.old rates.old prices.old }
-    ensures { Shorts n legs.now price.now marks.new strips.new rates.new prices.new result }
-{
-    let mut m: usize = 0;
-    let mut j: usize = 0;
-    while j < n {
-        let leg = packed::leg_in(legs[j]);
-        if leg.side == 1 {
-            let mark = marks::mark_of(leg.kind == 0, leg);
-            marks[m] = marks::across_mark(leg.kind, mark);
-            strips[m] = marks::strip_mark(leg.kind, mark);
-            rates[m] = marks::scan_rate(leg);
-            prices[m] = words::word(price, j) as u16;
-            m = m + 1;
+    // Whether a long with this mark, rate and price may be uncovered with one of the shorts, by one of the two columns of marks. The loop has no exit and takes
+    // whole eights: so it runs on many shorts at once, and none is left to be looked at alone.
+    #[tactic(auto, using(crate::proofs::Rows::missing_all))]
+    fn row_open(&self, marks: &[u16; 256], mark: u16, rate: u16, price: u16) -> bool
+        requires { (self.now.count ≤ 256) × ((rate ≤ scan_limit) × (AtMost scan_limit 256 (entry self.now.rates))) }
+        ensures { result ≡ false → Covered mark rate price marks.now self.now.rates self.now.prices self.now.count }
+    {
+        let mut worst: u16 = 0;
+        for j in 0..self.count.next_multiple_of(8) {
+            let asked = marks::asked(mark, rate, marks[j], self.rates[j]);
+            worst = worst.max(asked.saturating_sub(price).saturating_sub(self.prices[j]));
         }
-        j = j + 1;
+        0 < worst
     }
-    m
-}
 
-// The first holding that holding i is not covered with as the long, or n where there is none.
-fn first_open(n: usize, legs: &[u64], price: &[u8], i: usize) -> usize
-    requires { Priced n legs.now price.now × (i < n) }
-    ensures { FirstOpen n legs.now price.now i result }
-{
-    let long = packed::leg_in(legs[i]);
-    if long.side != 0 {
-        return n;
-    }
-    let first = words::word(price, i);
-    let mut j: usize = 0;
-    while j < n {
-        let short = packed::leg_in(legs[j]);
-        let second = words::word(price, j);
-        if first + second < savings::saving(long, short) {
-            return j;
+    // The same for a long leg. Two bonds save nothing, so a bond is scanned against the strips alone. Inlined, so that the leg is not copied.
+    #[inline(always)]
+    #[tactic(auto, unfolding(marks::specs::Marks::sought_mark, article::specs::Pair::is_bond), using(crate::proofs::Rows::bond_row, crate::proofs::Rows::other_row))]
+    fn long_open(&self, long: Leg, price: u16) -> bool
+        requires { (self.now.count ≤ 256) × (RateInRange long × (AtMost scan_limit 256 (entry self.now.rates))) }
+        ensures { result ≡ false → RowCovered long price self.now self.now.count }
+    {
+        let mark = marks::mark_of(long.kind != 0, long);
+        let rate = marks::scan_rate(long);
+        if long.kind == 0 {
+            return self.row_open(&self.strips, mark, rate, price);
         }
-        j = j + 1;
+        self.row_open(&self.marks, mark, rate, price)
     }
-    n
 }
 
-// Every holding as the long, one after another.
-fn searched(n: usize, legs: &[u64], price: &[u8]) -> Fault
-    requires { Priced n legs.now price.now }
-    ensures { Finds n legs.now price.now result }
-{
-    let mut long: usize = 0;
-    while long < n {
-        let short = first_open(n, legs, price, long);
-        if short < n {
-            return proposal::fault_at(16, long, short);
+impl<'a> Book<'a> {
+    // The shorts of the book, each in the part of its period.
+    fn shorts_of<const PARTS: usize>(&self, parts: &mut [Shorts; PARTS])
+        requires { (0 < PARTS) × (Parts parts.old × Free parts.old) }
+        ensures { Parts parts.new × ShortsOf self.now parts.new }
+    {
+        for (j, code) in self.legs.iter().enumerate() {
+            let leg = packed::leg_in(*code);
+            if leg.side == 1 {
+                parts[leg.period as usize % PARTS].add(leg, words::word(self.price, j) as u16);
+            }
         }
-        long = long + 1;
     }
-    proposal::fault_at(0, 0, 0)
-}
 
-// The same, where the scan of the shorts passes over the longs that it finds covered.
-fn scanned(
-    n: usize,
-    legs: &[u64],
-    price: &[u8],
-    m: usize,
-    marks: &[u16; 256],
-    strips: &[u16; 256],
-    rates: &[u16; 256],
-    prices: &[u16; 256],
-) -> Fault
-    requires { Priced n legs.now price.now × Shorts n legs.now price.now marks.now strips.now rates.now prices.now m }
-    ensures { Finds n legs.now price.now result }
-{
-    let mut i: usize = 0;
-    while i < n {
-        let long = packed::leg_in(legs[i]);
-        if long.side == 0 {
-            let first = words::word(price, i);
-            if long_open(m, marks, strips, rates, prices, long, first as u16) {
-                let j = first_open(n, legs, price, i);
-                if j < n {
-                    return proposal::fault_at(16, i, j);
+    // The first holding that holding i is not covered with as the long.
+    #[tactic(auto, using(crate::proofs::Uncovered::other_covered))]
+    fn first_open(&self, i: usize) -> Option<usize>
+        requires { i < count_of self.now }
+        ensures open { IfSome result (λ j. OpenIn self.now i j) }
+        ensures none { IfNone result (CoveredIn self.now i) }
+    {
+        let long = packed::leg_in(self.legs[i]);
+        if long.side != 0 {
+            return None;
+        }
+        let first = words::word(self.price, i);
+        for (j, code) in self.legs.iter().enumerate() {
+            let short = packed::leg_in(*code);
+            if first + words::word(self.price, j) < savings::saving(long, short) {
+                return Some(j);
+            }
+        }
+        None
+    }
+
+    // Every holding as the long, one after another. Beside `scanned`: one function for both, with a closure for the scan's test, would be longer.
+    #[tactic(auto, using(crate::proofs::Uncovered::finds_open, crate::proofs::Uncovered::finds_none))]
+    fn searched(&self) -> Result<(), Fault>
+        ensures { FindsIn self.now result }
+    {
+        for long in 0..self.legs.len() {
+            if let Some(short) = self.first_open(long) {
+                return Err(proposal::fault_at(Refusal::NotCovered, long, short));
+            }
+        }
+        Ok(())
+    }
+
+    // The same, where the scan of the shorts passes over the longs that it finds covered.
+    #[tactic(auto, unfolding(crate::specs::Cover::part_of), using(crate::proofs::Rows::scan_steps))]
+    fn scanned<const PARTS: usize>(&self, parts: &[Shorts; PARTS]) -> Result<(), Fault>
+        requires { (0 < PARTS) × (Parts parts.now × ShortsOf self.now parts.now) }
+        ensures { FindsIn self.now result }
+    {
+        for (i, code) in self.legs.iter().enumerate() {
+            let leg = packed::leg_in(*code);
+            if leg.side == 0 {
+                let first = words::word(self.price, i);
+                if parts[leg.period as usize % PARTS].long_open(leg, first as u16) {
+                    if let Some(j) = self.first_open(i) {
+                        return Err(proposal::fault_at(Refusal::NotCovered, i, j));
+                    }
                 }
             }
         }
-        i = i + 1;
+        Ok(())
     }
-    proposal::fault_at(0, 0, 0)
+
+    // The same with the shorts in so many parts by period, each long by the shorts of its part.
+    #[tactic(auto, using(crate::proofs::Rows::parts_blank, crate::proofs::Rows::free_blank))]
+    fn scan<const PARTS: usize>(&self) -> Result<(), Fault>
+        requires { (0 < PARTS) × (PARTS ≤ 8) }
+        ensures { FindsIn self.now result }
+    {
+        let mut parts = [Shorts {
+            marks: [0; 256],
+            strips: [0; 256],
+            rates: [0; 256],
+            prices: [0; 256],
+            count: 0,
+        }; PARTS];
+        self.shorts_of(&mut parts);
+        self.scanned(&parts)
+    }
 }
 
-fn scan(n: usize, legs: &[u64], price: &[u8]) -> Fault
+// The first allowed pair of the book that the prices do not cover, lowest long, then lowest short. Columns of the shorts are worth their making from nine holdings
+// on, and eight parts of them from 65 on. The legs that are lent may be more than the book's.
+pub fn first_uncovered(n: usize, legs: &[u64], price: &[u8]) -> Result<(), Fault>
     requires { Priced n legs.now price.now }
     ensures { Finds n legs.now price.now result }
 {
-    let mut marks = [0u16; 256];
-    let mut strips = [0u16; 256];
-    let mut rates = [0u16; 256];
-    let mut prices = [0u16; 256];
-    let m = shorts_of(
-        n,
-        legs,
+    let book = Book {
+        legs: &legs[..n],
         price,
-        &mut marks,
-        &mut strips,
-        &mut rates,
-        &mut prices,
-    );
-    scanned(n, legs, price, m, &marks, &strips, &rates, &prices)
-}
-
-// The same as `row_open` for the shorts from one place to another.
-fn part_open(
-    from: usize,
-    to: usize,
-    marks: &[u16],
-    rates: &[u16],
-    prices: &[u16],
-    mark: u16,
-    rate: u16,
-    price: u16,
-) -> bool
-    requires { (to ≤ length marks.now) × ((to ≤ length rates.now) × ((to ≤ length prices.now) × ((rate ≤ scan_limit) × (AtMost scan_limit to (entry rates.now))))) }
-    ensures { result ≡ false → Covered mark rate price marks.now rates.now prices.now from to }
-{
-    let mut worst: u16 = 0;
-    let mut j: usize = from;
-    while j < to {
-        let s = marks::asked(mark, rate, marks[j], rates[j]);
-        let missing = marks::above(marks::above(s, price), prices[j]);
-        worst = marks::greater(worst, missing);
-        j = j + 1;
-    }
-    0 < worst
-}
-
-// The same for a long leg.
-fn long_part_open(
-    from: usize,
-    to: usize,
-    marks: &[u16],
-    strips: &[u16],
-    rates: &[u16],
-    prices: &[u16],
-    long: Leg,
-    price: u16,
-) -> bool
-    requires { (to ≤ length marks.now) × ((to ≤ length strips.now) × ((to ≤ length rates.now) × ((to ≤ length prices.now)
-        × (RateInRange long × (AtMost scan_limit to (entry rates.now)))))) }
-    ensures { result ≡ false → RowCovered long price marks.now strips.now rates.now prices.now from to }
-{
-    let sought = marks::mark_of(long.kind != 0, long);
-    let rate = marks::scan_rate(long);
-    if long.kind == 0 {
-        return part_open(from, to, strips, rates, prices, sought, rate, price);
-    }
-    part_open(from, to, marks, rates, prices, sought, rate, price)
-}
-
-// The shorts of the first n holdings in columns, each in the part of its period.
-fn shorts_by_part(
-    n: usize,
-    legs: &[u64],
-    price: &[u8],
-    counts: &mut [usize],
-    marks: &mut [u16],
-    strips: &mut [u16],
-    rates: &mut [u16],
-    prices: &mut [u16],
-)
-    requires { Priced n legs.now price.now × (Parts counts.old marks.old strips.old rates.old prices.old × Free counts.old) }
-    ensures { Parts counts.new marks.new strips.new rates.new prices.new
-        × ShortsByPart n legs.now price.now
-        counts.new marks.new strips.new rates.new prices.new }
-{
-    let mut j: usize = 0;
-    while j < n {
-        let leg = packed::leg_in(legs[j]);
-        if leg.side == 1 {
-            let part = (leg.period % 8) as usize;
-            let m = counts[part];
-            let k = 256 * part + m;
-            let mark = marks::mark_of(leg.kind == 0, leg);
-            marks[k] = marks::across_mark(leg.kind, mark);
-            strips[k] = marks::strip_mark(leg.kind, mark);
-            rates[k] = marks::scan_rate(leg);
-            prices[k] = words::word(price, j) as u16;
-            counts[part] = m + 1;
-        }
-        j = j + 1;
-    }
-}
-
-// The same as `scanned`, by parts. A part is scanned by sixteen places, so that no short is left to be looked at alone.
-fn scanned_by_part(
-    n: usize,
-    legs: &[u64],
-    price: &[u8],
-    counts: &[usize],
-    marks: &[u16],
-    strips: &[u16],
-    rates: &[u16],
-    prices: &[u16],
-) -> Fault
-    requires { Priced n legs.now price.now × (Parts counts.now marks.now strips.now rates.now prices.now
-        × ShortsByPart n legs.now price.now counts.now marks.now strips.now rates.now prices.now) }
-    ensures { Finds n legs.now price.now result }
-{
-    let mut i: usize = 0;
-    while i < n {
-        let long = packed::leg_in(legs[i]);
-        if long.side == 0 {
-            let part = (long.period % 8) as usize;
-            let from = 256 * part;
-            let to = from + (counts[part] + 15) / 16 * 16;
-            let first = words::word(price, i);
-            if long_part_open(from, to, marks, strips, rates, prices, long, first as u16) {
-                let short = first_open(n, legs, price, i);
-                if short < n {
-                    return proposal::fault_at(16, i, short);
-                }
-            }
-        }
-        i = i + 1;
-    }
-    proposal::fault_at(0, 0, 0)
-}
-
-fn scan_by_part(n: usize, legs: &[u64], price: &[u8]) -> Fault
-    requires { Priced n legs.now price.now }
-    ensures { Finds n legs.now price.now result }
-{
-    let mut counts = [0usize; 8];
-    let mut marks = [0u16; 2048];
-    let mut strips = [0u16; 2048];
-    let mut rates = [0u16; 2048];
-    let mut prices = [0u16; 2048];
-    shorts_by_part(
-        n,
-        legs,
-        price,
-        &mut counts,
-        &mut marks,
-        &mut strips,
-        &mut rates,
-        &mut prices,
-    );
-    scanned_by_part(n, legs, price, &counts, &marks, &strips, &rates, &prices)
-}
-
-// The first allowed pair of the book that the prices do not cover, lowest long, then lowest short, or no fault. Columns of the shorts are
-// worth their making from nine holdings on, and parts of them from 65 on.
-pub fn first_uncovered(n: usize, legs: &[u64], price: &[u8]) -> Fault
-    requires { Priced n legs.now price.now }
-    ensures { Finds n legs.now price.now result }
-{
+    };
     if n < 9 {
-        return searched(n, legs, price);
+        return book.searched();
     }
     if n < 65 {
-        return scan(n, legs, price);
+        return book.scan::<1>();
     }
-    scan_by_part(n, legs, price)
+    book.scan::<8>()
 }
 
-// The sum of price times whole market value.
+// The sum of price times whole market value. A loop: of `(0..n).map(..).sum()` the proof finds neither that the sum fits nor what it is.
+#[tactic(auto, unfolding(words::specs::Words::entries), using(crate::proofs::Totals::sum_steps))]
 pub fn priced_total(price: &[u8], value: &[u8]) -> u64
     requires { Valued price.now value.now }
     ensures { Totals price.now value.now result }
 {
-    let n = price.len() / 8;
     let mut total: u64 = 0;
-    let mut k: usize = 0;
-    while k < n {
-        total = total + words::word(price, k) * words::word(value, k);
-        k = k + 1;
+    for k in 0..price.len() / 8 {
+        total += words::word(price, k) * words::word(value, k);
     }
     total
 }

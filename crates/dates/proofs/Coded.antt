@@ -1,16 +1,16 @@
 -- What the formulas of src/lib.rt are. Assumes nothing.
 use mathlib.Core.Path.{◌≡◌, refl, sym, ap, ◌∙◌}
-use mathlib.Core.Logic.{◌≢◌}
+use mathlib.Core.Logic.{◌≢◌, ◌⊎◌, ⊎_elim}
 use mathlib.Core.Bool.{true, false, cond}
 use mathlib.Core.List.{List, [], ◌∷◌}
-use Prim.Native.Nat.{ℕ, zero, suc, ◌+◌, ◌-◌, ◌*◌, ◌/◌, ◌%◌, ◌≤◌, ◌<◌}
+use Prim.Native.Nat.{ℕ, max, min, zero, suc, ◌+◌, ◌-◌, ◌*◌, ◌/◌, ◌%◌, ◌≤◌, ◌<◌}
 use native.Mathlib.Omega.{arith}
 use lib.Dec.{leb}
 use lib.ListN.{get_or}
 use Rattle.lists.specs.Tables.{sum_of, list_to}
 use Rattle.lists.proofs.Tables.{get_or-to}
 use Rattle.dates.specs.Calendar.{year, month, day, dated, is_leap, leap_day, month_lengths, month_length, next_day, year_start, month_start, anniversary}
-use Rattle.dates.proofs.Years.{leap_false, year-more, year-end, month-end, start_early, start_late}
+use Rattle.dates.proofs.Years.{below_or-from, leap_false, month_zero, no_month, february, year-more, year-end, month-end, start_early, start_late}
 use Rattle.dates.proofs.Days.{next_in_month, next-month, next-year}
 use Rattle.dates.proofs.Anniversaries.{kept, lost}
 
@@ -30,6 +30,13 @@ coded-length y (suc zero) n l h = refl
 coded-length y (suc (suc zero)) n l h = absurd (n refl)
 coded-length y (suc (suc (suc m))) n l h =
     sym (get_or-to 13 in_turn (suc (suc (suc m))) 0 (omega arith)) ∙ ap (λ (s : List ℕ). get_or s (suc (suc (suc m))) 0) turns
+
+-- a month that is no month, and February
+pub coded_none : (y m : ℕ) → (m < 1) ⊎ (12 < m) → 0 ≡ month_length y m
+coded_none y m = ⊎_elim (λ h. sym (month_zero y m h)) (λ h. sym (no_month y m h))
+
+pub coded_february : (y m l : ℕ) → m ≡ 2 → l ≡ leap_day y → 28 + l ≡ month_length y m
+coded_february y m l e f = rw (e, f) (sym (february y))
 
 -- the days before a month of a common year, as the year 1 is, and before the next; the test, computed
 abbrev before : ℕ → ℕ → ℕ
@@ -60,6 +67,26 @@ start_first (suc m) h = absurd (omega arith)
 
 pub start_last : (m : ℕ) → 12 < m → month_start 1 13 ≡ month_start 1 m
 start_last m h = year-end 1 13 (omega arith) ∙ sym (year-end 1 m h)
+
+-- the place that is left of a month by the two ends
+pub record Place (m place : ℕ) : Type 0 where
+  pub to : place ≤ 13
+  pub same : month_start 1 place ≡ month_start 1 m
+
+pub clamped : (m place : ℕ) → place ≡ max 1 (min m 13) → Place m place
+clamped m place e =
+    below_or-from m 1
+    (λ h.
+    let first : place ≡ 1 = omega arith in
+    rw first (record { to = omega arith; same = start_first m h }))
+    (λ h.
+    below_or-from 12 m
+    (λ k.
+    let last : place ≡ 13 = omega arith in
+    rw last (record { to = omega arith; same = start_last m k }))
+    (λ k.
+    let kept : place ≡ m = omega arith in
+    rw kept (record { to = omega arith; same = refl })))
 
 -- the days before a month of a year: l leap days of some years before, which from March on are those to the next year, and s days of a common year
 module _ (y m years l s : ℕ) (e : 365 * years + l ≡ year_start years) (f : s ≡ month_start 1 m) where
@@ -97,3 +124,10 @@ module _ (d n : ℕ) where
       let day29 : day d ≡ 29 = omega arith in
       let at : d + 10000 * n - 1 ≡ dated (year d + n) 2 28 = omega arith in
       at ∙ sym (lost d n (record { second = second; last = day29; common = c }))
+
+-- what `month_length`, `next_day` and `anniversary` owe
+pub ruleset lengths = (coded_february, coded_none, coded-length)
+
+pub ruleset next_days = (coded_in_month, coded-month, coded-year)
+
+pub ruleset anniversaries = (coded-same, coded-leap, coded-lost)

@@ -1,10 +1,13 @@
 -- The tests of a date say what they mean, and the parts of a number are those that it was made of. Assumes nothing.
-use mathlib.Core.Path.{◌≡◌}
-use mathlib.Core.Bool.{true, and-eq-true_iff}
+use mathlib.Core.Path.{◌≡◌, sym}
+use mathlib.Core.Logic.{◌⊎◌, ⊎_elim}
+use mathlib.Core.Bool.{true, false, and-eq-true_iff}
 use Prim.Native.Nat.{ℕ, ◌+◌, ◌≤◌, ◌<◌}
 use native.Mathlib.Omega.{arith}
 use Rattle.lists.specs.Choice.{within}
-use Rattle.lists.proofs.Tests.{within_true, true_within}
+use Rattle.lists.proofs.Tests.{either_way, within_true, true_within}
+use lib.Dec.{leb}
+use borrow.Author.Tests.{le-leb, lt-leb}
 use Rattle.dates.specs.Calendar.{year, month, day, dated, month_length, is_real, is_date}
 use Rattle.dates.specs.Dates.{On, RealDay, RealDate}
 use Rattle.dates.proofs.Years.{month-low, month-high, length_high}
@@ -57,3 +60,25 @@ on-parts y m d h l = record { of_year = omega arith; of_month = omega arith; of_
 -- the next number within a month
 pub on-next : (d : ℕ) → day d < 99 → On (d + 1) (year d) (month d) (day d + 1)
 on-next d h = record { of_year = omega arith; of_month = omega arith; of_day = omega arith }
+
+-- what the code finds on its way: a number outside the years, no day, or a day that the month has or not
+pub date_out : (d : ℕ) → (d < 19000101) ⊎ (22991231 < d) → false ≡ is_date d
+date_out d = ⊎_elim (λ h. no_date (λ t. omega (arith, date-low d t))) (λ h. no_date (λ t. omega (arith, date-high d t)))
+  where
+    no_date : (is_date d ≡ true → ⊥) → false ≡ is_date d
+    no_date n = either_way (is_date d) (λ t. absurd (n t)) (λ e. sym e)
+
+module _ (d : ℕ) (low : 19000101 ≤ d) (high : d ≤ 22991231) where
+  years : within 1900 2299 (year d) ≡ true
+  years = true_within 1900 2299 (year d) (omega arith) (omega arith)
+
+  pub date_no_day : day d < 1 → false ≡ is_date d
+  unfolding is_date is_real within
+  date_no_day h = rw (years, lt-leb 1 (day d) h)
+
+  pub date_day : (l : ℕ) → l ≡ month_length (year d) (month d) → 1 ≤ day d → leb (day d) l ≡ is_date d
+  unfolding is_date is_real within
+  date_day l e h = rw (years, e, le-leb 1 (day d) h)
+
+-- what `is_date` owes
+pub ruleset dates = (date_out, date_no_day, date_day)

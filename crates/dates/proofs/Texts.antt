@@ -15,7 +15,8 @@ use Rattle.numerals.specs.Numerals.{value_from}
 use Rattle.dates.specs.Calendar.{year, month, day, dated}
 use Rattle.dates.specs.Text.{digits_of, date_text, text_number, read_date, Form, two_at}
 use Rattle.dates.specs.Dates.{EightDigits}
-use Rattle.dates.specs.declared.text.Reading.TheVariants.{Number, NotADate}
+use Rattle.std.specs.Prelude.{Option, Some, None}
+use Rattle.std.proofs.lemmas.Option.{cond_some, none-some}
 use Rattle.dates.proofs.Tested.{on-parts}
 
 value-four : (x : ℕ) → value_from 0 (digits_of 4 x) ≡ x % 10000
@@ -51,7 +52,7 @@ small : (n : ℕ) → n < 100000000 → n % 100000000 ≡ n
 small n h = omega arith
 
 -- the text of a number is read as the number
-pub read_of : (text : List ℕ) (n : ℕ) → text ≡ date_text n → n < 100000000 → read_date text ≡ Number n
+pub read_of : (text : List ℕ) (n : ℕ) → text ≡ date_text n → n < 100000000 → read_date text ≡ Some n
 unfolding read_date
 read_of text n e h =
     let back : text_number (date_text n) ≡ n = number-back n ∙ small n h in
@@ -65,10 +66,10 @@ module _ (text : List ℕ) where
       let last : text_number text ≡ text_number text % 100000000 = ap text_number is ∙ number-back (text_number text) in
       (is, omega arith)
 
-  of-read : (n : ℕ) → read_date text ≡ Number n → (text ≡ date_text n) × (n < 100000000)
+  of-read : (n : ℕ) → read_date text ≡ Some n → (text ≡ date_text n) × (n < 100000000)
   unfolding read_date
   of-read n =
-      by-test (λ r. r ≡ Number n → (text ≡ date_text n) × (n < 100000000)) (same text (date_text (text_number text)))
+      by-test (λ (r : Option ℕ). r ≡ Some n → (text ≡ date_text n) × (n < 100000000)) (same text (date_text (text_number text)))
       (λ e r.
       let value : text_number text ≡ n = cc in
       rw value at (passed e))
@@ -76,7 +77,7 @@ module _ (text : List ℕ) where
       let none : ◌≡◌ {A = ℕ} 0 1 = cc in
       absurd (omega arith))
 
-  pub read-exactly : (n : ℕ) → (read_date text ≡ Number n) ↔ ((text ≡ date_text n) × (n < 100000000))
+  pub read-exactly : (n : ℕ) → (read_date text ≡ Some n) ↔ ((text ≡ date_text n) × (n < 100000000))
   read-exactly n = (of-read n, λ h. read_of text n h.0 h.1)
 
 -- the text of a number has the form
@@ -90,14 +91,11 @@ form_of n =
       hyphens = (refl, (refl, tt));
     }
 
-pub text-length : (n : ℕ) → length (date_text n) ≡ 10
-text-length n = (form_of n).ten
-
 -- a text without the form is not read
-pub not-read : (text : List ℕ) → (Form text → ⊥) → NotADate ≡ read_date text
+pub not-read : (text : List ℕ) → (Form text → ⊥) → None ≡ read_date text
 unfolding read_date
 not-read text h =
-    by-test (λ r. NotADate ≡ r) (same text (date_text (text_number text)))
+    by-test (λ (r : Option ℕ). None ≡ r) (same text (date_text (text_number text)))
     (λ e. absurd (h (rw (passed text e).0 (form_of (text_number text)))))
     (λ e. refl)
 
@@ -175,65 +173,83 @@ module _ (text : List ℕ) where
       ∙ (λ i. byte 0 a i ∷ byte 1 b i ∷ byte 2 c i ∷ byte 3 d i ∷ m i ∷ byte 5 e i ∷ byte 6 g i ∷ n i ∷ byte 8 h i ∷ byte 9 k i ∷ [])
       ∙ sym (digits-text (at 0) (at 1) (at 2) (at 3) (at 5) (at 6) (at 8) (at 9) (lows f))
 
-  pub form-read : Form text → read_date text ≡ Number (text_number text)
+  pub form-read : Form text → read_date text ≡ Some (text_number text)
   form-read f =
       let below = digits_below (at 0) (at 1) (at 2) (at 3) (at 5) (at 6) (at 8) (at 9) (lows f) in
       let value : text_number text ≡ eight = ap text_number (form-text f) ∙ number-back eight ∙ small eight below in
       rw value (read_of text eight (form-text f) below)
 
   -- two digits at a place
-  pub two-value : (i : ℕ) → IsDigit i → IsDigit (i + 1) → two_at text i ≡ 10 * at i + at (i + 1)
+  pub two-value : (i : ℕ) → IsDigit i → IsDigit (i + 1) → two_at text i ≡ Some (10 * at i + at (i + 1))
   unfolding two_at
   two-value i p q = rw (true_within 48 57 (get_or text i 0) p.0 p.1, true_within 48 57 (get_or text (i + 1) 0) q.0 q.1)
 
-  pub two-found : (i : ℕ) → two_at text i ≤ 99 → IsDigit i × IsDigit (i + 1)
-  unfolding two_at
-  two-found i =
-      by-test (λ x. x ≤ 99 → IsDigit i × IsDigit (i + 1)) (within 48 57 (get_or text i 0) && within 48 57 (get_or text (i + 1) 0))
-      (λ e h.
-      let (a, b) = (and-eq-true_iff (within 48 57 (get_or text i 0)) (within 48 57 (get_or text (i + 1) 0))).0 e in
-      (within_true 48 57 (get_or text i 0) a, within_true 48 57 (get_or text (i + 1) 0) b))
-      (λ e h. absurd (omega arith))
+  -- what was read there is their number
+  record Two (i x : ℕ) : Type 0 where
+    first : IsDigit i
+    second : IsDigit (i + 1)
+    value : x ≡ 10 * at i + at (i + 1)
 
-  pub two-sum : (i x y : ℕ) → x + 48 ≡ get_or text i 0 → get_or text i 0 ≤ 57 → y + 48 ≡ get_or text (i + 1) 0 → get_or text (i + 1) 0 ≤ 57
-      → (10 * x + y ≡ two_at text i) × (10 * x + y ≤ 100)
-  two-sum i x y p a q b =
-      let value = two-value i (omega arith, a) (omega arith, b) in
-      (omega arith, omega arith)
+  two-found : (i x : ℕ) → Some x ≡ two_at text i → Two i x
+  unfolding two_at
+  two-found i x e =
+      let (t, v) = cond_some _ _ _ (sym e) in
+      let (a, b) = (and-eq-true_iff (within 48 57 (get_or text i 0)) (within 48 57 (get_or text (i + 1) 0))).0 t in
+      record { first = within_true 48 57 (get_or text i 0) a; second = within_true 48 57 (get_or text (i + 1) 0) b; value = sym v }
+
+  -- what the code finds on its way: no two digits, or two digits
+  pub two-none : (i : ℕ) → (IsDigit i → IsDigit (i + 1) → ⊥) → None ≡ two_at text i
+  unfolding two_at
+  two-none i h =
+      by-test (λ (r : Option ℕ). None ≡ r) (within 48 57 (get_or text i 0) && within 48 57 (get_or text (i + 1) 0))
+      (λ t.
+      let (a, b) = (and-eq-true_iff (within 48 57 (get_or text i 0)) (within 48 57 (get_or text (i + 1) 0))).0 t in
+      absurd (h (within_true 48 57 (get_or text i 0) a) (within_true 48 57 (get_or text (i + 1) 0) b)))
+      (λ t. refl)
+
+  pub two-some : (i x y : ℕ) → x + 48 ≡ get_or text i 0 → get_or text i 0 ≤ 57 → y + 48 ≡ get_or text (i + 1) 0 → get_or text (i + 1) 0 ≤ 57
+      → Some (10 * x + y) ≡ two_at text i
+  two-some i x y p a q b =
+      let value : 10 * at i + at (i + 1) ≡ 10 * x + y = omega arith in
+      sym (rw value at (two-value i (omega arith, a) (omega arith, b)))
 
   -- what the code finds on its way: no form, or the form
-  pub not-ten : length text ≢ 10 → NotADate ≡ read_date text
+  pub not-ten : length text ≢ 10 → None ≡ read_date text
   not-ten h = not-read text (λ f. h f.ten)
 
-  pub no_hyphen_4 : get_or text 4 0 ≢ 45 → NotADate ≡ read_date text
+  pub no_hyphen_4 : get_or text 4 0 ≢ 45 → None ≡ read_date text
   no_hyphen_4 h = not-read text (λ f. h f.hyphens.0)
 
-  pub no_hyphen_7 : get_or text 7 0 ≢ 45 → NotADate ≡ read_date text
+  pub no_hyphen_7 : get_or text 7 0 ≢ 45 → None ≡ read_date text
   no_hyphen_7 h = not-read text (λ f. h f.hyphens.1.0)
 
-  too_high : (i : ℕ) → 99 < two_at text i → IsDigit i → IsDigit (i + 1) → ⊥
-  too_high i h p q = omega (arith, two-value i p q)
+  no_digits : (i : ℕ) → None ≡ two_at text i → IsDigit i → IsDigit (i + 1) → ⊥
+  no_digits i h p q = none-some _ (h ∙ two-value i p q)
 
-  pub no_digits_0 : (x : ℕ) → x ≡ two_at text 0 → 99 < x → NotADate ≡ read_date text
-  no_digits_0 x e h = not-read text (λ f. let (a, (b, _)) = f.digits in too_high 0 (rw e at h) a b)
+  pub no_digits_0 : None ≡ two_at text 0 → None ≡ read_date text
+  no_digits_0 h = not-read text (λ f. let (a, (b, _)) = f.digits in no_digits 0 h a b)
 
-  pub no_digits_2 : (x : ℕ) → x ≡ two_at text 2 → 99 < x → NotADate ≡ read_date text
-  no_digits_2 x e h = not-read text (λ f. let (_, (_, (a, (b, _)))) = f.digits in too_high 2 (rw e at h) a b)
+  pub no_digits_2 : None ≡ two_at text 2 → None ≡ read_date text
+  no_digits_2 h = not-read text (λ f. let (_, (_, (a, (b, _)))) = f.digits in no_digits 2 h a b)
 
-  pub no_digits_5 : (x : ℕ) → x ≡ two_at text 5 → 99 < x → NotADate ≡ read_date text
-  no_digits_5 x e h = not-read text (λ f. let (_, (_, (_, (_, (a, (b, _)))))) = f.digits in too_high 5 (rw e at h) a b)
+  pub no_digits_5 : None ≡ two_at text 5 → None ≡ read_date text
+  no_digits_5 h = not-read text (λ f. let (_, (_, (_, (_, (a, (b, _)))))) = f.digits in no_digits 5 h a b)
 
-  pub no_digits_8 : (x : ℕ) → x ≡ two_at text 8 → 99 < x → NotADate ≡ read_date text
-  no_digits_8 x e h = not-read text (λ f. let (_, (_, (_, (_, (_, (_, (a, (b, _)))))))) = f.digits in too_high 8 (rw e at h) a b)
+  pub no_digits_8 : None ≡ two_at text 8 → None ≡ read_date text
+  no_digits_8 h = not-read text (λ f. let (_, (_, (_, (_, (_, (_, (a, (b, _)))))))) = f.digits in no_digits 8 h a b)
 
   pub all_found : (a b c d : ℕ) → length text ≡ 10 → get_or text 4 0 ≡ 45 → get_or text 7 0 ≡ 45
-      → a ≡ two_at text 0 → b ≡ two_at text 2 → c ≡ two_at text 5 → d ≡ two_at text 8 → a ≤ 99 → b ≤ 99 → c ≤ 99 → d ≤ 99
-      → Number (1000000 * a + 10000 * b + 100 * c + d) ≡ read_date text
-  all_found a b c d n s t p q r u e f g h =
-      let (a0, a1) = two-found 0 (rw p at e) in
-      let (b0, b1) = two-found 2 (rw q at f) in
-      let (c0, c1) = two-found 5 (rw r at g) in
-      let (d0, d1) = two-found 8 (rw u at h) in
-      let form : Form text = record { ten = n; digits = (a0, (a1, (b0, (b1, (c0, (c1, (d0, (d1, tt)))))))); hyphens = (s, (t, tt)) } in
-      let value : eight ≡ 1000000 * a + 10000 * b + 100 * c + d = omega (arith, two-value 0 a0 a1, two-value 2 b0 b1, two-value 5 c0 c1, two-value 8 d0 d1) in
+      → Some a ≡ two_at text 0 → Some b ≡ two_at text 2 → Some c ≡ two_at text 5 → Some d ≡ two_at text 8
+      → Some (1000000 * a + 10000 * b + 100 * c + d) ≡ read_date text
+  all_found a b c d n s t p q r u =
+      let e = two-found 0 a p in
+      let f = two-found 2 b q in
+      let g = two-found 5 c r in
+      let h = two-found 8 d u in
+      let form : Form text =
+      record { ten = n; digits = (e.first, (e.second, (f.first, (f.second, (g.first, (g.second, (h.first, (h.second, tt)))))))); hyphens = (s, (t, tt)) } in
+      let value : eight ≡ 1000000 * a + 10000 * b + 100 * c + d = omega arith in
       sym (read_of text (1000000 * a + 10000 * b + 100 * c + d) (form-text form ∙ ap date_text value) (omega arith))
+
+-- what `two_at` and `read_date` owe
+pub ruleset finds = (two-none, two-some, not-ten, no_hyphen_4, no_hyphen_7, no_digits_0, no_digits_2, no_digits_5, no_digits_8, all_found)

@@ -7,61 +7,48 @@ pub mod text;
 ghost use Rattle.std.specs.Prelude.{◌≡◌, ◌+◌, ◌*◌, ◌≤◌};
 ghost use Rattle.dates.specs.Calendar.{is_leap, leap_day, month_length, is_date, next_day, year_start, month_start, day_number, days_between, anniversary};
 
+#[tactic(auto, unfolding(crate::specs::Calendar::is_leap))]
 fn is_leap(year: u64) -> bool
     ensures { result ≡ is_leap year }
 {
-    if year % 4 != 0 {
-        return false;
-    }
-    if year % 100 != 0 {
-        return true;
-    }
-    if year % 400 != 0 {
-        return false;
-    }
-    true
+    year % 4 == 0 && (year % 100 != 0 || year % 400 == 0)
 }
 
+#[tactic(auto, unfolding(crate::specs::Calendar::leap_day))]
 fn leap_day(year: u64) -> u64
     ensures { (result ≡ leap_day year) × (result ≤ 1) }
 {
-    if is_leap(year) { 1 } else { 0 }
+    u64::from(is_leap(year))
 }
 
 // The days of a month, 31 and 30 in turn and in turn again from August on; a month that no year has is given none.
+#[tactic(auto, using(crate::proofs::Coded::lengths))]
 fn month_length(year: u64, month: u64) -> u64
     ensures { result ≡ month_length year month }
 {
     if month == 2 {
         return 28 + leap_day(year);
     }
-    if month < 1 {
-        return 0;
-    }
-    if 12 < month {
+    if !(1..=12).contains(&month) {
         return 0;
     }
     30 + (month + month / 8) % 2
 }
 
 // Whether a number is a day of the calendar in the years 1900 to 2299.
+#[tactic(auto, using(crate::proofs::Tested::dates))]
 pub fn is_date(d: u64) -> bool
     ensures { result ≡ is_date d }
 {
-    if d < 19000101 {
-        return false;
-    }
-    if 22991231 < d {
+    if !(19000101..=22991231).contains(&d) {
         return false;
     }
     let day = d % 100;
-    if day < 1 {
-        return false;
-    }
-    day <= month_length(d / 10000, d / 100 % 100)
+    1 <= day && day <= month_length(d / 10000, d / 100 % 100)
 }
 
 // The day after.
+#[tactic(auto, using(crate::proofs::Coded::next_days))]
 pub fn next_day(d: u32) -> u64
     ensures { result ≡ next_day d }
 {
@@ -82,8 +69,7 @@ pub fn next_day(d: u32) -> u64
 fn month_start(month: u64) -> u64
     ensures { (result ≡ month_start 1 month) × (result ≤ 365) }
 {
-    let low = if month < 1 { 1 } else { month };
-    let place = if 12 < low { 13 } else { low };
+    let place = month.clamp(1, 13);
     let short = if place <= 2 { 0 } else { 2 };
     (367 * place - 362) / 12 - short
 }
@@ -111,15 +97,11 @@ fn day_number(d: u32) -> u64
 pub fn days_between(from: u32, to: u32) -> u64
     ensures { (result ≡ days_between from to) × (result ≤ 200000000) }
 {
-    let first = day_number(from);
-    let last = day_number(to);
-    if last < first {
-        return 0;
-    }
-    last - first
+    day_number(to).saturating_sub(day_number(from))
 }
 
 // The same day and month so many years on; 29 February falls on 28 February where there is none.
+#[tactic(auto, using(crate::proofs::Coded::anniversaries))]
 pub fn anniversary(d: u32, years: u32) -> u64
     ensures { result ≡ anniversary d years }
 {

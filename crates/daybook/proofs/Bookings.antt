@@ -17,12 +17,12 @@ use Rattle.daybook.proofs.Moving.{moving}
 use Rattle.daybook.proofs.NoOther.{one_only}
 
 module _ (short : Bool) (b : Book) where
-  ordered : (o : Order) → InOrder short b → OfOrder b (outcome short b o) (booked short b o) o
+  ordered : (o : Order Row) → InOrder short b → OfOrder b (outcome short b o) (booked short b o) o
   ordered (Add t) i = (add-described short b i t, adding short b i t)
   ordered (Take t) i = (take-described short b i t, taking short b i t)
   ordered (MoveTo to) i = moving short b i to
 
-  booking : (o : Order) → Booking b (outcome short b o) (booked short b o) short o
+  booking : (o : Order Row) → Booking b (outcome short b o) (booked short b o) short o
   booking o = record { at_first = checked short b o; next = ordered o }
 
 names : (b : Book) (t : Row) → BookNames b t
@@ -45,5 +45,5 @@ bookings = record {
   is_accepted = λ short b o. (eqb-true (outcome short b o).number 0, eq-eqb (outcome short b o).number 0);
   names = names;
   descriptions = one-description;
-  findings = λ m n. record { new_count = refl; refusal = refl };
+  findings = λ m r n. record { new_count = refl; refusal = refl };
 }

@@ -18,6 +18,7 @@ use Rattle.holding.proofs.Ranges.{none-of-row, fault-none, none_fault}
 use Rattle.article.specs.Answer.{Answer, make_answer}
 use Rattle.proposal.specs.{Outcome.at_place}
 use Rattle.proposal.proofs.Places.{none-at, first-at}
+use Rattle.holding.specs.declared.Row.{Row}
 use Rattle.daybook.specs.Book.{totals_of, head_of, account_at, Book, holdings_in}
 use Rattle.daybook.specs.Orders.{lent_faults, at_row, rows_faults, totals_faults}
 use Rattle.daybook.specs.Orders.{order_faults, from_totals, from_rows, faults, accepted_answer, outcome, accepted, booked}
@@ -35,7 +36,7 @@ refused-at fs rest z n e some = first-append (at_place 0 fs) rest z ∙ first-at
 pub passed-at : (fs : List (Bool × ℕ)) (rest : List (Bool × Answer)) (z : Answer) → None fs → first_of (at_place 0 fs ++ rest) z ≡ first_of rest z
 passed-at fs rest z h = skip_none (at_place 0 fs) rest z (none-at 0 fs h)
 
-module _ (short : Bool) (b : Book) (o : Order) where
+module _ (short : Bool) (b : Book) (o : Order Row) where
   abbrev room : ℕ
   room = length b.list
 

@@ -17,7 +17,7 @@ use Rattle.daybook.proofs.Totals.{totals_afresh}
 use Rattle.daybook.proofs.Written.{take-front}
 use Rattle.daybook.proofs.Checked.{from-order}
 
-module _ (short : Bool) (b : Book) (o : Order) where
+module _ (short : Bool) (b : Book) (o : Order Row) where
   -- the order, by its outcome and the book that is left
   abbrev pub Executes : ℕ → ℕ → (List Row → Type 0) → Type 0
   Executes new-date new_count Such = Executed b (outcome short b o) (booked short b o) new-date new_count Such

@@ -36,7 +36,7 @@ without-one b k l m e f =
 
 module _ (short : Bool) (b : Book) where
   -- of an order: two answers, each with a book after, are one
-  module _ (o : Order) where
+  module _ (o : Order Row) where
     abbrev OneOnly : Type 0
     OneOnly = (x y : Answer) (c d : Book) → Booking b x c short o → Booking b y d short o → (x ≡ y) × (c ≡ d)
 
@@ -137,20 +137,20 @@ module _ (short : Bool) (b : Book) where
           (λ s. refused (MoveTo to) 24 0 (λ z. omega arith) (λ x c g. (g.next i).unreal s))
 
     -- a description with a fault
-    undescribed : (o : Order) (t : Row) → (Described (book_account b) t → ⊥) → ((x : Answer) (c : Book) → Booking b x c short o → DescribedFirst b x c t) → OneOnly o
+    undescribed : (o : Order Row) (t : Row) → (Described (book_account b) t → ⊥) → ((x : Answer) (c : Book) → Booking b x c short o → DescribedFirst b x c t) → OneOnly o
     undescribed o t n so =
         let r = valued t 1 in
         let same = valued_equal t 1 in
         let w : Worth r = record { low = rw (value_of t 1) (omega arith); high = rw (value_of t 1) (omega arith) } in
         refused o (fault_of (book_account b) r) 0 (some-fault b t n r same) (λ x c g. so x c g n r same w)
 
-    ordered : (o : Order) → OneOnly o
+    ordered : (o : Order Row) → OneOnly o
     ordered (Add t) = described-or-not (book_account b) t (adding t) (λ n. undescribed (Add t) t n (λ x c g. (g.next i).0))
     ordered (Take t) = described-or-not (book_account b) t (taking t) (λ n. undescribed (Take t) t n (λ x c g. (g.next i).0))
     ordered (MoveTo to) = moving to
 
   -- the lent book has a fault, or the order decides
-  pub one_only : (o : Order) → OneOnly o
+  pub one_only : (o : Order Row) → OneOnly o
   one_only o =
       lent_cases short b
       (λ many. refused o 3 0 (λ z. omega arith) (λ x c g. g.at_first.too_many many))

@@ -1,7 +1,9 @@
 -- THE PAGE OF BOOKINGS: what document 02 f), "The book through the day", demands of every order to every lent book, in its own words; proofs/Bookings.antt proves it.
 -- What the ranges, the refusal, the rate and the period of a holding are, is on the page Article. Assumes nothing.
 use mathlib.Core.{Path.◌≡◌, Bool.Bool, Bool.true, Bool.false, List.List, List.[], List.◌∷◌, Logic.◌↔◌, Logic.◌⊎◌}
-use Rattle.std.specs.Prelude.{ℕ, suc, ◌+◌, ◌*◌, ◌≤◌, ◌<◌, length, get_or, take, set}
+use Rattle.std.specs.Prelude.{ℕ, Ok, Err, suc, ◌+◌, ◌*◌, ◌≤◌, ◌<◌, length, get_or, take, set}
+use Rattle.refusals.specs.Refusals.{number_of}
+use Rattle.refusals.specs.declared.Refusal.{Refusal}
 use Rattle.dates.specs.Calendar.{is_date}
 use Rattle.holding.specs.Holding.{account_of, holding_of, Identified, InTerm, Worth, Rated, Ranges, fault_of}
 use Rattle.holding.specs.declared.{Account.Account, Row.Row}
@@ -11,7 +13,6 @@ use Rattle.proposal.specs.Submission.{no_row}
 use Rattle.daybook.specs.Book.{description_of, alike, place_in, held_in, taken, account_at, Book, holdings_in}
 use Rattle.daybook.specs.Orders.{answer_of, outcome, accepted, booked}
 use Rattle.daybook.specs.declared.Order.{Order, TheVariants.Add, TheVariants.Take, TheVariants.MoveTo}
-use Rattle.daybook.specs.declared.Finding.{TheVariants.Done, TheVariants.Refused}
 
 -- "equal in side, kind, issuer, maturity, currency and rating"
 pub record Equal (r t : Row) : Type 0 where
@@ -160,13 +161,13 @@ module _ (b : Book) (the-answer : Answer) (after : Book) where
     pub moved : is_date to ≡ true → b.day.date < to → ((k : ℕ) → k < b.day.count → to < (entry_at b k).maturity) → Executed to b.day.count (◌≡ b.list)
 
   -- an order to a book without fault
-  abbrev pub OfOrder : Order → Type 0
+  abbrev pub OfOrder : Order Row → Type 0
   OfOrder (Add t) = DescribedFirst t × (Described (book_account b) t → Adding t)
   OfOrder (Take t) = DescribedFirst t × (Described (book_account b) t → Taking t)
   OfOrder (MoveTo to) = Moving to
 
   -- all that is demanded of the answer and of the book after
-  pub record Booking (short : Bool) (o : Order) : Type 0 where
+  pub record Booking (short : Bool) (o : Order Row) : Type 0 where
     pub at_first : Checked short
     pub next : InOrder short b → OfOrder o
 
@@ -186,16 +187,16 @@ pub record OneDescription (r t : Row) : Type 0 where
   pub found : (alike r t ≡ true) ↔ Equal r t
 
 -- the paper's numbers of a finding: 0 and the new count, or the refusal's number and its place
-pub record FindingAnswers (m n : ℕ) : Type 0 where
-  pub new_count : answer_of (Done m) ≡ make_answer 0 m 0
-  pub refusal : answer_of (Refused m n) ≡ make_answer m n 0
+pub record FindingAnswers (m : ℕ) (r : Refusal) (n : ℕ) : Type 0 where
+  pub new_count : answer_of (Ok m) ≡ make_answer 0 m 0
+  pub refusal : answer_of (Err (record { refusal = r; place = n })) ≡ make_answer (number_of r) n 0
 
 -- the whole: every order to every lent book has an outcome and leaves a book as is demanded, and no other answer and no other book are
 pub record Bookings : Type 0 where
-  pub outcomes : (short : Bool) (b : Book) (o : Order) → Booking b (outcome short b o) (booked short b o) short o
-  pub no_other : (short : Bool) (b : Book) (o : Order) (the-answer : Answer) (after : Book) → Booking b the-answer after short o
+  pub outcomes : (short : Bool) (b : Book) (o : Order Row) → Booking b (outcome short b o) (booked short b o) short o
+  pub no_other : (short : Bool) (b : Book) (o : Order Row) (the-answer : Answer) (after : Book) → Booking b the-answer after short o
       → (the-answer ≡ outcome short b o) × (after ≡ booked short b o)
-  pub is_accepted : (short : Bool) (b : Book) (o : Order) → (accepted short b o ≡ true) ↔ ((outcome short b o).number ≡ 0)
+  pub is_accepted : (short : Bool) (b : Book) (o : Order Row) → (accepted short b o ≡ true) ↔ ((outcome short b o).number ≡ 0)
   pub names : (b : Book) (t : Row) → BookNames b t
   pub descriptions : (r t : Row) → OneDescription r t
-  pub findings : (m n : ℕ) → FindingAnswers m n
+  pub findings : (m : ℕ) (r : Refusal) (n : ℕ) → FindingAnswers m r n

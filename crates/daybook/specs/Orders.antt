@@ -1,22 +1,33 @@
 -- Document 02 f): what refuses an order, in booking's order, and the book after it. Assumes nothing.
 use mathlib.Core.{Bool.Bool, Bool.cond, Bool.not, Bool.◌&&◌, Bool.◌||◌, List.List, List.[], List.◌∷◌, List.◌++◌}
-use Rattle.std.specs.Prelude.{ℕ, ◌+◌}
+use Rattle.std.specs.Prelude.{ℕ, ◌+◌, Result, Ok, Err}
 use lib.{Dec.leb, Dec.ltb, Dec.eqb, ListN.length, ListN.get_or}
 use Rattle.lists.specs.{Choice.first_of, Choice.within, Choice.same, Tables.in_turn, Tables.front}
 use Rattle.dates.specs.Calendar.{is_date}
 use Rattle.holding.specs.Holding.{value_limit, head_faults, account_of, identity_faults, term_faults, money_faults, row_faults}
 use Rattle.holding.specs.declared.{Account.Account, Head.Head, Row.Row}
+use Rattle.refusals.specs.{Refusals.number_of, declared.Refusal.Refusal}
 use Rattle.article.specs.Answer.{Answer, make_answer}
 use Rattle.proposal.specs.{Submission.no_row, Outcome.at_place}
 use Rattle.daybook.specs.Book.{place_in, held_in, added, taken, totals_of, head_of, account_at, Book, holdings_in}
 use Rattle.daybook.specs.declared.Day.{Day}
 use Rattle.daybook.specs.declared.Order.{Order, TheVariants.Add, TheVariants.Take, TheVariants.MoveTo}
-use Rattle.daybook.specs.declared.Finding.{Finding, TheVariants.Done, TheVariants.Refused}
+use Rattle.daybook.specs.declared.Refused.{Refused}
 
 -- the paper's number and values of a finding
-abbrev pub answer_of : Finding → Answer
-answer_of (Done count) = make_answer 0 count 0
-answer_of (Refused number place) = make_answer number place 0
+abbrev pub answer_of : Result ℕ Refused → Answer
+answer_of (Ok count) = make_answer 0 count 0
+answer_of (Err r) = make_answer (number_of r.refusal) r.place 0
+
+-- the trade of an order, of a row or of a holding; a move has none
+abbrev pub trade_or : {T : Type 0} → T → Order T → T
+trade_or none (Add t) = t
+trade_or none (Take t) = t
+trade_or none (MoveTo to) = none
+
+-- refused, of no holding: at place 0
+abbrev pub whole : Refusal → Refused
+whole r = record { refusal = r; place = 0 }
 
 -- a lent book is first checked like any other, in a list of so many entries: 3 more than 256 holdings, 2 a list shorter than its count, 24, 26; `short` says whether
 -- 2 holds of another list
@@ -69,30 +80,30 @@ unfoldable pub matured_faults : List Row → ℕ → List (Bool × Answer)
 matured_faults rows to = in_turn (length rows) (at_matured rows to)
 
 -- what refuses an order to a book without fault: the description or the new date, 8, 27, for a move 7, last 3 and 2
-unfoldable pub order_faults : ℕ → Day → List Row → Order → List (Bool × Answer)
+unfoldable pub order_faults : ℕ → Day → List Row → Order Row → List (Bool × Answer)
 order_faults room d rows (Add t) = at_place 0 (description_faults (account_at d) t ++ sum_faults (held_in rows t) t.value ++ join_faults room rows t)
 order_faults room d rows (Take t) = at_place 0 (description_faults (account_at d) t ++ taking_faults (held_in rows t) t.value)
 order_faults room d rows (MoveTo to) = at_place 0 (date_faults d.date to) ++ matured_faults rows to
 
 -- the whole list: the lent book, its holdings, its totals, then the order
-abbrev pub from_totals : ℕ → Day → List Row → Order → List (Bool × Answer)
+abbrev pub from_totals : ℕ → Day → List Row → Order Row → List (Bool × Answer)
 from_totals room d rows o = at_place 0 (totals_faults d rows) ++ order_faults room d rows o
 
-abbrev pub from_rows : ℕ → Day → List Row → Order → List (Bool × Answer)
+abbrev pub from_rows : ℕ → Day → List Row → Order Row → List (Bool × Answer)
 from_rows room d rows o = rows_faults (account_at d) rows ++ from_totals room d rows o
 
-unfoldable pub faults : Bool → Book → Order → List (Bool × Answer)
+unfoldable pub faults : Bool → Book → Order Row → List (Bool × Answer)
 faults short b o =
     let room = length b.list in
     at_place 0 (lent_faults short room b.day) ++ from_rows room b.day (holdings_in b) o
 
 -- the holdings after an order, and the book's date: only a move changes it
-unfoldable pub holdings_after : Order → List Row → List Row
+unfoldable pub holdings_after : Order Row → List Row → List Row
 holdings_after (Add t) rows = added rows t
 holdings_after (Take t) rows = taken rows t
 holdings_after (MoveTo to) rows = rows
 
-unfoldable pub date_after : Order → ℕ → ℕ
+unfoldable pub date_after : Order Row → ℕ → ℕ
 date_after (Add t) date = date
 date_after (Take t) date = date
 date_after (MoveTo to) date = to
@@ -101,24 +112,24 @@ date_after (MoveTo to) date = to
 unfoldable pub stored : Head → List Row → Day
 stored h rows = record { date = h.date; letter = h.letter; count = length rows; totals = totals_of (account_of h) rows }
 
-unfoldable pub day_after : Day → List Row → Order → Day
+unfoldable pub day_after : Day → List Row → Order Row → Day
 day_after d rows o = stored (record { date = date_after o d.date; letter = d.letter }) (holdings_after o rows)
 
 -- the holdings stand first in the list; entries past them keep what they held
-unfoldable pub book_after : Book → Order → Book
+unfoldable pub book_after : Book → Order Row → Book
 book_after b o = record { day = day_after b.day (holdings_in b) o; list = front (holdings_after o (holdings_in b)) b.list }
 
 -- accepted: the new count
-unfoldable pub accepted_answer : List Row → Order → Answer
+unfoldable pub accepted_answer : List Row → Order Row → Answer
 accepted_answer rows o = make_answer 0 (length (holdings_after o rows)) 0
 
 -- the first refusal that holds, with its place, or the new count
-unfoldable pub outcome : Bool → Book → Order → Answer
+unfoldable pub outcome : Bool → Book → Order Row → Answer
 outcome short b o = first_of (faults short b o) (accepted_answer (holdings_in b) o)
 
-unfoldable pub accepted : Bool → Book → Order → Bool
+unfoldable pub accepted : Bool → Book → Order Row → Bool
 accepted short b o = eqb (outcome short b o).number 0
 
 -- the book that is left: after a refusal nothing is changed
-unfoldable pub booked : Bool → Book → Order → Book
+unfoldable pub booked : Bool → Book → Order Row → Book
 booked short b o = cond (accepted short b o) (book_after b o) b

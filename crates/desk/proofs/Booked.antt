@@ -2,14 +2,14 @@
 -- every list that begins with the book's holdings, so also of one whose later rows tell any two records apart. Assumes nothing.
 use mathlib.Core.Path.{◌≡◌, refl, sym, ap, ◌∙◌}
 use mathlib.Core.Logic.{◌⊎◌, inl}
-use mathlib.Core.Bool.{Bool, true, false, cond}
+use mathlib.Core.Bool.{false}
 use mathlib.Core.List.{List, [], ◌∷◌, ◌++◌, map, map-append}
 use Prim.Native.Nat.{ℕ, ◌≤◌, ◌<◌}
 use native.Mathlib.Omega.{arith}
 use lib.Dec.{eqb}
 use lib.ListN.{length, take, drop, length-append, length-map, length-drop, take-append-drop}
 use lib.Seq.{take_at, length-take-le, get_or-take}
-use borrow.Author.Tests.{eqb-true, eq-eqb}
+use borrow.Author.Tests.{eqb-true, eqb-false, eq-eqb}
 use Rattle.lists.specs.Tables.{Each, front}
 use Rattle.lists.proofs.Tests.{by-test, either_way}
 use Rattle.lists.proofs.Entries.{each_map, each_back, at_each}
@@ -20,20 +20,17 @@ use Rattle.article.specs.Answer.{Answer}
 use Rattle.proposal.specs.Submission.{no_row}
 use Rattle.proposal.proofs.Clear.{number}
 use Rattle.daybook.specs.Book.{alike, valued, added, taken, Book, make_book, holdings_in}
-use Rattle.daybook.specs.Orders.{answer_of, holdings_after, outcome, accepted, booked, book_after}
+use Rattle.daybook.specs.Orders.{holdings_after, outcome, accepted, booked, book_after}
 use Rattle.daybook.specs.Bookings.{book_account, InOrder, Described, DescribedFirst}
-use Rattle.daybook.specs.declared.{Day.Day, Reply.Reply}
-use Rattle.daybook.specs.declared.Order as daybook
+use Rattle.daybook.specs.declared.{Day.Day}
+use Rattle.daybook.specs.declared.Order.{Order, TheVariants.Add, TheVariants.Take, TheVariants.MoveTo}
 use Rattle.daybook.proofs.Bookings.{bookings}
 use Rattle.daybook.proofs.Described.{described-or-not, some-fault}
 use Rattle.daybook.proofs.Descriptions.{valued_equal}
 use Rattle.booking.specs.Seeing.{trade_of, changed, Concluded}
-use Rattle.booking.specs.Settling.{no_change}
-use Rattle.booking.specs.declared.{Change.Change, Outcome.Outcome as Core}
+use Rattle.booking.specs.declared.{Change.Change, Outcome.Outcome}
 use Rattle.booking.proofs.Changed.{unchanged}
-use Rattle.desk.specs.declared.Order.{Order, TheVariants.Add, TheVariants.Take, TheVariants.MoveTo}
-use Rattle.desk.specs.declared.Outcome.{Outcome}
-use Rattle.desk.specs.Desk.{order_of, Books, worth, blank, traded_by, put_of, change_of, Examines}
+use Rattle.desk.specs.Desk.{order_of, Books, worth, blank, traded_by, put_of}
 use Rattle.desk.proofs.Mapped.{map-take, map-front, map-changed}
 use Rattle.desk.proofs.Apart.{apart_of, back_of, backs_apart, back-row, backs_rows, side-low}
 
@@ -46,7 +43,7 @@ unfolding row_of holding_of
 kept h known = rw (side-back h.side, kind-back h.kind, issuer-back h.issuer known, currency-back h.currency, rating-back h.rating)
 
 -- the row of what is put is the trade's with its value
-put-row : (o : Order) (v : ℕ) → row_of (put_of o v) ≡ valued (trade_of (order_of o)) v
+put-row : (o : Order Holding) (v : ℕ) → row_of (put_of o v) ≡ valued (trade_of (order_of o)) v
 unfolding row_of put_of traded_by worth blank valued trade_of order_of
 put-row (Add h) v = refl
 put-row (Take h) v = refl
@@ -67,7 +64,7 @@ low-taken [] t h = tt
 low-taken (r ∷ rs) t h =
     by-test (Each Low) (alike r t) (λ _. by-test (Each Low) (eqb r.value t.value) (λ _. h.1) (λ _. (h.0, h.1))) (λ _. (h.0, low-taken rs t h.1))
 
-low-after : (o : Order) (rows : List Row) → Each Low rows → Each Low (holdings_after (order_of o) rows)
+low-after : (o : Order Holding) (rows : List Row) → Each Low rows → Each Low (holdings_after (order_of o) rows)
 unfolding holdings_after order_of
 low-after (Add t) rows h = low-added rows (row_of t) h (side-low t)
 low-after (Take t) rows h = low-taken rows (row_of t) h
@@ -85,13 +82,13 @@ described-by b answer t first zero = described-or-not (book_account b) t (λ d. 
     none n = sym (ap number (first n (valued t 1) (valued_equal t 1) (cent t))) ∙ zero
 
 -- of an accepted order what is put is the record of its row
-put-kept : (b : Book) (o : Order) → InOrder false b → (outcome false b (order_of o)).number ≡ 0 → (v : ℕ) → holding_of (row_of (put_of o v)) ≡ put_of o v
+put-kept : (b : Book) (o : Order Holding) → InOrder false b → (outcome false b (order_of o)).number ≡ 0 → (v : ℕ) → holding_of (row_of (put_of o v)) ≡ put_of o v
 unfolding row_of order_of put_of traded_by worth blank
 put-kept b (Add h) i zero v =
-    let d = described-by b _ (row_of h) ((bookings.outcomes false b (daybook.TheVariants.Add (row_of h))).next i).0 zero in
+    let d = described-by b _ (row_of h) ((bookings.outcomes false b (Add (row_of h))).next i).0 zero in
     kept (worth h v) d.identity.issuer
 put-kept b (Take h) i zero v =
-    let d = described-by b _ (row_of h) ((bookings.outcomes false b (daybook.TheVariants.Take (row_of h))).next i).0 zero in
+    let d = described-by b _ (row_of h) ((bookings.outcomes false b (Take (row_of h))).next i).0 zero in
     kept (worth h v) d.identity.issuer
 put-kept b (MoveTo to) i zero v = kept (worth blank v) (inl (omega arith))
 
@@ -100,7 +97,7 @@ backs_kept : (hs : List Holding) → Each (λ h. Issued (row_of h)) hs → map b
 backs_kept [] e = refl
 backs_kept (h ∷ hs) e = rw (back-row (row_of h) (side-low h), kept h e.0) (ap (λ (l : List Holding). h ∷ l) (backs_kept hs e.1))
 
-module _ (ys : List Holding) (d : Day) (o : Order) (core : Core)
+module _ (ys : List Holding) (d : Day) (o : Order Holding) (core : Outcome)
     (concluded : (list : List Row) → length list ≡ length ys → take d.count list ≡ take d.count (map row_of ys)
     → Concluded false (make_book d list) (order_of o) core) where
   abbrev n : ℕ
@@ -159,7 +156,7 @@ module _ (ys : List Holding) (d : Day) (o : Order) (core : Core)
     after = holdings_after (order_of o) (holdings_in b)
 
     -- the core's list of it
-    distinct-after : changed core.change (valued (trade_of (order_of o)) core.change.value) distinct ≡ front after distinct
+    distinct-after : changed core.change (valued (trade_of (order_of o))) distinct ≡ front after distinct
     unfolding booked accepted book_after holdings_in
     distinct-after =
         let number' : (outcome false (make_book d distinct) (order_of o)).number ≡ 0 = ap number (sym there.answer ∙ here.answer) ∙ zero in
@@ -173,57 +170,39 @@ module _ (ys : List Holding) (d : Day) (o : Order) (core : Core)
         each-low [] = tt
         each-low (h ∷ hs) = (side-low h, each-low hs)
 
-    pub list-after : changed core.change (put_of o core.change.value) ys ≡ front (map holding_of after) ys
+    pub list-after : changed core.change (put_of o) ys ≡ front (map holding_of after) ys
     list-after =
-        let v = core.change.value in
-        let x = valued (trade_of (order_of o)) v in
-        let put : back_of x ≡ put_of o v = ap back_of (sym (put-row o v)) ∙ back-row (row_of (put_of o v)) (side-low (put_of o v)) ∙ put-kept b o in_order zero v in
-        ap (λ (h : Holding). changed core.change h ys) (sym put)
-        ∙ ap (changed core.change (back_of x)) (sym distinct-back)
+        let x = valued (trade_of (order_of o)) in
+        let put : (v : ℕ) → back_of (x v) ≡ put_of o v = λ v. ap back_of (sym (put-row o v)) ∙ back-row (row_of (put_of o v)) (side-low (put_of o v)) ∙ put-kept b o in_order zero v in
+        (λ i. changed core.change (λ v. sym (put v) i) ys)
+        ∙ ap (changed core.change (λ v. back_of (x v))) (sym distinct-back)
         ∙ sym (map-changed back_of core.change x distinct)
         ∙ ap (map back_of) distinct-after
         ∙ map-front back_of after distinct
         ∙ rw (backs_rows after lows, distinct-back)
 
-  pub rows-after : map row_of (changed core.change (put_of o core.change.value) ys) ≡ (booked false b (order_of o)).list
-  rows-after = map-changed row_of core.change (put_of o core.change.value) ys ∙ rw (put-row o core.change.value) here.list
+  rows-after : map row_of (changed core.change (put_of o) ys) ≡ (booked false b (order_of o)).list
+  rows-after =
+      map-changed row_of core.change (put_of o) ys
+      ∙ (λ i. changed core.change (λ v. put-row o v i) (map row_of ys))
+      ∙ here.list
 
--- the list that a change left, whatever is promised of the core's
-module _ (ys : List Holding) (d : Day) (o : Order) (r : Outcome) (zs : List Holding) (examines : Examines ys d o r)
-    (e : zs ≡ changed r.change r.put ys) where
-  abbrev ends : Concluded false (make_book d (map row_of ys)) (order_of o) examines.core
-  ends = here ys d o examines.core examines.concluded
-
-  abbrev number_is : ℕ
-  number_is = (outcome false (make_book d (map row_of ys)) (order_of o)).number
-
-  change-is : (t : Bool) → eqb number_is 0 ≡ t → r.change ≡ cond t examines.core.change (no_change (length ys))
-  unfolding change_of
-  change-is t s =
-      examines.follows.change
-      ∙ ap (λ (u : Bool). cond u examines.core.change (no_change (length ys))) (ap (λ (a : Answer). eqb a.number 0) ends.answer ∙ s)
-
-  list-is : (c : Change) → r.change ≡ c → zs ≡ changed c (put_of o c.value) ys
-  list-is c s = e ∙ ap (λ (h : Holding). changed r.change h ys) examines.follows.put ∙ ap (λ (k : Change). changed k (put_of o k.value) ys) s
-
-  answer : answer_of r.reply.finding ≡ outcome false (make_book d (map row_of ys)) (order_of o)
-  answer = ap (λ (p : Reply). answer_of p.finding) examines.follows.reply ∙ ends.answer
-
-  day : r.reply.day ≡ (booked false (make_book d (map row_of ys)) (order_of o)).day
-  day = ap (λ (p : Reply). p.day) examines.follows.reply ∙ ends.day
-
-  pub books : Books ys d o zs r.reply
+  -- the list that the change left
+  pub books : (zs : List Holding) → zs ≡ changed core.change (put_of o) ys → Books ys d o zs core.reply
   unfolding accepted booked
-  books =
-      either_way (eqb number_is 0)
-      (λ t.
-      let z = list-is examines.core.change (change-is true t) in
-      record {
-        answer = answer;
-        day = day;
-        list = rw t (z ∙ list-after ys d o examines.core examines.concluded (eqb-true number_is 0 t));
-        rows = ap (map row_of) z ∙ rows-after ys d o examines.core examines.concluded;
+  books zs e =
+      either_way (eqb (outcome false b (order_of o)).number 0)
+      (λ t. record {
+        answer = here.answer;
+        day = here.day;
+        list = rw t (e ∙ list-after (eqb-true _ 0 t));
+        rows = ap (map row_of) e ∙ rows-after;
       })
       (λ t.
-      let z : zs ≡ ys = list-is (no_change (length ys)) (change-is false t) ∙ unchanged (put_of o 0) ys (length ys) refl in
-      record { answer = answer; day = day; list = rw t z; rows = rw t (ap (map row_of) z) })
+      let stays = here.stays (eqb-false _ 0 t) in
+      record {
+        answer = here.answer;
+        day = here.day;
+        list = rw t (e ∙ ap (λ (c : Change). changed c (put_of o) ys) stays ∙ unchanged (put_of o) ys);
+        rows = ap (map row_of) e ∙ rows-after;
+      })

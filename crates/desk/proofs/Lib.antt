@@ -1,6 +1,4 @@
-pub mod Moving
 pub mod Mapped
 pub mod Apart
-pub mod Seen
-pub mod Judging
+pub mod Listed
 pub mod Booked

@@ -1,11 +1,11 @@
 -- What is done to a list is done to its entries' images. Assumes nothing.
-use mathlib.Core.Path.{◌≡◌, refl, ap}
+use mathlib.Core.Path.{◌≡◌, refl, ap, ◌∙◌}
 use mathlib.Core.List.{List, [], ◌∷◌, map, map-append}
 use Prim.Native.Nat.{ℕ, zero, suc, ◌-◌}
 use lib.ListN.{length, take, drop, set, length-map}
 use Rattle.lists.specs.Tables.{front, overwrite}
 use Rattle.booking.specs.Seeing.{moved_up, changed}
-use Rattle.booking.specs.declared.Change.{Change}
+use Rattle.booking.specs.declared.Change.{Change, TheVariants.Stay, TheVariants.Put, TheVariants.CloseUp}
 
 module _ {A B : Type 0} (f : A → B) where
   pub map-take : (n : ℕ) (xs : List A) → map f (take n xs) ≡ take n (map f xs)
@@ -31,12 +31,10 @@ module _ {A B : Type 0} (f : A → B) where
   unfolding overwrite
   map-overwrite at xs old = rw (map-append f (take at old) (front xs (drop at old)), map-take at old, map-front xs (drop at old), map-drop at old)
 
-  pub map-changed : (c : Change) (x : A) (xs : List A) → map f (changed c x xs) ≡ changed c (f x) (map f xs)
+  pub map-changed : (c : Change) (entry : ℕ → A) (xs : List A) → map f (changed c entry xs) ≡ changed c (λ v. f (entry v)) (map f xs)
   unfolding changed moved_up
-  map-changed c x xs =
-      rw (
-        map-set (overwrite (c.first - 1) (take (c.end - c.first) (drop c.first xs)) xs) c.at x,
-        map-overwrite (c.first - 1) (take (c.end - c.first) (drop c.first xs)) xs,
-        map-take (c.end - c.first) (drop c.first xs),
-        map-drop c.first xs,
-      )
+  map-changed Stay entry xs = refl
+  map-changed (Put at value) entry xs = map-set xs at (entry value)
+  map-changed (CloseUp first end) entry xs =
+      map-overwrite (first - 1) (take (end - first) (drop first xs)) xs
+      ∙ ap (λ (l : List B). overwrite (first - 1) l (map f xs)) (map-take (end - first) (drop first xs) ∙ ap (take (end - first)) (map-drop first xs))

@@ -5,11 +5,14 @@ use mathlib.Core.Bool.{Bool, false, cond, not}
 use mathlib.Core.List.{List, [], ◌∷◌, ◌++◌, map, flat_map}
 use Prim.Native.Nat.{ℕ, ◌-◌, ◌*◌}
 use Prim.Native.String.{String}
+use Rattle.std.proofs.Common.{Result, Ok, Err}
 use lib.Dec.{eqb}
 use lib.ListN.{length, get_or, take, drop, replicate}
 use Rattle.lists.specs.Tables.{ascii, front}
 use Rattle.lists.specs.Choice.{same, first_of}
 use Rattle.words.specs.Words.{decode, encode}
+use Rattle.refusals.specs.Refusals.{number_of}
+use Rattle.refusals.specs.declared.Refusal.{Refusal}
 use Rattle.holding.specs.Holding.{head_fault, account_of, numbers_of, fault_of, holding_of, row_of}
 use Rattle.holding.specs.declared.Head.{Head}
 use Rattle.holding.specs.declared.Row.{Row}
@@ -22,14 +25,12 @@ use Rattle.proposal.specs.Outcome.{outcome}
 use Rattle.codes.specs.Codes.{place_of}
 use Rattle.rfc4180.specs.Grammar.{is_text, is_quotable}
 use Rattle.rfc4180.specs.Reading.{formed}
-use Rattle.layout.specs.Layout.{by_place, value_of, letters, Meaning, good, refused, parse}
+use Rattle.layout.specs.Layout.{valued as placed, value_of, letters, Meaning, good, refused, parse}
 use Rattle.layout.specs.declared.Sort.{Sort}
-use Rattle.layout.specs.declared.Value.{Value}
-use Rattle.layout.specs.declared.Value.TheVariants.{Of, Refused}
 use Rattle.columns.specs.Columns.{Columns, make_columns, submission, column, filled}
 use Rattle.lent.specs.Boundary.{make_lent, answered, outcome_of}
 use Rattle.lei.specs.Lei as lei
-use Rattle.lei.specs.Lei.{lei_of, lei_text}
+use Rattle.lei.specs.Lei.{make_lei, lei_of, lei_text}
 use Rattle.reader.specs.File.{submission_of, submission_in, leis_in, file_fault, at_record}
 use Rattle.received.specs.Reading.{reading_answer, filling, heading}
 use Rattle.received.specs.Naming.{naming_answer, naming}
@@ -106,13 +107,13 @@ abbrev pub line : ℕ → ℕ → ℕ → Line
 line long short amount = record { long = long; short = short; amount = amount }
 
 -- a value, or none; and its refusal, or none
-abbrev valued : Value → List ℕ
-valued (Of n) = n ∷ []
-valued (Refused n) = []
+abbrev valued : Result ℕ Refusal → List ℕ
+valued (Ok n) = n ∷ []
+valued (Err refusal) = []
 
-abbrev unfit : Value → List ℕ
-unfit (Of n) = []
-unfit (Refused n) = n ∷ []
+abbrev unfit : Result ℕ Refusal → List ℕ
+unfit (Ok n) = []
+unfit (Err refusal) = number_of refusal ∷ []
 
 -- 1 for yes, 0 for no
 abbrev flag : Bool → ℕ
@@ -242,12 +243,12 @@ remainders name texts expected = record { name = name; computed = map (λ text. 
 abbrev pub keys : String → List String → List (ℕ × ℕ) → Case
 keys name texts expected = record {
   name = name;
-  computed = flat_map (λ text. (lei_of (ascii text)).0 ∷ (lei_of (ascii text)).1 ∷ []) texts;
+  computed = flat_map (λ text. (lei_of (ascii text)).high ∷ (lei_of (ascii text)).low ∷ []) texts;
   stated = flat_map (λ k. k.0 ∷ k.1 ∷ []) expected;
 }
 
 abbrev pub writes : String → List (ℕ × ℕ) → List String → Case
-writes name numbers texts = record { name = name; computed = flat_map lei_text numbers; stated = flat_map ascii texts }
+writes name numbers texts = record { name = name; computed = flat_map (λ k. lei_text (make_lei k.0 k.1)) numbers; stated = flat_map ascii texts }
 
 -- the issuer and the rating of each holding that parsed records submit, and that a text does; and the LEIs of its corporations
 abbrev issuers_in : Submission → List ℕ
@@ -291,7 +292,7 @@ abbrev pub fields : String → List String → List ℕ → ℕ → Case
 fields name letters counts n = records name (flat_map (λ text. map (λ more. ascii text ∷ replicate more []) counts) letters) n
 
 abbrev pub letter : String → List String → List ℕ → Case
-letter name texts expected = record { name = name; computed = flat_map (λ text. valued (by_place (place_of (ascii text) letters))) texts; stated = expected }
+letter name texts expected = record { name = name; computed = flat_map (λ text. valued (placed (place_of (ascii text) letters))) texts; stated = expected }
 
 abbrev pub byte : String → ℕ → ℕ → List ℕ → Case
 byte name text quotable bytes = record {

@@ -1,5 +1,6 @@
 -- Complete: a record of the grammar is read where it stands, and a file of the grammar record by record. Assumes nothing.
 use mathlib.Core.Path.{◌≡◌, refl, sym, ap, ◌∙◌}
+use Rattle.std.specs.Prelude.{Option, Some}
 use mathlib.Core.Bool.{Bool, true, false, false≢true}
 use mathlib.Core.List.{List, [], ◌∷◌, ◌++◌, map, append_assoc, append-nil}
 use Prim.Native.Nat.{ℕ, ◌+◌, ◌<◌}
@@ -10,16 +11,14 @@ use lib.ListN.{length, drop, length-append, length-drop}
 use Rattle.lists.specs.Choice.{within}
 use Rattle.rfc4180.specs.Grammar.{is_text, is_quotable, TextRun, no_text, text_data, QuotedRun, no_quoted, quoted, doubled, escaped, non_escaped, Record, one, more, File, none, last, line}
 use Rattle.rfc4180.specs.Grammar as G
-use Rattle.rfc4180.specs.Reading.{span, part, text_from, text_end, close_from, close_at, followed_by, followed, begins, opens, field_at, fields, record_at, Read, formed, records_at, records_of}
+use Rattle.rfc4180.specs.Reading.{span, piece, part, text_from, text_end, close_from, close_at, followed_by, followed, begins, opens, enclosed, field_at}
+use Rattle.rfc4180.specs.Reading.{fields, record_at, Read, formed, records_at, records_of}
 use Rattle.rfc4180.specs.declared.Span.{Span}
-use Rattle.rfc4180.specs.declared.Found.{Found}
-use Rattle.rfc4180.specs.declared.Found.TheVariants.{At}
 use Rattle.rfc4180.specs.declared.Piece.{Piece}
-use Rattle.rfc4180.specs.declared.Piece.TheVariants.{Field}
-use Rattle.rfc4180.proofs.Scan.{close_in, field_plain, field_shut}
+use Rattle.rfc4180.proofs.Scan.{close_cons}
 use Rattle.rfc4180.proofs.Pieces.{Ending, comma, end, after, part_of}
 use Rattle.rfc4180.proofs.Pieces as pieces
-use Rattle.rfc4180.proofs.Places.{clash, record_turn, records_end, records_next}
+use Rattle.rfc4180.proofs.Places.{record_turn, records_end, records_next}
 
 -- what may follow a field: it is no TEXTDATA, no quote, and is read as what it is
 text-ends : {b : Bool} {mark rest : List ℕ} → Ending b mark rest → (i : ℕ) → text_from i (mark ++ rest) ≡ i
@@ -28,7 +27,7 @@ text-ends comma i = refl
 text-ends pieces.line i = refl
 text-ends end i = refl
 
-close_ends : {b : Bool} {mark rest : List ℕ} → Ending b mark rest → (i : ℕ) → close_from i (0x22 ∷ (mark ++ rest)) ≡ At i
+close_ends : {b : Bool} {mark rest : List ℕ} → Ending b mark rest → (i : ℕ) → close_from i (0x22 ∷ (mark ++ rest)) ≡ Some i
 unfolding close_from
 close_ends comma i = refl
 close_ends pieces.line i = refl
@@ -40,7 +39,7 @@ opens_not comma = refl
 opens_not pieces.line = refl
 opens_not end = refl
 
-ends : {b : Bool} {mark rest : List ℕ} → Ending b mark rest → (s : Span) (i : ℕ) → followed_by s i (mark ++ rest) ≡ Field s b (i + length mark)
+ends : {b : Bool} {mark rest : List ℕ} → Ending b mark rest → (s : Span) (i : ℕ) → followed_by s i (mark ++ rest) ≡ Some (piece s b (i + length mark))
 unfolding followed_by begins
 ends comma s i = refl
 ends pieces.line s i = refl
@@ -66,21 +65,21 @@ opens_quote l = refl
 
 -- what is read of a list that stands at place i
 module _ (text : List ℕ) (i : ℕ) (l : List ℕ) (d : drop i text ≡ l) where
-  text-on : {n : ℕ} → text_from i l ≡ n → n ≡ text_end text i
+  text-on : {n : ℕ} → text_from i l ≡ n → text_end text i ≡ n
   unfolding text_end
-  text-on e = sym (rw d e)
+  text-on e = rw d e
 
-  close_on : {f : Found} → close_from i l ≡ f → f ≡ close_at text i
+  close_on : {f : Option ℕ} → close_from i l ≡ f → close_at text i ≡ f
   unfolding close_at
-  close_on e = sym (rw d e)
+  close_on e = rw d e
 
-  opens-on : {o : Bool} → begins 0x22 l ≡ o → o ≡ opens text i
+  opens-on : {o : Bool} → begins 0x22 l ≡ o → opens text i ≡ o
   unfolding opens
-  opens-on e = sym (rw d e)
+  opens-on e = rw d e
 
-  followed-on : (s : Span) {p : Piece} → followed_by s i l ≡ p → p ≡ followed text s i
+  followed-on : (s : Span) {p : Option Piece} → followed_by s i l ≡ p → followed text s i ≡ p
   unfolding followed
-  followed-on s e = sym (rw d e)
+  followed-on s e = rw d e
 
 module _ {b : Bool} {mark rest : List ℕ} (w : Ending b mark rest) where
   text-whole : {t : List ℕ} → TextRun t → (i : ℕ) → text_from i (t ++ (mark ++ rest)) ≡ i + length t
@@ -93,22 +92,23 @@ module _ {b : Bool} {mark rest : List ℕ} (w : Ending b mark rest) where
   opens-text no_text = opens_not w
   opens-text (text_data {c} e h) = no_quote is_text quote_no_text c e
 
-  close_whole : {t : List ℕ} → QuotedRun t → (i : ℕ) → close_from i (t ++ 0x22 ∷ (mark ++ rest)) ≡ At (i + length t)
+  close_whole : {t : List ℕ} → QuotedRun t → (i : ℕ) → close_from i (t ++ 0x22 ∷ (mark ++ rest)) ≡ Some (i + length t)
   unfolding close_from
-  close_whole no_quoted i = close_ends w i ∙ ap At (omega arith)
+  close_whole no_quoted i = close_ends w i ∙ ap Some (omega arith)
   close_whole (quoted {c} {s} e h) i =
-      close_in i c (s ++ 0x22 ∷ (mark ++ rest)) (no_quote is_quotable quote_not_quotable c e) e ∙ close_whole h (i + 1) ∙ ap At (omega arith)
-  close_whole (doubled h) i = close_whole h (i + 2) ∙ ap At (omega arith)
+      close_cons i c (s ++ 0x22 ∷ (mark ++ rest)) ∙ rw (no_quote is_quotable quote_not_quotable c e, e) (close_whole h (i + 1) ∙ ap Some (omega arith))
+  close_whole (doubled h) i = close_whole h (i + 2) ∙ ap Some (omega arith)
 
   module _ (text : List ℕ) (i : ℕ) where
     -- a field of the grammar is read where it stands
     pub field_complete : {t f : List ℕ} → G.Field t f → drop i text ≡ t ++ (mark ++ rest)
-        → (s : Span) × (field_at text i ≡ Field s b (i + length t + length mark)) × (part text s ≡ f)
+        → (s : Span) × (field_at text i ≡ Some (piece s b (i + length t + length mark))) × (part text s ≡ f)
+    unfolding field_at enclosed
     field_complete (non_escaped {t} h) d =
         let e = i + length t in
         let follows = followed-on text e (mark ++ rest) (after text i t (mark ++ rest) d e refl) (span i e) (ends w (span i e) e) in (
           span i e,
-          sym (field_plain text i false e _ (opens-on text i _ d (opens-text h)) refl (text-on text i _ d (text-whole h i)) follows),
+          rw (opens-on text i _ d (opens-text h), text-on text i _ d (text-whole h i)) follows,
           part_of text i t (mark ++ rest) d e refl,
         )
     field_complete (escaped {t} h) d =
@@ -119,7 +119,7 @@ module _ {b : Bool} {mark rest : List ℕ} (w : Ending b mark rest) where
         after text i (0x22 ∷ []) (t ++ 0x22 ∷ (mark ++ rest)) (d ∙ ap (λ l. 0x22 ∷ l) (append_assoc t (0x22 ∷ []) (mark ++ rest))) (i + 1) refl in
         let follows = followed-on text (e + 1) (mark ++ rest) (after text i whole (mark ++ rest) d (e + 1) n) (span (i + 1) e) (ends w (span (i + 1) e) (e + 1)) in (
           span (i + 1) e,
-          sym (field_shut text i true (At e) (opens-on text i _ d (opens_quote _)) refl (close_on text (i + 1) _ inner (close_whole h (i + 1))) e _ refl (rw (← n) follows)),
+          rw (opens-on text i _ d (opens_quote _), close_on text (i + 1) _ inner (close_whole h (i + 1)), ← n) follows,
           part_of text (i + 1) t (0x22 ∷ (mark ++ rest)) inner e refl,
         )
 
@@ -175,8 +175,8 @@ file_unique text rs rs' f g = formed-same rs rs' (sym (file_complete text rs f) 
   where
     formed-same : (xs ys : List (List (List ℕ))) → map formed xs ≡ map formed ys → xs ≡ ys
     formed-same [] [] e = refl
-    formed-same [] (y ∷ ys) e = clash cc
-    formed-same (x ∷ xs) [] e = clash cc
+    formed-same [] (y ∷ ys) e = absurd cc
+    formed-same (x ∷ xs) [] e = absurd cc
     formed-same (x ∷ xs) (y ∷ ys) e =
         let a : x ≡ y = cc in
         let b : map formed xs ≡ map formed ys = cc in

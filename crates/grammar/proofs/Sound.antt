@@ -11,7 +11,7 @@ use Rattle.rfc4180.specs.Reading.{part, Split, fields, malformed, record_at, for
 use Rattle.rfc4180.specs.declared.Span.{Span}
 use Rattle.rfc4180.proofs.Pieces as pieces
 use Rattle.rfc4180.proofs.Pieces.{Ending}
-use Rattle.rfc4180.proofs.Places.{clash, Reads, final, another, record_reads, records_end, records_broken, records_next}
+use Rattle.rfc4180.proofs.Places.{Reads, final, another, record_reads, records_end, records_broken, records_next}
 
 -- a record that was read at place i: its text, what ends it, and where the next one starts
 pub record RecordRead (text : List ℕ) (i : ℕ) (ss : List Span) (next : ℕ) : Type 0 where
@@ -69,12 +69,12 @@ module _ (text : List ℕ) where
       (λ k h e. rw (drop_of_length-le text h) none)
     where
       go : (k : ℕ) → k < length text → (p : Split) → record_at text k ≡ p → records_at text k ≡ [] → File (drop k text) []
-      go k h (fields ss next) p e = let z = sym e ∙ records_next text k h p in clash cc
-      go k h malformed p e = let z = sym e ∙ records_broken text k h p in clash cc
+      go k h (fields ss next) p e = let z = sym e ∙ records_next text k h p in absurd cc
+      go k h malformed p e = let z = sym e ∙ records_broken text k h p in absurd cc
   records_sound (fs ∷ rs) =
       by_end (λ (k : ℕ). records_at text k ≡ formed fs ∷ map formed rs → File (drop k text) (fs ∷ rs)) (length text)
       (λ k h e. go k h (record_at text k) refl e (records_sound rs))
-      (λ k h e. let z = sym e ∙ records_end text k h in clash cc)
+      (λ k h e. let z = sym e ∙ records_end text k h in absurd cc)
     where
       go : (k : ℕ) → k < length text → (p : Split) → record_at text k ≡ p → records_at text k ≡ formed fs ∷ map formed rs
           → ((n : ℕ) → records_at text n ≡ map formed rs → File (drop n text) rs) → File (drop k text) (fs ∷ rs)
@@ -84,7 +84,7 @@ module _ (text : List ℕ) where
           let b : records_at text next ≡ map formed rs = cc in
           let r = record_sound text k ss next p in
           rw r.here (file-more r.ending (rw a at r.derived) (f next b) (omega (arith, ap length r.here, length-drop k text)))
-      go k h malformed p e f = let z = sym e ∙ records_broken text k h p in clash cc
+      go k h malformed p e f = let z = sym e ∙ records_broken text k h p in absurd cc
 
 -- a text from which well-formed records are read is a file that has them
 pub file_sound : (text : List ℕ) (rs : List (List (List ℕ))) → records_of text ≡ map formed rs → File text rs

@@ -21,7 +21,7 @@ use Rattle.daybook.specs.declared.Order.{Order, TheVariants.Add, TheVariants.Tak
 use Rattle.daybook.proofs.{Described.description-listed, Checked.from-order, Checked.accepted-in_order}
 
 -- every refusal has a number, from 1
-order-numbered : (room : ℕ) (d : Day) (rows : List Row) (o : Order) → Numbered number (order_faults room d rows o)
+order-numbered : (room : ℕ) (d : Day) (rows : List Row) (o : Order Row) → Numbered number (order_faults room d rows o)
 unfolding order_faults sum_faults join_faults taking_faults date_faults matured_faults at_matured
 order-numbered room d rows (Add t) =
     listed_at 0 _
@@ -36,7 +36,7 @@ order-numbered room d rows (MoveTo to) =
     (listed_at 0 (date_faults d.date to) (omega arith, (omega arith, tt)))
     (numbered-in_turn number (at_matured rows to) (λ k. listed_at k _ (omega arith, tt)) _)
 
-module _ (short : Bool) (b : Book) (o : Order) where
+module _ (short : Bool) (b : Book) (o : Order Row) where
   abbrev room : ℕ
   room = length b.list
 

@@ -16,6 +16,7 @@ use Rattle.ledger.specs.Trades.{Trade}
 use Rattle.ledger.proofs.Holdings.{held}
 use Rattle.ledger.proofs.Reckoned.{Reckoned, reckoned-none, reckoned-added, reckoned-taken, reckoned_balance}
 use Rattle.ledger.proofs.One.{one-balance}
+use Rattle.holding.specs.declared.Row.{Row}
 use Rattle.daybook.specs.Book.{description_of, total_of, totals_of, head_of, account_at, Book, holdings_in}
 use Rattle.daybook.specs.Orders.{holdings_after, date_after, stored, day_after, book_after, accepted, booked}
 use Rattle.daybook.specs.declared.Order.{Order, TheVariants.Add, TheVariants.Take, TheVariants.MoveTo}
@@ -25,12 +26,12 @@ use Rattle.history.proofs.Accepted.{Passes, accepted_passes, none_adding, none_t
 use Rattle.history.proofs.Lengths.{added-fits, taken-fits}
 
 -- the holdings that an order leaves stand first, as many as are counted
-after-holdings : (b : Book) (o : Order) → holdings_in (book_after b o) ≡ holdings_after o (holdings_in b)
+after-holdings : (b : Book) (o : Order Row) → holdings_in (book_after b o) ≡ holdings_after o (holdings_in b)
 unfolding holdings_in book_after day_after stored front
 after-holdings b o = take_at (holdings_after o (holdings_in b)) _ _ refl
 
 -- the date stays with every order that names no other
-date_stays : (short : Bool) (b : Book) (o : Order) → date_after o b.day.date ≡ b.day.date → (booked short b o).day.date ≡ b.day.date
+date_stays : (short : Bool) (b : Book) (o : Order Row) → date_after o b.day.date ≡ b.day.date → (booked short b o).day.date ≡ b.day.date
 unfolding booked book_after day_after stored
 date_stays short b o e = by-test (λ (x : Book). x.day.date ≡ b.day.date) (accepted short b o) (λ _. e) (λ _. refl)
 
@@ -51,12 +52,12 @@ module _ (start : Book) where
 
   module _ (sofar : List (Trade Description)) (b : Book) (r : Right sofar b) where
     -- what an order that nothing refuses leaves: the balance of one trade more, in no more entries than 256 and than the list has
-    record Leaves (o : Order) : Type 0 where
+    record Leaves (o : Order Row) : Type 0 where
       reckoned : Reckoned same (noted o sofar) (map entry_of (holdings_after o (holdings_in b)))
       few : length (holdings_after o (holdings_in b)) ≤ 256
       fits : length (holdings_after o (holdings_in b)) ≤ length b.list
 
-    leaving : (short : Bool) (o : Order) → Passes short b o → Leaves o
+    leaving : (short : Bool) (o : Order Row) → Passes short b o → Leaves o
     unfolding noted holdings_after
     leaving short (Add t) p =
         let rows = holdings_in b in
@@ -77,7 +78,7 @@ module _ (start : Book) where
         }
     leaving short (MoveTo to) p = record { reckoned = r.reckoned; few = omega (arith, r.count, p.few); fits = omega (arith, r.count, p.fits) }
 
-    right_after : (short : Bool) (o : Order) → Passes short b o → Right (noted o sofar) (book_after b o)
+    right_after : (short : Bool) (o : Order Row) → Passes short b o → Right (noted o sofar) (book_after b o)
     right_after short o p =
         let l = leaving short o p in
         let rows = holdings_after o (holdings_in b) in

@@ -13,7 +13,7 @@ use Rattle.daybook.specs.declared.Order.{Order, TheVariants.Add, TheVariants.Tak
 -- a call: an order, and whether 2 holds of another list that is lent with it
 pub record Call : Type 0 where
   pub short : Bool
-  pub order : Order
+  pub order : Order Row
 
 -- a description in numbers: side, kind, issuer, maturity, currency and rating; a row is one, with a value
 abbrev pub Description : Type 0
@@ -23,7 +23,7 @@ unfoldable pub entry_of : Row → Entry Description
 entry_of r = make_entry (description_of r) r.value
 
 -- the trade of an order before earlier trades; a move is none
-unfoldable pub noted : Order → List (Trade Description) → List (Trade Description)
+unfoldable pub noted : Order Row → List (Trade Description) → List (Trade Description)
 noted (Add t) earlier = adding (description_of t) t.value ∷ earlier
 noted (Take t) earlier = taking (description_of t) t.value ∷ earlier
 noted (MoveTo to) earlier = earlier

@@ -1,5 +1,5 @@
 -- A head has no fault exactly when its valuation date is one and its letter is one of the two. Assumes nothing.
-use mathlib.Core.Path.{◌≡◌, refl, sym, ◌∙◌}
+use mathlib.Core.Path.{◌≡◌, refl, sym, ap, ◌∙◌}
 use mathlib.Core.Bool.{true, false, and-false}
 use Prim.Native.Nat.{ℕ, ◌≤◌, ◌<◌}
 use native.Mathlib.Omega.{arith}
@@ -15,7 +15,10 @@ use Rattle.holding.specs.declared.AccountKind.{AccountKind}
 use Rattle.holding.specs.declared.AccountKind.TheVariants.{Participant, Client}
 use Rattle.holding.specs.declared.Head.{Head}
 use Rattle.holding.specs.declared.Account.{Account}
-use Rattle.holding.specs.declared.Headed.TheVariants.{For, NoAccount}
+use Rattle.std.specs.Prelude.{Result, Ok, Err}
+use Rattle.refusals.specs.Refusals.{number_of, refused_by, numbered}
+use Rattle.refusals.specs.declared.Refusal.{Refusal}
+use Rattle.refusals.proofs.Refusals.{refused}
 
 -- a letter is the case of its number
 pub letter-back : (k : AccountKind) → letter_of (letter_number k) ≡ k
@@ -58,11 +61,7 @@ module _ (h : Head) where
       (leb-true h.letter 1)
       (λ f. let never : 26 ≡ 0 = sym (unlettered-head (head-valued e) (leb-false h.letter 1 f)) ∙ e in absurd (omega arith))
 
-  -- its date is small
-  pub head-fits : head_fault h ≡ 0 → h.date < 4294967296
-  head-fits e = omega (arith, date-high h.date (head-valued e))
-
-  pub head-account : head_fault h ≡ 0 → headed_of h ≡ For (account_of h)
+  pub head-account : head_fault h ≡ 0 → headed_of h ≡ Ok (account_of h)
   unfolding headed_of
   head-account e = rw (eq-eqb (head_fault h) 0 e)
 
@@ -80,16 +79,20 @@ module _ (h : Head) where
     client = λ e. rw e;
   }
 
-  pub head-none : (head_fault h ≡ 0 → ⊥) → headed_of h ≡ NoAccount
+  pub head-none : (head_fault h ≡ 0 → ⊥) → headed_of h ≡ Err (head_fault h)
   unfolding headed_of
   head-none e = rw (ne_eqb (head_fault h) 0 e)
 
-pub no_account : {a : Account} → NoAccount ≡ For a → ⊥
-no_account e = let never : ◌≡◌ {A = ℕ} 0 1 = cc in omega arith
+module _ (h : Head) {r : Result Account Refusal} where
+  -- the account that a head makes is its own
+  pub account-head : numbered r ≡ headed_of h → {a : Account} → r ≡ Ok a → (head_fault h ≡ 0) × (a ≡ account_of h)
+  account-head made {a} e =
+      same_or_not (head_fault h) 0
+      (λ z. let own = head-account h z in let is : numbered r ≡ Ok a = ap numbered e in (z, cc))
+      (λ n. let none = head-none h n in let is : numbered r ≡ Ok a = ap numbered e in absurd (cc))
 
--- the account that a head makes is its own
-pub account-head : (h : Head) {a : Account} → headed_of h ≡ For a → (head_fault h ≡ 0) × (a ≡ account_of h)
-account-head h {a} e =
-    same_or_not (head_fault h) 0
-    (λ z. let made = head-account h z in (z, cc))
-    (λ n. absurd (no_account (sym (head-none h n) ∙ e)))
+  -- the refusal of a head is its fault
+  pub refused-head : refused_by r ≡ head_fault h → {x : Refusal} → r ≡ Err x → (number_of x ≡ head_fault h) × (head_fault h ≡ 0 → ⊥)
+  refused-head found {x} e = (ap refused_by (sym e) ∙ found, λ z. refused e (found ∙ z))
+
+pub ruleset heads = (sound_head, unvalued_head, unlettered-head, head-account, head-none, date-high)

@@ -1,17 +1,16 @@
 -- Document 01, "A holding", document 02 a), its currency, b), dates, d), corporations, and e), the account's letter: the ranges of raw numbers, and the records that
 -- numbers within them make. Assumes nothing.
 use mathlib.Core.{Path.◌≡◌, Bool.Bool, Bool.cond, Bool.not, Bool.◌||◌, Bool.true, Bool.false, List.List, List.[], List.◌∷◌, List.◌++◌, Logic.◌⊎◌}
-use Rattle.std.specs.Prelude.{ℕ, ◌≤◌, ◌<◌}
+use Rattle.std.specs.Prelude.{ℕ, ◌≤◌, ◌<◌, Result, Ok, Err}
 use lib.{Dec.eqb, Dec.ltb, Dec.leb, ListN.get_or}
 use Rattle.lists.specs.Choice.{first_of, within}
 use Rattle.dates.specs.Calendar.{is_date, anniversary}
+use Rattle.refusals.specs.{Refusals.refused_by, Refusals.numbered, declared.Refusal.Refusal}
 use Rattle.holding.specs.declared.{Side.Side, Side.TheVariants.Long, Side.TheVariants.Short, Kind.Kind, Kind.TheVariants.Bond, Kind.TheVariants.Coupon, Kind.TheVariants.Residual}
 use Rattle.holding.specs.declared.Issuer.{Issuer, TheVariants.Canada, TheVariants.Province, TheVariants.UnitedStates, TheVariants.UnitedKingdom, TheVariants.Corporation}
 use Rattle.holding.specs.declared.Rating.{Rating, TheVariants.SingleA, TheVariants.Lower, TheVariants.NotGiven}
 use Rattle.holding.specs.declared.{Currency.Currency, Currency.TheVariants.Cad, Currency.TheVariants.Usd, Currency.TheVariants.Gbp, Holding.Holding, Row.Row, Head.Head, Account.Account}
 use Rattle.holding.specs.declared.AccountKind.{AccountKind, TheVariants.Participant, TheVariants.Client}
-use Rattle.holding.specs.declared.Headed.{Headed, TheVariants.For, TheVariants.NoAccount}
-use Rattle.holding.specs.declared.Built.{Built, TheVariants.Made, TheVariants.Refused}
 
 -- the most cents that a market value may be
 abbrev pub value_limit : ℕ
@@ -43,9 +42,9 @@ letter_of n = cond (eqb n 0) Participant Client
 unfoldable pub account_of : Head → Account
 account_of h = record { date = h.date; letter = letter_of h.letter }
 
--- a head without fault has its account, any other none
-unfoldable pub headed_of : Head → Headed
-headed_of h = cond (eqb (head_fault h) 0) (For (account_of h)) NoAccount
+-- a head without fault has its account, any other is refused with its fault
+unfoldable pub headed_of : Head → Result Account ℕ
+headed_of h = cond (eqb (head_fault h) 0) (Ok (account_of h)) (Err (head_fault h))
 
 -- the numbers of a row in the order of their columns, and the row of such a list
 unfoldable pub numbers_of : Row → List ℕ
@@ -222,19 +221,14 @@ holding_of r = record {
   rating = rating_of r.rating;
 }
 
--- the paper's number of what a row makes: 0 for a record, else the refusal's
-abbrev pub number_of : Built → ℕ
-number_of (Made h) = 0
-number_of (Refused n) = n
-
--- a row without fault makes its record
-unfoldable pub built_of : Account → Row → Built
-built_of a r = cond (eqb (fault_of a r) 0) (Made (holding_of r)) (Refused (fault_of a r))
+-- a row without fault makes its record, any other is refused with its fault
+unfoldable pub built_of : Account → Row → Result Holding ℕ
+built_of a r = cond (eqb (fault_of a r) 0) (Ok (holding_of r)) (Err (fault_of a r))
 
 -- what making a record of a row promises
-pub record Builds (a : Account) (row : Row) (r : Built) : Type 0 where
-  pub number : number_of r ≡ fault_of a row
-  pub built : r ≡ built_of a row
+pub record Builds (a : Account) (row : Row) (r : Result Holding Refusal) : Type 0 where
+  pub number : refused_by r ≡ fault_of a row
+  pub built : numbered r ≡ built_of a row
 
 -- a head is its valuation date and its letter; it is refused, with 24, when the date is unreal or outside the years, else with 26 when the letter is neither of the two,
 -- and else these are the account's: 0 is `P`, an approved participant's, and 1 is `C`, a client's
@@ -244,7 +238,7 @@ pub record HeadKept (h : Head) : Type 0 where
   pub no_fault : is_date h.date ≡ true → h.letter ≤ 1 → head_fault h ≡ 0
   pub unreal : is_date h.date ≡ false → head_fault h ≡ 24
   pub neither : is_date h.date ≡ true → 1 < h.letter → head_fault h ≡ 26
-  pub made : is_date h.date ≡ true → h.letter ≤ 1 → headed_of h ≡ For (account_of h)
+  pub made : is_date h.date ≡ true → h.letter ≤ 1 → headed_of h ≡ Ok (account_of h)
   pub date : (account_of h).date ≡ h.date
   pub participant : h.letter ≡ 0 → (account_of h).letter ≡ Participant
   pub client : h.letter ≡ 1 → (account_of h).letter ≡ Client

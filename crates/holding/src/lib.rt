@@ -2,22 +2,26 @@
 #![tactic(auto)]
 
 ghost use Rattle.std.specs.Prelude.{◌≡◌};
+ghost use Rattle.refusals.specs.Refusals.{refused_by, numbered};
 ghost use Rattle.lists.specs.Choice.{first_of};
 ghost use Rattle.holding.specs.Holding.{head_fault, letter_of, letter_number, headed_of, identity_faults, term_faults, worth_faults, money_faults, fault_of, Builds};
 ghost use Rattle.holding.specs.Holding.{side_of, kind_of, is_corporation, is_issuer, issuer_of, currency_of, is_rated, rating_of};
-ghost use Rattle.holding.specs.Holding.{side_number, kind_number, issuer_number, currency_number, rating_number, row_of};
+ghost use Rattle.holding.specs.Holding.{issuer_number, row_of};
 
+use refusals::Refusal;
+
+// Each case of a side, a kind, a currency, a rating and an account's letter has the paper's number.
 #[derive(Clone, Copy)]
 pub enum Side {
-    Long,
-    Short,
+    Long = 0,
+    Short = 1,
 }
 
 #[derive(Clone, Copy)]
 pub enum Kind {
-    Bond,
-    Coupon,
-    Residual,
+    Bond = 0,
+    Coupon = 1,
+    Residual = 2,
 }
 
 #[derive(Clone, Copy)]
@@ -31,24 +35,24 @@ pub enum Issuer {
 
 #[derive(Clone, Copy)]
 pub enum Currency {
-    Cad,
-    Usd,
-    Gbp,
+    Cad = 0,
+    Usd = 1,
+    Gbp = 2,
 }
 
-// Whether a corporation is rated single A or higher; of a government nothing is said.
+// Whether a corporation is rated single A or higher; of a government nothing is said, which is a case too, as the document numbers it.
 #[derive(Clone, Copy)]
 pub enum Rating {
-    SingleA,
-    Lower,
-    NotGiven,
+    SingleA = 0,
+    Lower = 1,
+    NotGiven = 2,
 }
 
 // Whose account it is, by its letter: an approved participant's, `P`, or a client's, `C`.
 #[derive(Clone, Copy)]
 pub enum AccountKind {
-    Participant,
-    Client,
+    Participant = 0,
+    Client = 1,
 }
 
 // What is said once for all holdings, as it comes, of any size: the valuation date as a number YYYYMMDD, and the number of the account's letter.
@@ -88,326 +92,257 @@ pub struct Row {
     pub rating: u64,
 }
 
-// What a head makes: an account, or none.
-#[derive(Clone, Copy)]
-pub enum Headed {
-    For(Account),
-    NoAccount,
-}
+// From a number to its case: of a number that none has, the last. Each enum has an impl, since no generic one could name their cases.
+impl From<u64> for AccountKind {
+    ghost from_gives = { λ n letter. letter ≡ letter_of n };
 
-// What a row makes: a record, or the number of its first fault.
-#[derive(Clone, Copy)]
-pub enum Built {
-    Made(Holding),
-    Refused(u64),
-}
-
-// The first fault of a head: 24 for a valuation date that is none, 26 for a letter that is neither, or 0.
-pub fn head_fault(head: Head) -> u64
-    ensures { result ≡ head_fault head }
-{
-    if !dates::is_date(head.date) {
-        return 24;
-    }
-    if head.letter > 1 {
-        return 26;
-    }
-    0
-}
-
-fn letter_of(letter: u64) -> AccountKind
-    ensures { result ≡ letter_of letter }
-{
-    match letter {
-        0 => AccountKind::Participant,
-        _ => AccountKind::Client,
+    #[tactic(auto, unfolding(crate::specs::Holding::letter_of))]
+    fn from(letter: u64) -> AccountKind {
+        match letter {
+            0 => AccountKind::Participant,
+            _ => AccountKind::Client,
+        }
     }
 }
 
-// The number of a letter.
-pub fn letter_number(letter: AccountKind) -> u64
-    ensures { result ≡ letter_number letter }
-{
-    match letter {
-        AccountKind::Participant => 0,
-        AccountKind::Client => 1,
+impl From<AccountKind> for u64 {
+    ghost from_gives = { λ letter n. n ≡ letter_number letter };
+
+    fn from(letter: AccountKind) -> u64 {
+        letter as u64
     }
 }
 
-// The account of a head, or that it has a fault.
-pub fn account_of(head: Head) -> Headed
-    ensures { result ≡ headed_of head }
-{
-    if head_fault(head) != 0 {
-        return Headed::NoAccount;
-    }
-    let letter = letter_of(head.letter);
-    Headed::For(Account {
-        date: head.date as u32,
-        letter,
-    })
-}
+impl From<u64> for Side {
+    ghost from_gives = { λ n side. side ≡ side_of n };
 
-// Whether a number is a corporation's.
-fn is_corporation(issuer: u64) -> bool
-    ensures { result ≡ is_corporation issuer }
-{
-    match issuer {
-        100..=355 => true,
-        _ => false,
+    #[tactic(auto, unfolding(crate::specs::Holding::side_of))]
+    fn from(side: u64) -> Side {
+        match side {
+            0 => Side::Long,
+            _ => Side::Short,
+        }
     }
 }
 
-// Whether a number is an issuer's: a government's or a corporation's.
-fn is_issuer(issuer: u64) -> bool
-    ensures { result ≡ is_issuer issuer }
-{
-    match issuer {
-        0..=12 => true,
-        _ => is_corporation(issuer),
+impl From<u64> for Kind {
+    ghost from_gives = { λ n kind. kind ≡ kind_of n };
+
+    #[tactic(auto, unfolding(crate::specs::Holding::kind_of))]
+    fn from(kind: u64) -> Kind {
+        match kind {
+            0 => Kind::Bond,
+            1 => Kind::Coupon,
+            _ => Kind::Residual,
+        }
     }
 }
 
-// The number of the first fault of what a row is, 4 to 6, or 0 for none.
-pub fn identity_fault(row: Row) -> u64
-    ensures { result ≡ first_of (identity_faults row) 0 }
-{
-    if row.side > 1 {
-        return 4;
-    }
-    if row.kind > 2 {
-        return 5;
-    }
-    if !is_issuer(row.issuer) {
-        return 6;
-    }
-    0
-}
+impl From<u64> for Currency {
+    ghost from_gives = { λ n currency. currency ≡ currency_of n };
 
-// The first fault of its term: 24 for a maturity that is no date, 7 for one by the valuation date or past its 100th anniversary, or 0.
-pub fn term_fault(account: Account, row: Row) -> u64
-    ensures { result ≡ first_of (term_faults account row) 0 }
-{
-    if !dates::is_date(row.maturity) {
-        return 24;
-    }
-    if row.maturity <= account.date as u64 {
-        return 7;
-    }
-    if row.maturity > dates::anniversary(account.date, 100) {
-        return 7;
-    }
-    0
-}
-
-// The fault of its worth, 8, or 0.
-pub fn worth_fault(row: Row) -> u64
-    ensures { result ≡ first_of (worth_faults row) 0 }
-{
-    if row.value < 1 {
-        return 8;
-    }
-    if row.value > 100000000000 {
-        return 8;
-    }
-    0
-}
-
-// Whether a rating is one that an issuer has: of a corporation 0 or 1, of any other 2.
-fn is_rated(issuer: u64, rating: u64) -> bool
-    ensures { result ≡ is_rated issuer rating }
-{
-    if is_corporation(issuer) {
-        return rating <= 1;
-    }
-    rating == 2
-}
-
-// The first fault of its money, 23, or of its rating, 25, or 0.
-pub fn money_fault(row: Row) -> u64
-    ensures { result ≡ first_of (money_faults row) 0 }
-{
-    if row.currency > 2 {
-        return 23;
-    }
-    if !is_rated(row.issuer, row.rating) {
-        return 25;
-    }
-    0
-}
-
-// The number of a row's first fault, 4 to 6, 24, 7, 8, 23 or 25, or 0 for none.
-pub fn fault(account: Account, row: Row) -> u64
-    ensures { result ≡ fault_of account row }
-{
-    let number = identity_fault(row);
-    if number != 0 {
-        return number;
-    }
-    let number = term_fault(account, row);
-    if number != 0 {
-        return number;
-    }
-    let number = worth_fault(row);
-    if number != 0 {
-        return number;
-    }
-    money_fault(row)
-}
-
-// From a number to its case: of a number that none has, the last.
-pub fn side_of(side: u64) -> Side
-    ensures { result ≡ side_of side }
-{
-    match side {
-        0 => Side::Long,
-        _ => Side::Short,
+    #[tactic(auto, unfolding(crate::specs::Holding::currency_of))]
+    fn from(currency: u64) -> Currency {
+        match currency {
+            0 => Currency::Cad,
+            1 => Currency::Usd,
+            _ => Currency::Gbp,
+        }
     }
 }
 
-pub fn kind_of(kind: u64) -> Kind
-    ensures { result ≡ kind_of kind }
-{
-    match kind {
-        0 => Kind::Bond,
-        1 => Kind::Coupon,
-        _ => Kind::Residual,
+impl From<u64> for Rating {
+    ghost from_gives = { λ n rating. rating ≡ rating_of n };
+
+    #[tactic(auto, unfolding(crate::specs::Holding::rating_of))]
+    fn from(rating: u64) -> Rating {
+        match rating {
+            0 => Rating::SingleA,
+            1 => Rating::Lower,
+            _ => Rating::NotGiven,
+        }
     }
 }
 
 // Of a number that no issuer has, a province of that number.
-pub fn issuer_of(issuer: u64) -> Issuer
-    ensures { result ≡ issuer_of issuer }
-{
-    match issuer {
-        0 => Issuer::Canada,
-        11 => Issuer::UnitedStates,
-        12 => Issuer::UnitedKingdom,
-        100..=355 => Issuer::Corporation(issuer),
-        _ => Issuer::Province(issuer),
+impl From<u64> for Issuer {
+    ghost from_gives = { λ n issuer. issuer ≡ issuer_of n };
+
+    #[tactic(auto, unfolding(crate::specs::Holding::issuer_of, crate::specs::Holding::is_corporation, lists::specs::Choice::first_of, lists::specs::Choice::within))]
+    fn from(issuer: u64) -> Issuer {
+        match issuer {
+            0 => Issuer::Canada,
+            11 => Issuer::UnitedStates,
+            12 => Issuer::UnitedKingdom,
+            100..=355 => Issuer::Corporation(issuer),
+            _ => Issuer::Province(issuer),
+        }
     }
 }
 
-pub fn currency_of(currency: u64) -> Currency
-    ensures { result ≡ currency_of currency }
-{
-    match currency {
-        0 => Currency::Cad,
-        1 => Currency::Usd,
-        _ => Currency::Gbp,
+// The number of a province or a corporation of no number that an issuer has: the page fixes it, and no issuer has it.
+const NO_ISSUER: u64 = u64::MAX;
+
+impl From<Issuer> for u64 {
+    ghost from_gives = { λ issuer n. n ≡ issuer_number issuer };
+
+    #[tactic(auto, unfolding(crate::specs::Holding::is_corporation, lists::specs::Choice::within))]
+    fn from(issuer: Issuer) -> u64 {
+        match issuer {
+            Issuer::Canada => 0,
+            Issuer::Province(p @ 1..=10) => p,
+            Issuer::UnitedStates => 11,
+            Issuer::UnitedKingdom => 12,
+            Issuer::Corporation(c @ 100..=355) => c,
+            _ => NO_ISSUER,
+        }
     }
 }
 
-pub fn rating_of(rating: u64) -> Rating
-    ensures { result ≡ rating_of rating }
+// The account of a head, or its first fault: 24 for a valuation date that is none, 26 for a letter that is neither.
+#[tactic(auto, using(crate::proofs::Heads::heads), unfolding(crate::specs::Holding::account_of))]
+pub fn account_of(head: Head) -> Result<Account, Refusal>
+    ensures number { refused_by result ≡ head_fault head }
+    ensures account { numbered result ≡ headed_of head }
 {
-    match rating {
-        0 => Rating::SingleA,
-        1 => Rating::Lower,
-        _ => Rating::NotGiven,
+    if !dates::is_date(head.date) {
+        return Err(Refusal::Date);
     }
-}
-
-// The record of a row, or the number of its first fault.
-pub fn holding_of(account: Account, row: Row) -> Built
-    ensures { Builds account row result }
-{
-    let number = fault(account, row);
-    if number != 0 {
-        return Built::Refused(number);
+    if head.letter > 1 {
+        return Err(Refusal::Letter);
     }
-    let side = side_of(row.side);
-    let kind = kind_of(row.kind);
-    let issuer = issuer_of(row.issuer);
-    let currency = currency_of(row.currency);
-    let rating = rating_of(row.rating);
-    Built::Made(Holding {
-        side,
-        kind,
-        issuer,
-        maturity: row.maturity as u32,
-        value: row.value,
-        currency,
-        rating,
+    Ok(Account {
+        date: head.date as u32,
+        letter: AccountKind::from(head.letter),
     })
 }
 
-// A number that no issuer has.
-const NO_ISSUER: u64 = 18446744073709551615;
-
-fn side_number(side: Side) -> u64
-    ensures { result ≡ side_number side }
+// Whether a number is a corporation's.
+#[tactic(auto, unfolding(crate::specs::Holding::is_corporation, lists::specs::Choice::within))]
+pub fn is_corporation(issuer: u64) -> bool
+    ensures { result ≡ is_corporation issuer }
 {
-    match side {
-        Side::Long => 0,
-        Side::Short => 1,
+    matches!(issuer, 100..=355)
+}
+
+// Whether a number is an issuer's: a government's or a corporation's.
+#[tactic(auto, unfolding(crate::specs::Holding::is_issuer, lists::specs::Choice::within))]
+fn is_issuer(issuer: u64) -> bool
+    ensures { result ≡ is_issuer issuer }
+{
+    issuer <= 12 || is_corporation(issuer)
+}
+
+// The first fault of what a row is, 4 to 6.
+#[tactic(auto, unfolding(crate::specs::Holding::identity_faults, lists::specs::Choice::first_of, lists::specs::Choice::within))]
+pub fn identity_fault(row: Row) -> Result<(), Refusal>
+    ensures { refused_by result ≡ first_of (identity_faults row) 0 }
+{
+    if row.side > 1 {
+        return Err(Refusal::Side);
+    }
+    if row.kind > 2 {
+        return Err(Refusal::Kind);
+    }
+    if !is_issuer(row.issuer) {
+        return Err(Refusal::Issuer);
+    }
+    Ok(())
+}
+
+// The first fault of its term: 24 for a maturity that is no date, 7 for one by the valuation date or past its 100th anniversary.
+#[tactic(auto, unfolding(crate::specs::Holding::term_faults, crate::specs::Holding::out_of_term, lists::specs::Choice::first_of))]
+pub fn term_fault(account: Account, row: Row) -> Result<(), Refusal>
+    ensures { refused_by result ≡ first_of (term_faults account row) 0 }
+{
+    if !dates::is_date(row.maturity) {
+        return Err(Refusal::Date);
+    }
+    if row.maturity <= account.date as u64 {
+        return Err(Refusal::Term);
+    }
+    if row.maturity > dates::anniversary(account.date, 100) {
+        return Err(Refusal::Term);
+    }
+    Ok(())
+}
+
+// The fault of its worth, 8.
+#[tactic(auto, unfolding(crate::specs::Holding::worth_faults, lists::specs::Choice::first_of, lists::specs::Choice::within))]
+pub fn worth_fault(row: Row) -> Result<(), Refusal>
+    ensures { refused_by result ≡ first_of (worth_faults row) 0 }
+{
+    if !matches!(row.value, 1..=100000000000) {
+        return Err(Refusal::Value);
+    }
+    Ok(())
+}
+
+// Whether a rating is one that an issuer has: of a corporation 0 or 1, of any other 2.
+#[tactic(auto, unfolding(crate::specs::Holding::is_rated, lists::specs::Choice::within))]
+fn is_rated(issuer: u64, rating: u64) -> bool
+    ensures { result ≡ is_rated issuer rating }
+{
+    if is_corporation(issuer) {
+        rating <= 1
+    } else {
+        rating == 2
     }
 }
 
-fn kind_number(kind: Kind) -> u64
-    ensures { result ≡ kind_number kind }
+// The first fault of its money, 23, or of its rating, 25.
+#[tactic(auto, unfolding(crate::specs::Holding::money_faults, lists::specs::Choice::first_of, lists::specs::Choice::within))]
+pub fn money_fault(row: Row) -> Result<(), Refusal>
+    ensures { refused_by result ≡ first_of (money_faults row) 0 }
 {
-    match kind {
-        Kind::Bond => 0,
-        Kind::Coupon => 1,
-        Kind::Residual => 2,
+    if row.currency > 2 {
+        return Err(Refusal::Currency);
     }
+    if !is_rated(row.issuer, row.rating) {
+        return Err(Refusal::Rating);
+    }
+    Ok(())
 }
 
-fn issuer_number(issuer: Issuer) -> u64
-    ensures { result ≡ issuer_number issuer }
+// A row's first fault, 4 to 6, 24, 7, 8, 23 or 25.
+pub fn fault(account: Account, row: Row) -> Result<(), Refusal>
+    ensures { refused_by result ≡ fault_of account row }
 {
-    match issuer {
-        Issuer::Canada => 0,
-        Issuer::Province(p) => match p {
-            1..=10 => p,
-            _ => NO_ISSUER,
-        },
-        Issuer::UnitedStates => 11,
-        Issuer::UnitedKingdom => 12,
-        Issuer::Corporation(c) => match c {
-            100..=355 => c,
-            _ => NO_ISSUER,
-        },
-    }
+    identity_fault(row)?;
+    term_fault(account, row)?;
+    worth_fault(row)?;
+    money_fault(row)
 }
 
-fn currency_number(currency: Currency) -> u64
-    ensures { result ≡ currency_number currency }
+// The record of a row, or its first fault.
+#[tactic(auto, using(crate::proofs::Rows::building), unfolding(crate::specs::Holding::holding_of))]
+pub fn holding_of(account: Account, row: Row) -> Result<Holding, Refusal>
+    ensures { Builds account row result }
 {
-    match currency {
-        Currency::Cad => 0,
-        Currency::Usd => 1,
-        Currency::Gbp => 2,
-    }
-}
-
-fn rating_number(rating: Rating) -> u64
-    ensures { result ≡ rating_number rating }
-{
-    match rating {
-        Rating::SingleA => 0,
-        Rating::Lower => 1,
-        Rating::NotGiven => 2,
-    }
+    fault(account, row)?;
+    Ok(Holding {
+        side: Side::from(row.side),
+        kind: Kind::from(row.kind),
+        issuer: Issuer::from(row.issuer),
+        maturity: row.maturity as u32,
+        value: row.value,
+        currency: Currency::from(row.currency),
+        rating: Rating::from(row.rating),
+    })
 }
 
 // The numbers of a record.
+#[tactic(auto, unfolding(crate::specs::Holding::row_of))]
 pub fn row_of(h: Holding) -> Row
     ensures { result ≡ row_of h }
 {
-    let side = h.side;
-    let kind = h.kind;
-    let issuer = h.issuer;
-    let currency = h.currency;
-    let rating = h.rating;
     Row {
-        side: side_number(side),
-        kind: kind_number(kind),
-        issuer: issuer_number(issuer),
+        side: h.side as u64,
+        kind: h.kind as u64,
+        issuer: u64::from(h.issuer),
         maturity: h.maturity as u64,
         value: h.value,
-        currency: currency_number(currency),
-        rating: rating_number(rating),
+        currency: h.currency as u64,
+        rating: h.rating as u64,
     }
 }

@@ -1,19 +1,56 @@
 // The reader and the check for the desk's Rust host: columns and lent lists as byte slices.
 #![tactic(auto)]
 
-ghost use Rattle.std.specs.Prelude.{[], ◌∷◌};
+ghost use Rattle.std.specs.Prelude.{[], ◌∷◌, ◌≡◌, ◌*◌, ◌≤◌, ◌<◌, length};
 ghost use Rattle.holding.specs.Holding.{head_by};
-ghost use Rattle.columns.specs.Columns.{make_columns};
+ghost use Rattle.columns.specs.Columns.{count_in, make_columns};
+ghost use Rattle.columns.specs.Filling.{columns_in, SameLists};
 ghost use Rattle.lent.specs.Boundary.{make_lent, Checks};
 ghost use Rattle.received.specs.Reading.{Reads};
 ghost use Rattle.received.specs.Naming.{Names};
 
+use columns::{Columns, ColumnsMut};
 use holding::Head;
+use lei::Lei;
+use verdict::Scratch;
+
+// The bytes of the tables that the reader fills, with 72 and with 512 entries in each column: a book's table has a column for each field of a holding, a
+// proposal's for each of a line.
+const BOOK_72: usize = 8 * 72 * (rfc4180::FIELDS - 1);
+
+const LINES_72: usize = 8 * 72 * 3;
+
+const BOOK_512: usize = 8 * 512 * (rfc4180::FIELDS - 1);
+
+const LINES_512: usize = 8 * 512 * 3;
+
+// The check with scratch of N entries in each list.
+fn check_in<const N: usize>(
+    head: Head,
+    columns: &Columns<'_>,
+    remainder: &mut [u8],
+    ranking: &mut [u8],
+    answer: &mut [u8],
+) -> u64
+    requires few { N ≤ 256 }
+    requires room { count_in columns.now.holdings ≤ 256 → count_in columns.now.holdings ≤ N }
+    ensures { Checks head columns.now
+        (make_lent remainder.old ranking.old answer.old)
+        (make_lent remainder.new ranking.new answer.new) result }
+{
+    let mut scratch = Scratch {
+        legs: &mut [0; N],
+        left: &mut [0; N],
+        margins: &mut [0; N],
+        ranks: &mut [0; N],
+    };
+    lent::judge(head, columns, remainder, ranking, answer, &mut scratch)
+}
 
 // The check of a proposal, for the host: returns the refusal number, 0 for accepted. Scratch has 4 entries for a book of up to 4 holdings,
 // 16 for one of up to 16, and 256 for any other. Nothing is presumed of the bytes or the lengths; that a pointer leads to its bytes, and that no other
 // refers to a list meanwhile, is what a slice means, and the host's borrow sees to it.
-#[tactic(auto, using(crate::proofs::Scratch::few, crate::proofs::Scratch::more))]
+#[tactic(auto, unfolding(columns::specs::Columns::count_in, words::specs::Words::entries))]
 #[unsafe(no_mangle)]
 pub extern "C" fn margin_check(
     date: u64,
@@ -42,66 +79,7 @@ pub extern "C" fn margin_check(
         (make_lent remainder.new ranking.new answer.new) result }
 {
     let head = Head { date, letter };
-    if side.len() <= 32 {
-        let mut legs = [0u64; 4];
-        let mut left = [0u64; 4];
-        let mut margins = [0u64; 4];
-        let mut ranks = [0u64; 4];
-        return lent::judge(
-            head,
-            side,
-            kind,
-            issuer,
-            maturity,
-            value,
-            price,
-            currency,
-            rating,
-            long,
-            short,
-            amount,
-            remainder,
-            ranking,
-            answer,
-            &mut legs,
-            &mut left,
-            &mut margins,
-            &mut ranks,
-        );
-    }
-    if side.len() <= 128 {
-        let mut legs = [0u64; 16];
-        let mut left = [0u64; 16];
-        let mut margins = [0u64; 16];
-        let mut ranks = [0u64; 16];
-        return lent::judge(
-            head,
-            side,
-            kind,
-            issuer,
-            maturity,
-            value,
-            price,
-            currency,
-            rating,
-            long,
-            short,
-            amount,
-            remainder,
-            ranking,
-            answer,
-            &mut legs,
-            &mut left,
-            &mut margins,
-            &mut ranks,
-        );
-    }
-    let mut legs = lists::zeros();
-    let mut left = lists::zeros();
-    let mut margins = lists::zeros();
-    let mut ranks = lists::zeros();
-    lent::judge(
-        head,
+    let columns = Columns {
         side,
         kind,
         issuer,
@@ -113,13 +91,36 @@ pub extern "C" fn margin_check(
         long,
         short,
         amount,
-        remainder,
-        ranking,
-        answer,
-        &mut legs,
-        &mut left,
-        &mut margins,
-        &mut ranks,
+    };
+    if side.len() <= 32 {
+        return check_in::<4>(head, &columns, remainder, ranking, answer);
+    }
+    if side.len() <= 128 {
+        return check_in::<16>(head, &columns, remainder, ranking, answer);
+    }
+    check_in::<256>(head, &columns, remainder, ranking, answer)
+}
+
+// The reader with tables of ROWS entries in each column, of BOOK and LINES bytes. A function of its own, so that a short text's call has no large table to
+// fill. Three numbers, since an array's length is no product of a parameter.
+fn read_in<const ROWS: usize, const BOOK: usize, const LINES: usize>(
+    text: &[u8],
+    head: &mut [u8],
+    columns: &mut ColumnsMut<'_>,
+    answer: &mut [u8],
+) -> u64
+    requires few { ROWS ≤ 512 }
+    requires enough { ROWS < 512 → length text.now ≤ ROWS }
+    requires book { BOOK ≡ 64 * ROWS }
+    requires lines { LINES ≡ 24 * ROWS }
+    ensures read { Reads text.now head.old head.new (columns_in columns.old) (columns_in columns.new) answer.old answer.new result }
+    ensures same { SameLists columns.old columns.new }
+{
+    let mut book = [0u8; BOOK];
+    let mut lines = [0u8; LINES];
+    let mut known = [Lei { high: 0, low: 0 }; 256];
+    received::read_into(
+        text, ROWS, &mut book, &mut lines, &mut known, head, columns, answer,
     )
 }
 
@@ -153,22 +154,23 @@ pub extern "C" fn margin_read(
         (long.new ∷ short.new ∷ amount.new ∷ []))
         answer.old answer.new result }
 {
-    let mut high = lists::zeros();
-    let mut low = lists::zeros();
+    let mut columns = ColumnsMut {
+        side,
+        kind,
+        issuer,
+        maturity,
+        value,
+        price,
+        currency,
+        rating,
+        long,
+        short,
+        amount,
+    };
     if text.len() <= 72 {
-        let mut book = [0u8; 576 * (rfc4180::FIELDS - 1)];
-        let mut lines = [0u8; 576 * 3];
-        return received::read_into(
-            text, 72, &mut book, &mut lines, &mut high, &mut low, head, side, kind, issuer,
-            maturity, value, price, currency, rating, long, short, amount, answer,
-        );
+        return read_in::<72, BOOK_72, LINES_72>(text, head, &mut columns, answer);
     }
-    let mut book = [0u8; 4096 * (rfc4180::FIELDS - 1)];
-    let mut lines = [0u8; 4096 * 3];
-    received::read_into(
-        text, 512, &mut book, &mut lines, &mut high, &mut low, head, side, kind, issuer, maturity,
-        value, price, currency, rating, long, short, amount, answer,
-    )
+    read_in::<512, BOOK_512, LINES_512>(text, head, &mut columns, answer)
 }
 
 // Writes the LEIs of a file's corporations, for the host: 20 bytes each, in the order of their numbers from 100. Returns the refusal number, 0 for none.
@@ -177,11 +179,8 @@ pub extern "C" fn margin_read(
 pub extern "C" fn margin_leis(text: &[u8], leis: &mut [u8], answer: &mut [u8]) -> u64
     ensures { Names text.now leis.old leis.new answer.old answer.new result }
 {
-    let mut book = [0u8; 4096 * (rfc4180::FIELDS - 1)];
-    let mut lines = [0u8; 4096 * 3];
-    let mut high = lists::zeros();
-    let mut low = lists::zeros();
-    received::leis_into(
-        text, 512, &mut book, &mut lines, &mut high, &mut low, leis, answer,
-    )
+    let mut book = [0u8; BOOK_512];
+    let mut lines = [0u8; LINES_512];
+    let mut known = [Lei { high: 0, low: 0 }; 256];
+    received::leis_into(text, 512, &mut book, &mut lines, &mut known, leis, answer)
 }

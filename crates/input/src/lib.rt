@@ -8,6 +8,7 @@ use std::io::Read;
 
 // Reads until the buffer is full, the input ends or a read fails, and returns how many bytes stand at the front of the buffer: those that the input gave,
 // where it is known what it gives.
+// By hand: read_exact does not say how many bytes a short input gave, and read_to_end allocates.
 pub fn read_full<R: Read>(input: &mut R, buffer: &mut [u8]) -> usize
     ensures bound { result ≤ length buffer.new }
     ensures bytes { Consumes (R.remaining input.old) (R.remaining input.new) (take result buffer.new) }

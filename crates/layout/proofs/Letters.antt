@@ -1,33 +1,30 @@
 -- The letters of a record, the sorts and the values after each, and the numbers of the refusals. Assumes nothing.
-use mathlib.Core.Path.{◌≡◌, refl, sym, ◌∙◌}
+use mathlib.Core.Path.{◌≡◌, refl, ◌∙◌}
 use mathlib.Core.List.{List, [], ◌∷◌, ◌++◌}
 use Prim.Native.Nat.{ℕ, zero, suc, ◌+◌, ◌-◌, ◌≤◌, ◌<◌}
 use native.Mathlib.Omega.{arith}
 use lib.Dec.{ltb, eqb}
-use lib.ListN.{length, get_or, replicate, length-append, length-replicate, get_or-eq_default}
+use lib.ListN.{length, get_or, replicate, length-append, length-replicate}
 use borrow.Author.Tests.{ltb-true}
 use Rattle.lists.proofs.Entries.{each-by, each_read}
 use Rattle.lists.proofs.Tests.{by-test}
 use Rattle.rfc4180.specs.Reading.{field_count, Read, formed, broken}
-use Rattle.codes.specs.Codes.{place_of}
-use Rattle.codes.specs.declared.Place.{Place}
-use Rattle.codes.specs.declared.Place.TheVariants.{At, Nowhere}
+use Rattle.codes.specs.Codes.{place_from, place_of}
+use Rattle.lists.specs.Choice.{same}
+use mathlib.Core.Bool.{cond, and-true, and-false}
+use Rattle.std.proofs.lemmas.Bool.Decides.{nat_tests}
 use Rattle.codes.proofs.Places.{place-exactly}
 use Rattle.numerals.specs.Numerals.{numeral_of}
-use Rattle.numerals.specs.declared.Numeral.{Numeral}
-use Rattle.numerals.specs.declared.Numeral.TheVariants.{Number, NotANumeral}
 use Rattle.dates.specs.Text.{read_date}
-use Rattle.dates.specs.declared.text.Reading.{Reading}
-use Rattle.dates.specs.declared.text.Reading.TheVariants.{Number as Dated, NotADate}
 use Rattle.lei.specs.Lei.{judged_of}
-use Rattle.lei.specs.declared.Judged.{Judged}
-use Rattle.lei.specs.declared.Judged.TheVariants.{Lei, WrongForm, WrongRemainder}
-use Rattle.layout.specs.Layout.{accounts, sides, kinds, issuers, currencies, ratings, by_place, by_numeral, by_date, by_issuer, value_of, padded, layouts, letters, sorts_by}
+use Rattle.lei.specs.declared.NotLei.{NotLei, TheVariants.Form, TheVariants.Remainder}
+use Rattle.refusals.specs.Refusals.{number_of}
+use Rattle.refusals.specs.declared.Refusal.{Refusal}
+use Rattle.std.specs.Prelude.{Option, Some, None, Result, Ok, Err, ⊤}
+use Rattle.layout.specs.Layout.{accounts, sides, kinds, issuers, currencies, ratings, valued, by_issuer, value_of, padded, layouts, letters, sorts_by}
 use Rattle.layout.specs.Layout.{Values, values, wrong, and_value, values_of, Meaning, good, refused, issuer_in, rating_in, misrated, lei_numbers, meant, after_letter, parsed_of, parse}
 use Rattle.layout.specs.declared.Sort.{Sort}
 use Rattle.layout.specs.declared.Sort.TheVariants.{Account, Side, Kind, Issuer, Currency, Rating, Date, Six, Twelve, Empty}
-use Rattle.layout.specs.declared.Value.{Value}
-use Rattle.layout.specs.declared.Value.TheVariants.{Of, Refused}
 
 module _ {A : Type 0} (x : A) where
   -- what pads a list is what is read past its end
@@ -40,9 +37,6 @@ module _ {A : Type 0} (x : A) where
       from [] (suc j) (suc n) = from [] j n
       from (y ∷ ys) zero n = refl
       from (y ∷ ys) (suc j) n = from ys j n
-
-  pub padded_past : (xs : List A) (j : ℕ) → length xs ≤ j → get_or (padded x xs) j x ≡ x
-  padded_past xs j h = padded-read xs j ∙ get_or-eq_default xs x h
 
   pub length-padded : (xs : List A) → length xs < field_count → length (padded x xs) ≡ field_count - 1
   length-padded xs h =
@@ -61,51 +55,61 @@ length_sorts k =
     Fits : List ℕ × List Sort → Type 0
     Fits l = length l.1 < field_count
 
--- past those that are listed all is empty
-pub past_listed : (k j : ℕ) → length (listed k) ≤ j → Empty ≡ get_or (sorts_by k) j Empty
-past_listed k j h = sym (padded_past Empty (listed k) j h)
-
-pub past_letters : (k j : ℕ) → length layouts ≤ k → Empty ≡ get_or (sorts_by k) j Empty
-past_letters k j h = past_listed k j (rw (get_or-eq_default layouts ([], []) h) (omega arith))
-
 -- a known letter is one of them
-pub letter-known : (text : List ℕ) (k : ℕ) → place_of text letters ≡ At k → k < length letters
+pub letter-known : (text : List ℕ) (k : ℕ) → place_of text letters ≡ Some k → k < length letters
 letter-known text k e = ((place-exactly text letters k).0 e).named.inside
 
+-- a letter by its byte
+module _ (text : List ℕ) where
+  abbrev pub byte : ℕ
+  byte = get_or text 0 0
+
+  pub one_byte : length text ≡ 1 → place_of text letters ≡ cond (eqb byte 68) (Some 0) (cond (eqb byte 72) (Some 1) (cond (eqb byte 80) (Some 2) None))
+  unfolding place_of place_from same
+  one_byte h = by text h
+    where
+      by : (t : List ℕ) → length t ≡ 1 → place_of t letters ≡ cond (eqb (get_or t 0 0) 68) (Some 0) (cond (eqb (get_or t 0 0) 72) (Some 1) (cond (eqb (get_or t 0 0) 80) (Some 2) None))
+      by [] h = absurd (omega arith)
+      by (c ∷ []) h = simp and-true
+      by (c ∷ d ∷ t) h = absurd (omega arith)
+
+  pub other_bytes : (length text ≡ 1 → ⊥) → place_of text letters ≡ None
+  unfolding place_of place_from same
+  other_bytes n = by text n
+    where
+      by : (t : List ℕ) → (length t ≡ 1 → ⊥) → place_of t letters ≡ None
+      by [] n = refl
+      by (c ∷ []) n = absurd (n refl)
+      by (c ∷ d ∷ t) n = simp and-false
+
+pub ruleset by_byte = (one_byte, other_bytes, nat_tests)
+
 -- a field is refused with 21 or more
-abbrev pub Late : Value → Type 0
-Late (Of v) = Unit {0}
-Late (Refused number) = 21 ≤ number
+abbrev pub Late : Result ℕ Refusal → Type 0
+Late (Ok v) = Unit {0}
+Late (Err refusal) = 21 ≤ number_of refusal
 
-place_late : (p : Place) → Late (by_place p)
-place_late (At n) = tt
-place_late Nowhere = omega arith
+valued_late : (o : Option ℕ) → Late (valued o)
+valued_late (Some n) = tt
+valued_late None = omega arith
 
-numeral_late : (n : Numeral) → Late (by_numeral n)
-numeral_late (Number x) = tt
-numeral_late NotANumeral = omega arith
-
-date_late : (r : Reading) → Late (by_date r)
-date_late (Dated n) = tt
-date_late NotADate = omega arith
-
-issuer_late : (p : Place) (j : Judged) → Late (by_issuer p j)
-issuer_late (At n) j = tt
-issuer_late Nowhere Lei = tt
-issuer_late Nowhere WrongForm = omega arith
-issuer_late Nowhere WrongRemainder = omega arith
+issuer_late : (o : Option ℕ) (j : Result ⊤ NotLei) → Late (by_issuer o j)
+issuer_late (Some n) j = tt
+issuer_late None (Ok _) = tt
+issuer_late None (Err Form) = omega arith
+issuer_late None (Err Remainder) = omega arith
 
 pub value_late : (s : Sort) (t : List ℕ) → Late (value_of s t)
 unfolding value_of
-value_late Account t = place_late (place_of t accounts)
-value_late Side t = place_late (place_of t sides)
-value_late Kind t = place_late (place_of t kinds)
+value_late Account t = valued_late (place_of t accounts)
+value_late Side t = valued_late (place_of t sides)
+value_late Kind t = valued_late (place_of t kinds)
 value_late Issuer t = issuer_late (place_of t issuers) (judged_of t)
-value_late Currency t = place_late (place_of t currencies)
-value_late Rating t = place_late (place_of t ratings)
-value_late Date t = date_late (read_date t)
-value_late Six t = numeral_late (numeral_of 6 t)
-value_late Twelve t = numeral_late (numeral_of 12 t)
+value_late Currency t = valued_late (place_of t currencies)
+value_late Rating t = valued_late (place_of t ratings)
+value_late Date t = valued_late (read_date t)
+value_late Six t = valued_late (numeral_of 6 t)
+value_late Twelve t = valued_late (numeral_of 12 t)
 value_late Empty t = by-test Late (eqb (length t) 0) (λ _. tt) (λ _. omega arith)
 
 -- of good values there is one for each sort, and wrong ones are refused with 21 or more
@@ -113,11 +117,11 @@ abbrev pub Sized : ℕ → Values → Type 0
 Sized n (values vs) = length vs ≡ n
 Sized n (wrong number) = 21 ≤ number
 
-and-sized : (v : Value) (n : ℕ) (vs : Values) → Late v → Sized n vs → Sized (suc n) (and_value v vs)
-and-sized (Of v) n (values vs) l h = omega (arith, h)
-and-sized (Of v) n (wrong number) l h = h
-and-sized (Refused first) n (values vs) l h = l
-and-sized (Refused first) n (wrong number) l h = omega (arith, l, h)
+and-sized : (v : Result ℕ Refusal) (n : ℕ) (vs : Values) → Late v → Sized n vs → Sized (suc n) (and_value v vs)
+and-sized (Ok v) n (values vs) l h = omega (arith, h)
+and-sized (Ok v) n (wrong number) l h = h
+and-sized (Err first) n (values vs) l h = l
+and-sized (Err first) n (wrong number) l h = omega (arith, l, h)
 
 pub values-sized : (ss : List Sort) (ts : List (List ℕ)) → Sized (length ss) (values_of ss ts)
 unfolding values_of
@@ -136,9 +140,9 @@ meant-known k texts (values vs) h l =
     by-test Known (misrated k (issuer_in vs) (rating_in vs)) (λ _. omega arith) (λ _. (h, omega (arith, l, length-append vs (lei_numbers (get_or texts 2 [])))))
 meant-known k texts (wrong number) h l = omega (arith, l)
 
-after-known : (p : Place) (texts : List (List ℕ)) → ((k : ℕ) → p ≡ At k → k < length letters) → Known (after_letter p texts)
-after-known (At k) texts h = meant-known k texts (values_of (sorts_by k) texts) (h k refl) (rw (length_sorts k) at (values-sized (sorts_by k) texts))
-after-known Nowhere texts h = omega arith
+after-known : (p : Option ℕ) (texts : List (List ℕ)) → ((k : ℕ) → p ≡ Some k → k < length letters) → Known (after_letter p texts)
+after-known (Some k) texts h = meant-known k texts (values_of (sorts_by k) texts) (h k refl) (rw (length_sorts k) at (values-sized (sorts_by k) texts))
+after-known None texts h = omega arith
 
 parsed_known : (texts : List (List ℕ)) → Known (parsed_of texts)
 unfolding parsed_of

@@ -1,6 +1,7 @@
 -- The value of a rating by its length, and when an H is not misrated. Assumes nothing.
 use mathlib.Core.Path.{◌≡◌, refl}
 use mathlib.Core.Logic.{◌↔◌, ◌≢◌}
+use Rattle.std.specs.Prelude.{Result, Ok}
 use mathlib.Core.Bool.{false}
 use mathlib.Core.List.{List, [], ◌∷◌}
 use Prim.Native.Nat.{ℕ}
@@ -12,19 +13,21 @@ use Rattle.lists.specs.Choice.{same}
 use Rattle.lists.specs.Tables.{ascii}
 use Rattle.lists.proofs.Tests.{same_or_not}
 use Rattle.codes.specs.Codes.{place_from, place_of}
-use Rattle.layout.specs.Layout.{ratings, corporation, by_place, Rated, misrated}
-use Rattle.layout.specs.declared.Value.TheVariants.{Of}
+use Rattle.refusals.specs.declared.Refusal.{Refusal}
+use Rattle.layout.specs.Layout.{ratings, corporation, valued, Rated, misrated}
 
 -- none, or one of the two letters
-pub rating-none : (t : List ℕ) → length t ≡ 0 → Of 2 ≡ by_place (place_of t ratings)
+pub rating_none : (t : List ℕ) → length t ≡ 0 → ◌≡◌ {A = Result ℕ Refusal} (Ok 2) (valued (place_of t ratings))
 unfolding place_of place_from same
-rating-none [] h = refl
-rating-none (c ∷ t) h = absurd (omega arith)
+rating_none [] h = refl
+rating_none (c ∷ t) h = absurd (omega arith)
 
-pub rating-given : (t : List ℕ) → length t ≢ 0 → place_of t (ascii "Y" ∷ ascii "N" ∷ []) ≡ place_of t ratings
+pub rating_given : (t : List ℕ) → length t ≢ 0 → place_of t (ascii "Y" ∷ ascii "N" ∷ []) ≡ place_of t ratings
 unfolding place_of place_from same
-rating-given [] h = absurd (h refl)
-rating-given (c ∷ t) h = refl
+rating_given [] h = absurd (h refl)
+rating_given (c ∷ t) h = refl
+
+pub ruleset rated = (rating_none, rating_given)
 
 -- the test and the paper's words
 pub rated-exactly : (letter issuer rating : ℕ) → (misrated letter issuer rating ≡ false) ↔ (letter ≡ 1 → Rated issuer rating)

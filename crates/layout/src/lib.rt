@@ -1,19 +1,27 @@
 // The layout of a record: a letter, and after it fields, each of a sort.
 #![tactic(auto)]
 
-ghost use Rattle.std.specs.Prelude.{◌≡◌, ◌++◌, ◌-◌, take, drop, get_or};
+ghost use Rattle.std.specs.Prelude.{◌≡◌, ◌++◌, ◌-◌, take, drop, option_map};
+ghost use Rattle.refusals.specs.Refusals.{number_of, refused_by};
 ghost use Rattle.rfc4180.specs.Reading.{field_count, texts_in};
 ghost use Rattle.codes.specs.Codes.{place_of};
-ghost use Rattle.layout.specs.Layout.{ratings, by_place, by_numeral, by_date, by_issuer, value_of, sorts_by, values_of, misrated, lei_numbers, sooner, Found, may_follow, entry, EntryAt};
+ghost use Rattle.layout.specs.Layout.{letters, ratings, issuers, place_by, valued, by_issuer, value_of, sorts_by, values_of, misrated, all_values, sooner, Found, may_follow, Parses, EntryAt};
+ghost use Rattle.lei.specs.Lei.{judged_of};
 
-use codes::Place;
-use dates::text::Reading;
-use lei::Judged;
-use numerals::Numeral;
-use rfc4180::Scanned;
+use lei::{Lei, NotLei};
+use refusals::Refusal;
+use rfc4180::{Scanned, Span};
 
-// The number of values in a record: one for each field after its letter, and two for the LEI of its issuer.
-pub const VALUES: usize = rfc4180::FIELDS + 1;
+// The number of fields in a record after its letter.
+pub const AFTER: usize = rfc4180::FIELDS - 1;
+
+// What a record is of: the valuation date and the account, a holding, or a line. Its letter is D, H or P.
+#[derive(Clone, Copy, PartialEq, Eq)]
+pub enum Letter {
+    Valuation,
+    Holding,
+    Line,
+}
 
 // What a field can be: a letter or a code that is named, an LEI, a date, a numeral of at most so many digits, or nothing.
 #[derive(Clone, Copy)]
@@ -30,256 +38,207 @@ pub enum Sort {
     Empty,
 }
 
-// The value that a text is of its sort, or the number of its refusal: 21, or 25 of an LEI that has another remainder.
+// What a record has after its letter: a value for each field, and the LEI of its issuer.
 #[derive(Clone, Copy)]
-pub enum Value {
-    Of(u64),
-    Refused(u64),
+pub struct Record {
+    pub fields: [u64; AFTER],
+    pub lei: Lei,
 }
 
-// A record as parsed: good, of the letter of a number, or a refusal, 19 to 21 or 25.
-#[derive(Clone, Copy)]
-pub enum Parsed {
-    Good { letter: usize },
-    Refused { number: u64 },
-}
-
-// A record, and where the next one starts.
+// A record as parsed, and where the next one starts.
 #[derive(Clone, Copy)]
 pub struct Entry {
-    pub parsed: Parsed,
+    pub parsed: Result<Letter, Refusal>,
     pub next: usize,
 }
 
-// The sort of field j after the letter of a number: D, H, then P.
-fn sort_at(letter: usize, j: usize) -> Sort
-    ensures { result ≡ get_or (sorts_by letter) j Sort.Empty }
+// The sorts of the fields after a letter.
+fn sorts_of(letter: Letter) -> [Sort; AFTER]
+    ensures { result ≡ sorts_by (place_by letter) }
 {
-    if letter == 0 {
-        return match j {
-            0 => Sort::Date,
-            1 => Sort::Account,
-            _ => Sort::Empty,
-        };
+    use Sort::{Account, Currency, Date, Empty, Issuer, Kind, Rating, Side, Six, Twelve};
+    match letter {
+        Letter::Valuation => [Date, Account, Empty, Empty, Empty, Empty, Empty, Empty],
+        Letter::Holding => [Side, Kind, Issuer, Date, Twelve, Six, Currency, Rating],
+        Letter::Line => [Six, Six, Twelve, Empty, Empty, Empty, Empty, Empty],
     }
-    if letter == 1 {
-        return match j {
-            0 => Sort::Side,
-            1 => Sort::Kind,
-            2 => Sort::Issuer,
-            3 => Sort::Date,
-            4 => Sort::Twelve,
-            5 => Sort::Six,
-            6 => Sort::Currency,
-            7 => Sort::Rating,
-            _ => Sort::Empty,
-        };
-    }
-    if letter == 2 {
-        return match j {
-            0 => Sort::Six,
-            1 => Sort::Six,
-            2 => Sort::Twelve,
-            _ => Sort::Empty,
-        };
-    }
-    Sort::Empty
 }
 
 // A place among named texts, as a value.
-fn by_place(place: Place) -> Value
-    ensures { result ≡ by_place place }
+fn valued(place: Option<usize>) -> Result<u64, Refusal>
+    ensures { result ≡ valued place }
 {
-    match place {
-        Place::At(n) => Value::Of(n as u64),
-        Place::Nowhere => Value::Refused(21),
-    }
+    place.map(|n| n as u64).ok_or(Refusal::Field)
 }
 
-// A numeral's number, as a value.
-fn by_numeral(numeral: Numeral) -> Value
-    ensures { result ≡ by_numeral numeral }
+// The value of an issuer: the place of its code, or else 100, the paper's number, for a corporation by its LEI.
+fn issuer_in(text: &[u8]) -> Result<u64, Refusal>
+    ensures { result ≡ by_issuer (place_of text.now issuers) (judged_of text.now) }
 {
-    match numeral {
-        Numeral::Number(x) => Value::Of(x),
-        Numeral::NotANumeral => Value::Refused(21),
+    if let Some(n) = codes::place_in(text, b"CAABBCMBNBNLNSONPEQCSKUSGB", 2, 13) {
+        return Ok(n as u64);
     }
-}
-
-// The number of a date, as a value.
-fn by_date(reading: Reading) -> Value
-    ensures { result ≡ by_date reading }
-{
-    match reading {
-        Reading::Number(n) => Value::Of(n),
-        Reading::NotADate => Value::Refused(21),
-    }
-}
-
-// An issuer by its place among the codes, or else by what it is judged to be, as a value: 100 is a corporation.
-fn by_issuer(place: Place, judged: Judged) -> Value
-    ensures { result ≡ by_issuer place judged }
-{
-    match place {
-        Place::At(n) => Value::Of(n as u64),
-        Place::Nowhere => match judged {
-            Judged::Lei => Value::Of(100),
-            Judged::WrongForm => Value::Refused(21),
-            Judged::WrongRemainder => Value::Refused(25),
-        },
+    match lei::judge(text) {
+        Ok(()) => Ok(100),
+        Err(NotLei::Form) => Err(Refusal::Field),
+        Err(NotLei::Remainder) => Err(Refusal::Rating),
     }
 }
 
 // The value of a rating: Y, N or none.
-fn rating_in(text: &[u8]) -> Value
-    ensures { result ≡ by_place (place_of text.now ratings) }
+#[tactic(auto, using(crate::proofs::Ratings::rated), unfolding(codes::specs::Codes::cells))]
+fn rating_in(text: &[u8]) -> Result<u64, Refusal>
+    ensures { result ≡ valued (place_of text.now ratings) }
 {
-    if text.len() == 0 {
-        return Value::Of(2);
+    if text.is_empty() {
+        return Ok(2);
     }
-    by_place(codes::place_in(text, b"YN", 1, 2))
+    valued(codes::place_in(text, b"YN", 1, 2))
 }
 
-// The value that a text is of its sort, or its refusal.
-fn value_in(sort: Sort, text: &[u8]) -> Value
+// The value that a text is of its sort, or its refusal: Rating of an LEI that has another remainder, and else Field.
+#[tactic(auto, using(std::proofs::lemmas::Bool::Decides::nat_tests), unfolding(crate::specs::Layout::value_of, codes::specs::Codes::cells))]
+fn value_in(sort: Sort, text: &[u8]) -> Result<u64, Refusal>
     ensures { result ≡ value_of sort text.now }
 {
     match sort {
-        Sort::Account => by_place(codes::place_in(text, b"PC", 1, 2)),
-        Sort::Side => by_place(codes::place_in(text, b"LS", 1, 2)),
-        Sort::Kind => by_place(codes::place_in(text, b"BCR", 1, 3)),
-        Sort::Issuer => by_issuer(
-            codes::place_in(text, b"CAABBCMBNBNLNSONPEQCSKUSGB", 2, 13),
-            lei::judge(text),
-        ),
-        Sort::Currency => by_place(codes::place_in(text, b"CADUSDGBP", 3, 3)),
+        Sort::Account => valued(codes::place_in(text, b"PC", 1, 2)),
+        Sort::Side => valued(codes::place_in(text, b"LS", 1, 2)),
+        Sort::Kind => valued(codes::place_in(text, b"BCR", 1, 3)),
+        Sort::Issuer => issuer_in(text),
+        Sort::Currency => valued(codes::place_in(text, b"CADUSDGBP", 3, 3)),
         Sort::Rating => rating_in(text),
-        Sort::Date => by_date(dates::text::read_date(text)),
-        Sort::Six => by_numeral(numerals::read_numeral(text, 6)),
-        Sort::Twelve => by_numeral(numerals::read_numeral(text, 12)),
-        Sort::Empty => if text.len() == 0 {
-            Value::Of(0)
+        Sort::Date => dates::text::read_date(text).ok_or(Refusal::Field),
+        Sort::Six => numerals::read_numeral(text, 6).ok_or(Refusal::Field),
+        Sort::Twelve => numerals::read_numeral(text, 12).ok_or(Refusal::Field),
+        Sort::Empty => if text.is_empty() {
+            Ok(0)
         } else {
-            Value::Refused(21)
+            Err(Refusal::Field)
         },
     }
 }
 
-// The sooner of two refusals, where 0 is none: 21 comes before 25.
-fn sooner(found: u64, number: u64) -> u64
-    ensures { result ≡ sooner found number }
+// The sooner of what was found and another refusal: of two the one with the lesser number. By the numbers, since the papers order refusals by number.
+#[tactic(auto, using(std::proofs::lemmas::Bool::Decides::nat_tests), unfolding(crate::specs::Layout::sooner))]
+fn sooner(found: Result<(), Refusal>, refusal: Refusal) -> Result<(), Refusal>
+    ensures { refused_by result ≡ sooner (refused_by found) (number_of refusal) }
 {
-    if found == 0 {
-        return number;
+    let Err(first) = found else {
+        return Err(refusal);
+    };
+    if first.number() < refusal.number() {
+        return found;
     }
-    if number < found {
-        return number;
+    Err(refusal)
+}
+
+// The values of the fields after a letter go into the lent list. The refusal that comes first, if there is one: Field before Rating.
+fn values_after(
+    text: &[u8],
+    spans: &[Span; rfc4180::FIELDS],
+    letter: Letter,
+    fields: &mut [u64; AFTER],
+) -> Result<(), Refusal>
+    ensures { Found (values_of (sorts_by (place_by letter)) (drop 1 (texts_in text.now field_count spans.now)))
+        fields.new (refused_by result) }
+{
+    let sorts = sorts_of(letter);
+    let mut found = Ok(());
+    for j in 0..AFTER {
+        match value_in(
+            sorts[j],
+            rfc4180::field(text, rfc4180::FIELDS, spans, j + 1),
+        ) {
+            Ok(value) => fields[j] = value,
+            Err(refusal) => found = sooner(found, refusal),
+        }
     }
     found
 }
 
-// The values of the fields after a letter go into the lent list. The refusal that comes first, or 0.
-fn values_after<'a>(
-    text: &[u8],
-    starts: &'a [usize; rfc4180::FIELDS],
-    ends: &'a [usize; rfc4180::FIELDS],
-    letter: usize,
-    values: &mut [u64; VALUES],
-) -> u64
-    ensures { Found (values_of (sorts_by letter)
-        (drop 1 (texts_in text.now field_count starts.now ends.now)))
-        values.new result }
+// Whether a corporation has no rating, or a government has one: in a record of a holding.
+#[tactic(auto, using(std::proofs::lemmas::Bool::Decides::nat_tests), unfolding(crate::specs::Layout::misrated))]
+fn misrated(letter: Letter, issuer: u64, rating: u64) -> bool
+    ensures { result ≡ misrated (place_by letter) issuer rating }
 {
-    let found = &mut values[..];
-    let mut refusal = 0;
-    let mut j: usize = 0;
-    while j < rfc4180::FIELDS - 1 {
-        let value = value_in(
-            sort_at(letter, j),
-            rfc4180::field(text, rfc4180::FIELDS, starts, ends, j + 1),
-        );
-        match value {
-            Value::Of(v) => {
-                found[j] = v;
-            }
-            Value::Refused(number) => {
-                refusal = sooner(refusal, number);
-            }
-        }
-        j = j + 1;
+    if letter != Letter::Holding {
+        false
+    } else if issuer == 100 {
+        rating >= 2
+    } else {
+        rating != 2
     }
-    refusal
 }
 
-// Whether a corporation has no rating, or a government has one: in a record of H, the second letter.
-fn misrated(letter: usize, issuer: u64, rating: u64) -> bool
-    ensures { result ≡ misrated letter issuer rating }
-{
-    if letter != 1 {
-        return false;
+impl Letter {
+    // Whether a record of this letter may follow one of the letter before, or none: D comes first and only there.
+    pub fn may_follow(self, before: Option<Letter>) -> bool
+        ensures { result ≡ may_follow (option_map place_by before) (place_by self) }
+    {
+        may_follow(before.map(|letter| letter as usize), self as usize)
     }
-    if issuer == 100 {
-        return rating >= 2;
-    }
-    rating != 2
 }
 
-// The LEI of an issuer goes behind the values of the fields, as two numbers.
-fn put_issuer(issuer: &[u8], values: &mut [u64; VALUES])
-    ensures { values.new ≡ take (field_count - 1) values.old ++ lei_numbers issuer.now }
-{
-    let found = &mut values[..];
-    found[rfc4180::FIELDS - 1] = lei::high_of(issuer);
-    found[rfc4180::FIELDS] = lei::low_of(issuer);
-}
-
-// Whether a record of a letter may follow one of the letter before, or none: D comes first and only there.
-pub fn may_follow(before: Place, letter: usize) -> bool
+// The same of two letters' numbers, or of any other: 0, which is D's, comes first and only there. It is asked of any numbers, as promised.
+pub fn may_follow(before: Option<usize>, letter: usize) -> bool
     ensures { result ≡ may_follow before letter }
 {
     match before {
-        Place::Nowhere => letter == 0,
-        Place::At(k) => if letter == 0 { false } else { k <= letter },
+        None => letter == 0,
+        Some(place) => letter != 0 && place <= letter,
     }
 }
 
-// A record that is refused.
-fn refused(number: u64, next: usize) -> Entry
-    ensures { result ≡ entry (Parsed.Refused number) next }
+// The letter that a text is.
+#[tactic(auto, using(crate::proofs::Letters::by_byte))]
+fn letter_in(text: &[u8]) -> Option<Letter>
+    ensures { option_map place_by result ≡ place_of text.now letters }
 {
-    Entry {
-        parsed: Parsed::Refused { number },
-        next,
+    match text {
+        [b'D'] => Some(Letter::Valuation),
+        [b'H'] => Some(Letter::Holding),
+        [b'P'] => Some(Letter::Line),
+        _ => None,
     }
 }
 
-// The record at `at`, parsed, and where the next one starts. The values of a good one are in the lent list.
-pub fn entry_at(text: &[u8], at: usize, values: &mut [u64; VALUES]) -> Entry
-    ensures { EntryAt text.now at values.new result }
+// A record of so many fields, parsed. What a good one has after its letter goes into the lent record.
+fn parsed_in(
+    text: &[u8],
+    count: usize,
+    spans: &[Span; rfc4180::FIELDS],
+    record: &mut Record,
+) -> Result<Letter, Refusal>
+    ensures { Parses text.now count spans.now (all_values «record».new) result }
 {
-    let mut starts = [0usize; rfc4180::FIELDS];
-    let mut ends = [0usize; rfc4180::FIELDS];
-    let scanned = rfc4180::record(text, at, &mut starts, &mut ends);
-    let Scanned::Fields { count, next } = scanned else {
-        return refused(19, 0);
-    };
     if count != rfc4180::FIELDS {
-        return refused(20, next);
+        return Err(Refusal::FieldCount);
     }
-    let place = codes::place_in(rfc4180::field(text, count, &starts, &ends, 0), b"DHP", 1, 3);
-    let Place::At(letter) = place else {
-        return refused(21, next);
+    let Some(letter) = letter_in(rfc4180::field(text, count, spans, 0)) else {
+        return Err(Refusal::Field);
     };
-    let refusal = values_after(text, &starts, &ends, letter, values);
-    if refusal != 0 {
-        return refused(refusal, next);
+    values_after(text, spans, letter, &mut record.fields)?;
+    if misrated(letter, record.fields[2], record.fields[7]) {
+        return Err(Refusal::Rating);
     }
-    if misrated(letter, values[2], values[7]) {
-        return refused(25, next);
-    }
-    put_issuer(rfc4180::field(text, count, &starts, &ends, 3), values);
+    record.lei = lei::lei_of(rfc4180::field(text, count, spans, 3));
+    Ok(letter)
+}
+
+// The record at `at`, parsed, and where the next one starts. What a good one has after its letter is in the lent record.
+pub fn entry_at(text: &[u8], at: usize, record: &mut Record) -> Entry
+    ensures { EntryAt text.now at (all_values «record».new) result }
+{
+    let mut spans = [Span { start: 0, end: 0 }; rfc4180::FIELDS];
+    let Some(Scanned { count, next }) = rfc4180::record(text, at, &mut spans) else {
+        return Entry {
+            parsed: Err(Refusal::Grammar),
+            next: 0,
+        };
+    };
     Entry {
-        parsed: Parsed::Good { letter },
+        parsed: parsed_in(text, count, &spans, record),
         next,
     }
 }

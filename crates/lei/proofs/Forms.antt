@@ -13,8 +13,9 @@ use Rattle.lists.proofs.Entries.{each-by, each-every}
 use Rattle.lists.proofs.Tests.{by-test}
 use Rattle.lei.specs.Lei.{Digit, Capital, Form, IsLei, is_digit, is_capital, is_character, in_form, remainder, judged_of}
 use Rattle.lei.specs.Identifiers.{Judging}
-use Rattle.lei.specs.declared.Judged.{Judged}
-use Rattle.lei.specs.declared.Judged.TheVariants.{Lei, WrongForm, WrongRemainder}
+use Rattle.std.specs.Prelude.{Result, Ok, Err, ⊤}
+use Rattle.lei.specs.declared.NotLei.{NotLei}
+use Rattle.lei.specs.declared.NotLei.TheVariants.{Form as WrongForm, Remainder as WrongRemainder}
 use Rattle.lei.proofs.Characters.{capital_range, digit_range, capital-test, digit-test}
 
 character_test : (c : ℕ) → Capital c ⊎ Digit c → is_character c ≡ true
@@ -51,7 +52,7 @@ module _ (t : List ℕ) where
   no_form e f = false≢true (sym e ∙ form-test f)
 
   -- what a text is judged to be, by what it is
-  judged_by : (P : Judged → Type 0) → (IsLei t → P Lei) → (Form t → remainder t ≢ 1 → P WrongRemainder) → ((Form t → ⊥) → P WrongForm) → P (judged_of t)
+  judged_by : (P : Result ⊤ NotLei → Type 0) → (IsLei t → P (Ok tt)) → (Form t → remainder t ≢ 1 → P (Err WrongRemainder)) → ((Form t → ⊥) → P (Err WrongForm)) → P (judged_of t)
   unfolding judged_of
   judged_by P p q r =
       by-test P (in_form t)
@@ -68,31 +69,31 @@ module _ (t : List ℕ) where
   judging =
       record {
         lei = (
-          judged_by (λ r. r ≡ Lei → IsLei t)
+          judged_by (λ (r : Result ⊤ NotLei). r ≡ Ok tt → IsLei t)
               (λ i e. i)
               (λ f n e. let z : ◌≡◌ {A = ℕ} 0 1 = cc in not_one z)
               (λ n e. let z : ◌≡◌ {A = ℕ} 0 1 = cc in not_one z),
-          λ i. judged_by (λ r. r ≡ Lei)
+          λ i. judged_by (λ (r : Result ⊤ NotLei). r ≡ Ok tt)
               (λ _. refl)
               (λ f n. absurd (n i.remains))
               (λ n. absurd (n i.form)),
         );
         wrong_form = (
-          judged_by (λ r. r ≡ WrongForm → Form t → ⊥)
+          judged_by (λ (r : Result ⊤ NotLei). r ≡ Err WrongForm → Form t → ⊥)
               (λ i e. let z : ◌≡◌ {A = ℕ} 0 1 = cc in not_one z)
               (λ f n e. let z : ◌≡◌ {A = ℕ} 0 1 = cc in not_one z)
               (λ n e. n),
-          λ n. judged_by (λ r. r ≡ WrongForm)
+          λ n. judged_by (λ (r : Result ⊤ NotLei). r ≡ Err WrongForm)
               (λ i. absurd (n i.form))
               (λ f _. absurd (n f))
               (λ _. refl),
         );
         wrong_remainder = (
-          judged_by (λ r. r ≡ WrongRemainder → Form t × (remainder t ≢ 1))
+          judged_by (λ (r : Result ⊤ NotLei). r ≡ Err WrongRemainder → Form t × (remainder t ≢ 1))
               (λ i e. let z : ◌≡◌ {A = ℕ} 0 1 = cc in not_one z)
               (λ f n e. (f, n))
               (λ n e. let z : ◌≡◌ {A = ℕ} 0 1 = cc in not_one z),
-          λ h. judged_by (λ r. r ≡ WrongRemainder)
+          λ h. judged_by (λ (r : Result ⊤ NotLei). r ≡ Err WrongRemainder)
               (λ i. absurd (h.1 i.remains))
               (λ _ _. refl)
               (λ n. absurd (n h.0)),

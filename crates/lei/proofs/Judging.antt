@@ -1,17 +1,18 @@
 -- What each test on the way says of what a text is judged to be, and of its two numbers. Assumes nothing.
-use mathlib.Core.Path.{◌≡◌, sym, ap, ◌∙◌}
+use mathlib.Core.Path.{◌≡◌, sym, ◌∙◌}
 use mathlib.Core.Logic.{◌≢◌}
-use mathlib.Core.Bool.{Bool, true, false, not, and-eq-true_iff}
+use mathlib.Core.Bool.{Bool, true, false, and-eq-true_iff}
 use mathlib.Core.List.{List}
 use Prim.Native.Nat.{ℕ, ◌-◌}
 use native.Mathlib.Omega.{arith}
 use lib.Dec.{eqb}
 use lib.ListN.{length, take, drop, length-drop}
-use lib.Seq.{take_all, length-take-le}
-use borrow.Author.Tests.{eq-eqb, ne_eqb, eqb-true, not-true, not-false}
+use lib.Seq.{take_all}
+use borrow.Author.Tests.{eq-eqb, ne_eqb, eqb-true}
 use Rattle.lists.specs.Choice.{every}
-use Rattle.lei.specs.Lei.{is_digit, is_character, in_form, remainder, half_of, no_key, lei_of, judged_of}
-use Rattle.lei.specs.declared.Judged.TheVariants.{Lei, WrongForm, WrongRemainder}
+use Rattle.lei.specs.Lei.{is_digit, is_character, in_form, remainder, half_of, make_lei, no_lei, lei_of, judged_of}
+use Rattle.std.specs.Prelude.{Ok, Err}
+use Rattle.lei.specs.declared.NotLei.TheVariants.{Form as WrongForm, Remainder as WrongRemainder}
 
 module _ (t : List ℕ) where
   -- a part that goes to the end
@@ -26,46 +27,48 @@ module _ (t : List ℕ) where
   unfolding in_form
   form-first l e = rw (eq-eqb (length t) 20 l, e)
 
-  pub form-last : length t ≡ 20 → every is_character (take 18 t) ≡ true → (r : Bool) → r ≡ every is_digit (take (length t - 18) (drop 18 t)) → r ≡ in_form t
+  pub form-last : length t ≡ 20 → every is_character (take 18 t) ≡ true → (r : Bool) → r ≡ every is_digit (drop 18 t) → r ≡ in_form t
   unfolding in_form
-  form-last l e r q = rw (eq-eqb (length t) 20 l, e) (q ∙ ap (every is_digit) (to_end 18))
+  form-last l e r q = rw (eq-eqb (length t) 20 l, e) q
 
   pub form-long : in_form t ≡ true → length t ≡ 20
   unfolding in_form
   form-long e = eqb-true (length t) 20 ((and-eq-true_iff (eqb (length t) 20) _).0 e).0
 
-  pub judged-form : (f : Bool) → f ≡ in_form t → not f ≡ true → WrongForm ≡ judged_of t
+  pub judged-form : (f : Bool) → f ≡ in_form t → f ≡ false → Err WrongForm ≡ judged_of t
   unfolding judged_of
-  judged-form f e n = rw (← e, not-true f n)
+  judged-form f e n = rw (← e, n)
 
   -- the form was found
-  module _ (f : Bool) (found : f ≡ in_form t) (n : not f ≡ false) (r : ℕ) (q : r ≡ remainder t) where
+  module _ (f : Bool) (found : f ≡ in_form t) (n : f ≡ true) (r : ℕ) (q : r ≡ remainder t) where
     formed : in_form t ≡ true
-    formed = sym found ∙ not-false f n
+    formed = sym found ∙ n
 
-    pub judged-remainder : r ≢ 1 → WrongRemainder ≡ judged_of t
+    pub judged-remainder : r ≢ 1 → Err WrongRemainder ≡ judged_of t
     unfolding judged_of
     judged-remainder o = rw (formed, ne_eqb (remainder t) 1 (λ s. o (q ∙ s)))
 
-    pub judged-lei : r ≡ 1 → Lei ≡ judged_of t
+    pub judged-lei : r ≡ 1 → Ok tt ≡ judged_of t
     unfolding judged_of
     judged-lei s = rw (formed, eq-eqb (remainder t) 1 (sym q ∙ s))
 
   -- the two numbers: of ten characters and ten, or none
-  pub lei-none : length t ≢ 20 → lei_of t ≡ no_key
+  pub lei-none : length t ≢ 20 → lei_of t ≡ no_lei
   unfolding lei_of
   lei-none n = rw (ne_eqb (length t) 20 n)
 
-  module _ (l : length t ≡ 20) where
-    pub lei_halves : lei_of t ≡ (half_of (take 10 t), half_of (drop 10 t))
-    unfolding lei_of
-    lei_halves = rw (eq-eqb (length t) 20 l)
+  pub lei-zeros : length t ≢ 20 → no_lei ≡ lei_of t
+  lei-zeros n = sym (lei-none n)
 
-    pub first-ten : 10 ≡ length (take 10 t)
-    first-ten = sym (length-take-le 10 t (omega arith))
+  pub lei_halves : length t ≡ 20 → lei_of t ≡ make_lei (half_of (take 10 t)) (half_of (drop 10 t))
+  unfolding lei_of
+  lei_halves l = rw (eq-eqb (length t) 20 l)
 
-    pub high_is : (x : ℕ) → x ≡ half_of (take 10 t) → x ≡ (lei_of t).0
-    high_is x e = rw lei_halves e
+  pub lei_is : (high low : ℕ) → length t ≡ 20 → high ≡ half_of (take 10 t) → low ≡ half_of (take (length t - 10) (drop 10 t)) → make_lei high low ≡ lei_of t
+  lei_is high low l e q = sym (lei_halves l ∙ rw (e, q, to_end 10))
 
-    pub low-is : (x : ℕ) → x ≡ half_of (take (length t - 10) (drop 10 t)) → x ≡ (lei_of t).1
-    low-is x e = rw lei_halves (e ∙ ap half_of (to_end 10))
+-- what `judge` owes
+pub ruleset judges = (judged-form, judged-remainder, judged-lei)
+
+-- what `lei_of` owes
+pub ruleset takes = (lei-zeros, lei_is)

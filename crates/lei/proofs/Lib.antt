@@ -1,4 +1,3 @@
-pub mod Tests
 pub mod Characters
 pub mod Remainders
 pub mod Halves

@@ -15,7 +15,7 @@ use Rattle.lists.specs.Choice.{every}
 use Rattle.lists.specs.Tables.{Each}
 use Rattle.lists.proofs.Entries.{each-by, each_at, each_append, each-parts}
 use Rattle.lists.proofs.Tests.{by-test}
-use Rattle.lei.specs.Lei.{is_capital, is_digit, is_character, in_form, value_of, number, half_of, lei_of, character_of, characters, lei_text}
+use Rattle.lei.specs.Lei.{is_capital, is_digit, is_character, in_form, value_of, number, half_of, make_lei, lei_of, character_of, characters, lei_text}
 use Rattle.lei.proofs.Characters.{capital_range, capital-test, low_no_capital, digit_range, value-capital, value-other}
 use Rattle.lei.proofs.Judging.{form-long, lei_halves}
 use Rattle.lei.proofs.Halves.{half_more, half_snoc}
@@ -112,7 +112,7 @@ module _ (t : List ℕ) (form : in_form t ≡ true) where
   text-back = rw (lei_halves t (form-long t form), write-all (take 10 t) halves.0 10 first-long, write-all (drop 10 t) halves.1 10 last-long) (take-append-drop 10 t)
 
   -- and are small
-  pub lei-small : ((lei_of t).0 < 36 ^ 10) × ((lei_of t).1 < 36 ^ 10)
+  pub lei-small : ((lei_of t).high < 36 ^ 10) × ((lei_of t).low < 36 ^ 10)
   lei-small = rw (lei_halves t (form-long t form)) (value-all (take 10 t) halves.0 10 first-long, value-all (drop 10 t) halves.1 10 last-long)
 
 -- the characters of a number that is small have it as their number
@@ -124,13 +124,13 @@ value-characters (suc k) v h =
     ∙ rw (value_character (v % 36) (omega arith), value-characters k (v / 36) (omega (arith, pow-suc 36 k))) (omega arith)
 
 -- two numbers that are small are those of their text
-pub numbers-back : (high low : ℕ) → high < 36 ^ 10 → low < 36 ^ 10 → lei_of (lei_text (high, low)) ≡ (high, low)
+pub numbers-back : (high low : ℕ) → high < 36 ^ 10 → low < 36 ^ 10 → lei_of (lei_text (make_lei high low)) ≡ make_lei high low
 unfolding lei_text
 numbers-back high low h l =
     let a = characters 10 high in
     let b = characters 10 low in
     let ten = length-characters 10 high in
-    lei_halves (lei_text (high, low)) (length-lei (high, low)) ∙ rw (take_at a b 10 ten, drop_at a b 10 ten, value-characters 10 high h, value-characters 10 low l)
+    lei_halves (lei_text (make_lei high low)) (length-lei (make_lei high low)) ∙ rw (take_at a b 10 ten, drop_at a b 10 ten, value-characters 10 high h, value-characters 10 low l)
 
 -- two texts in form are one exactly when their numbers are
 pub lei-exactly : (t u : List ℕ) → in_form t ≡ true → in_form u ≡ true → (lei_of t ≡ lei_of u) ↔ (t ≡ u)

@@ -7,7 +7,8 @@ use native.Mathlib.Omega.{arith}
 use lib.ListN.{length, set, length-append}
 use Rattle.lists.specs.Tables.{overwrite}
 use Rattle.lists.proofs.Overwrite.{overwrite-none, overwrite-one, overwrite-overwrite, length-overwrite}
-use Rattle.lei.specs.Lei.{Key, character_of, characters, lei_text}
+use Rattle.lei.specs.declared.Lei.{Lei}
+use Rattle.lei.specs.Lei.{character_of, characters, lei_text}
 
 pub length-characters : (k v : ℕ) → length (characters k v) ≡ k
 unfolding characters
@@ -36,12 +37,15 @@ written-more (suc k) v at old mid c n h e q =
     overwrite-one (at + (suc k - 1)) c mid (omega arith) ∙ rw (e, j, q) (after at old high low k long (omega arith))
 
 -- ten characters and ten
-pub length-lei : (x : Key) → length (lei_text x) ≡ 20
+pub length-lei : (x : Lei) → length (lei_text x) ≡ 20
 unfolding lei_text
-length-lei x = length-append (characters 10 x.0) (characters 10 x.1) ∙ omega (arith, length-characters 10 x.0, length-characters 10 x.1)
+length-lei x = length-append (characters 10 x.high) (characters 10 x.low) ∙ omega (arith, length-characters 10 x.high, length-characters 10 x.low)
 
-pub written-lei : (high low at : ℕ) (old mid end : List ℕ) → at + 20 ≤ length old → mid ≡ overwrite at (characters 10 high) old → end ≡ overwrite (at + 10) (characters 10 low) mid
-    → end ≡ overwrite at (lei_text (high, low)) old
+pub written-lei : (x : Lei) (at : ℕ) (old mid end : List ℕ) → at + 20 ≤ length old → mid ≡ overwrite at (characters 10 x.high) old → end ≡ overwrite (at + 10) (characters 10 x.low) mid
+    → end ≡ overwrite at (lei_text x) old
 unfolding lei_text
-written-lei high low at old mid end h e q =
-    q ∙ rw e (after at old (characters 10 high) (characters 10 low) 10 (length-characters 10 high) (omega arith))
+written-lei x at old mid end h e q =
+    q ∙ rw e (after at old (characters 10 x.high) (characters 10 x.low) 10 (length-characters 10 x.high) (omega arith))
+
+-- what `put_characters` and `put_lei` owe
+pub ruleset writes = (written_none, written-more, written-lei)

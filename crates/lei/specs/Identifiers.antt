@@ -1,9 +1,9 @@
 -- THE PAGE OF LEIS: what ISO 17442, ISO 7064 and document 02 d) say of them, over the definitions beside it; proofs/Identifiers.antt proves it.
 -- Assumes nothing.
 use mathlib.Core.{Path.◌≡◌, Logic.◌↔◌, Logic.◌≢◌, Bool.true, List.List, List.[], List.◌∷◌, List.◌++◌}
-use Rattle.std.specs.Prelude.{ℕ, ◌+◌, ◌*◌, ◌/◌, ◌%◌, ◌^◌, ◌<◌, length}
-use Rattle.lei.specs.Lei.{Form, IsLei, is_character, is_capital, digits_of, number, remainder, remainder_from, no_key, lei_of, lei_text, judged_of}
-use Rattle.lei.specs.declared.Judged.TheVariants.{Lei, WrongForm, WrongRemainder}
+use Rattle.std.specs.Prelude.{ℕ, ◌+◌, ◌*◌, ◌/◌, ◌%◌, ◌^◌, ◌<◌, length, Ok, Err}
+use Rattle.lei.specs.Lei.{Form, IsLei, is_character, is_capital, digits_of, number, remainder, remainder_from, make_lei, no_lei, lei_of, lei_text, judged_of}
+use Rattle.lei.specs.declared.NotLei.TheVariants.{Form as WrongForm, Remainder as WrongRemainder}
 
 -- ISO 7064 MOD 97-10
 pub record CheckDigits : Type 0 where
@@ -22,17 +22,17 @@ pub record CheckDigits : Type 0 where
 
 -- what a text is judged to be: an LEI, or the first of two refusals
 pub record Judging (t : List ℕ) : Type 0 where
-  pub lei : (judged_of t ≡ Lei) ↔ IsLei t
-  pub wrong_form : (judged_of t ≡ WrongForm) ↔ (Form t → ⊥)
-  pub wrong_remainder : (judged_of t ≡ WrongRemainder) ↔ (Form t × (remainder t ≢ 1))
+  pub lei : (judged_of t ≡ Ok tt) ↔ IsLei t
+  pub wrong_form : (judged_of t ≡ Err WrongForm) ↔ (Form t → ⊥)
+  pub wrong_remainder : (judged_of t ≡ Err WrongRemainder) ↔ (Form t × (remainder t ≢ 1))
 
 -- an LEI as two numbers: they write its text, so that two texts in form are one exactly when their numbers are; a text that is too short or too long has none
 pub record TwoNumbers : Type 0 where
-  pub none : (t : List ℕ) → length t ≢ 20 → lei_of t ≡ no_key
+  pub none : (t : List ℕ) → length t ≢ 20 → lei_of t ≡ no_lei
   pub back : (t : List ℕ) → Form t → lei_text (lei_of t) ≡ t
   pub equal : (t u : List ℕ) → Form t → Form u → (lei_of t ≡ lei_of u) ↔ (t ≡ u)
-  pub small : (t : List ℕ) → Form t → ((lei_of t).0 < 36 ^ 10) × ((lei_of t).1 < 36 ^ 10)
-  pub again : (high low : ℕ) → high < 36 ^ 10 → low < 36 ^ 10 → lei_of (lei_text (high, low)) ≡ (high, low)
+  pub small : (t : List ℕ) → Form t → ((lei_of t).high < 36 ^ 10) × ((lei_of t).low < 36 ^ 10)
+  pub again : (high low : ℕ) → high < 36 ^ 10 → low < 36 ^ 10 → lei_of (lei_text (make_lei high low)) ≡ make_lei high low
 
 -- the page
 pub record Identifiers : Type 0 where

@@ -1,9 +1,9 @@
 -- ISO 17442, an LEI: 18 capitals or digits, then 2 digits, with remainder 1 by ISO 7064 MOD 97-10; and an LEI as two numbers. Assumes nothing.
 use mathlib.Core.{Path.◌≡◌, Logic.◌⊎◌, Bool.Bool, Bool.cond, Bool.◌&&◌, Bool.◌||◌, List.List, List.[], List.◌∷◌, List.◌++◌, List.map}
-use Rattle.std.specs.Prelude.{ℕ, zero, suc, ◌+◌, ◌-◌, ◌*◌, ◌/◌, ◌%◌, ◌^◌, ◌≤◌}
+use Rattle.std.specs.Prelude.{ℕ, zero, suc, ◌+◌, ◌-◌, ◌*◌, ◌/◌, ◌%◌, ◌^◌, ◌≤◌, Result, Ok, Err, ⊤}
 use lib.{Dec.ltb, Dec.eqb, ListN.length, ListN.take, ListN.drop}
 use Rattle.lists.specs.{Choice.within, Choice.every, Tables.Each}
-use Rattle.lei.specs.declared.Judged.{Judged, TheVariants.Lei, TheVariants.WrongForm, TheVariants.WrongRemainder}
+use Rattle.lei.specs.declared.{Lei.Lei, NotLei.NotLei, NotLei.TheVariants.Form as WrongForm, NotLei.TheVariants.Remainder as WrongRemainder}
 
 -- `0` to `9`, and `A` to `Z`
 abbrev pub Digit : ℕ → Type 0
@@ -67,21 +67,21 @@ pub record IsLei (t : List ℕ) : Type 0 where
 unfoldable pub half_of : List ℕ → ℕ
 half_of t = number 36 (map value_of t)
 
--- an LEI as two numbers
-abbrev pub Key : Type 0
-Key = ℕ × ℕ
+-- an LEI by its two numbers
+abbrev pub make_lei : ℕ → ℕ → Lei
+make_lei high low = record { high = high; low = low }
 
 -- what stands for no LEI
-abbrev pub no_key : Key
-no_key = (0, 0)
+abbrev pub no_lei : Lei
+no_lei = make_lei 0 0
 
 -- of a text of 20 bytes the numbers of its first ten characters and of its last ten, of any other text none
-unfoldable pub lei_of : List ℕ → Key
-lei_of t = cond (eqb (length t) 20) (half_of (take 10 t), half_of (drop 10 t)) no_key
+unfoldable pub lei_of : List ℕ → Lei
+lei_of t = cond (eqb (length t) 20) (make_lei (half_of (take 10 t)) (half_of (drop 10 t))) no_lei
 
 -- what a text is judged to be: its form comes before its remainder
-unfoldable pub judged_of : List ℕ → Judged
-judged_of t = cond (in_form t) (cond (eqb (remainder t) 1) Lei WrongRemainder) WrongForm
+unfoldable pub judged_of : List ℕ → Result ⊤ NotLei
+judged_of t = cond (in_form t) (cond (eqb (remainder t) 1) (Ok tt) (Err WrongRemainder)) (Err WrongForm)
 
 -- the character of a number: 0 to 9 are `0` to `9`, 10 to 35 are `A` to `Z`
 unfoldable pub character_of : ℕ → ℕ
@@ -92,6 +92,6 @@ unfoldable pub characters : ℕ → ℕ → List ℕ
 characters zero v = []
 characters (suc k) v = characters k (v / 36) ++ (character_of (v % 36) ∷ [])
 
--- the text of two numbers
-unfoldable pub lei_text : Key → List ℕ
-lei_text x = characters 10 x.0 ++ characters 10 x.1
+-- the text of an LEI
+unfoldable pub lei_text : Lei → List ℕ
+lei_text x = characters 10 x.high ++ characters 10 x.low

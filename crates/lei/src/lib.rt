@@ -1,76 +1,31 @@
-// LEIs in bytes: judged, taken as two numbers and written from them, and sought in a table of those known.
+// LEIs in bytes: judged, taken as two numbers and written from them, and sought among those known.
 #![tactic(auto)]
 
 ghost use Rattle.std.specs.Prelude.{◌≡◌, ◌+◌, ◌≤◌, ◌<◌, length};
-ghost use Rattle.lists.specs.Choice.{every};
 ghost use Rattle.lists.specs.Tables.{overwrite};
-ghost use Rattle.lei.specs.Lei.{is_digit, is_capital, is_character, in_form, value_of, half_of, lei_of, remainder, remainder_next, judged_of, character_of, characters, lei_text};
-ghost use Rattle.lei.specs.Numbering.{same_lei, first_place, table};
+ghost use Rattle.lei.specs.Lei.{is_character, in_form, value_of, half_of, lei_of, remainder, remainder_next, judged_of, character_of, characters, lei_text};
+ghost use Rattle.lei.specs.Numbering.{place_among};
 
-// What a text is.
-#[derive(Clone, Copy)]
-pub enum Judged {
-    Lei,
-    WrongForm,
-    WrongRemainder,
+// An LEI as two numbers to the base 36: of its first ten characters and of its last ten.
+#[derive(Clone, Copy, PartialEq, Eq)]
+pub struct Lei {
+    pub high: u64,
+    pub low: u64,
 }
 
-// `0` to `9`.
-fn is_digit(c: u8) -> bool
-    ensures { result ≡ is_digit c }
-{
-    if c < 48 {
-        return false;
-    }
-    c <= 57
+// Why a text is no LEI: its form, or in good form its remainder.
+#[derive(Clone, Copy, PartialEq, Eq)]
+pub enum NotLei {
+    Form,
+    Remainder,
 }
 
-// `A` to `Z`.
-fn is_capital(c: u8) -> bool
-    ensures { result ≡ is_capital c }
-{
-    if c < 65 {
-        return false;
-    }
-    c <= 90
-}
-
-// Either.
+// `A` to `Z` or `0` to `9`.
+#[tactic(auto, unfolding(crate::specs::Lei::is_character, crate::specs::Lei::is_capital, crate::specs::Lei::is_digit, lists::specs::Choice::within))]
 fn is_character(c: u8) -> bool
     ensures { result ≡ is_character c }
 {
-    if is_capital(c) {
-        return true;
-    }
-    is_digit(c)
-}
-
-// Whether every byte is a capital or a digit.
-fn all_characters(text: &[u8]) -> bool
-    ensures { result ≡ every is_character text.now }
-{
-    let mut i = 0;
-    while i < text.len() {
-        if !is_character(text[i]) {
-            return false;
-        }
-        i += 1;
-    }
-    true
-}
-
-// Whether every byte is a digit.
-fn all_digits(text: &[u8]) -> bool
-    ensures { result ≡ every is_digit text.now }
-{
-    let mut i = 0;
-    while i < text.len() {
-        if !is_digit(text[i]) {
-            return false;
-        }
-        i += 1;
-    }
-    true
+    c.is_ascii_uppercase() || c.is_ascii_digit()
 }
 
 // Whether the text is 18 capitals or digits and then 2 digits.
@@ -80,23 +35,18 @@ fn in_form(text: &[u8]) -> bool
     if text.len() != 20 {
         return false;
     }
-    if !all_characters(&text[..18]) {
-        return false;
-    }
-    all_digits(&text[18..])
+    let (first, last) = text.split_at(18);
+    first.iter().all(|&c| is_character(c)) && last.iter().all(|&c| c.is_ascii_digit())
 }
 
 // The number of a character.
 fn value(c: u8) -> u64
     ensures { (result ≡ value_of c) × (result ≤ 207) }
 {
-    if is_capital(c) {
-        return (c - 55) as u64;
+    if c.is_ascii_uppercase() {
+        return (c - b'A') as u64 + 10;
     }
-    if c < 48 {
-        return 0;
-    }
-    (c - 48) as u64
+    c.saturating_sub(b'0') as u64
 }
 
 // The remainder by 97, one character on.
@@ -104,84 +54,79 @@ fn remainder_next(r: u64, c: u8) -> u64
     requires { r < 97 }
     ensures { (result ≡ remainder_next r c) × (result < 97) }
 {
-    if is_capital(c) {
+    if c.is_ascii_uppercase() {
         return (100 * r + value(c)) % 97;
     }
     (10 * r + value(c)) % 97
 }
 
 // The remainder by 97 of the text's number.
+#[tactic(auto, using(crate::proofs::Remainders::remains))]
 fn remainder(text: &[u8]) -> u64
     ensures { result ≡ remainder text.now }
 {
     let mut r = 0;
-    let mut i = 0;
-    while i < text.len() {
-        r = remainder_next(r, text[i]);
-        i += 1;
+    for &c in text {
+        r = remainder_next(r, c);
     }
     r
 }
 
 // The number of up to ten characters to the base 36.
+#[tactic(auto, using(crate::proofs::Halves::halves))]
 fn half(text: &[u8]) -> u64
     requires { length text.now ≤ 10 }
     ensures { result ≡ half_of text.now }
 {
     let mut x = 0;
-    let mut i = 0;
-    while i < text.len() {
-        x = 36 * x + value(text[i]);
-        i += 1;
+    for &c in text {
+        x = 36 * x + value(c);
     }
     x
 }
 
 // Whether the text is an LEI: its form is tested before its remainder.
-pub fn judge(text: &[u8]) -> Judged
+#[tactic(auto, using(crate::proofs::Judging::judges))]
+pub fn judge(text: &[u8]) -> Result<(), NotLei>
     ensures { result ≡ judged_of text.now }
 {
     if !in_form(text) {
-        return Judged::WrongForm;
+        return Err(NotLei::Form);
     }
     if remainder(text) != 1 {
-        return Judged::WrongRemainder;
+        return Err(NotLei::Remainder);
     }
-    Judged::Lei
+    Ok(())
 }
 
-// The number of the first ten characters of a text of 20 bytes; 0 of any other.
-pub fn high_of(text: &[u8]) -> u64
-    ensures { result ≡ (lei_of text.now).0 }
+// The two numbers of a text of 20 bytes; zeros of any other, since it is taken of every record, whatever its issuer is.
+#[tactic(auto, using(crate::proofs::Judging::takes))]
+pub fn lei_of(text: &[u8]) -> Lei
+    ensures { result ≡ lei_of text.now }
 {
     if text.len() != 20 {
-        return 0;
+        return Lei { high: 0, low: 0 };
     }
-    half(&text[..10])
-}
-
-// The number of its last ten.
-pub fn low_of(text: &[u8]) -> u64
-    ensures { result ≡ (lei_of text.now).1 }
-{
-    if text.len() != 20 {
-        return 0;
+    Lei {
+        high: half(&text[..10]),
+        low: half(&text[10..]),
     }
-    half(&text[10..])
 }
 
 // The character of a number.
+#[tactic(auto, unfolding(crate::specs::Lei::character_of))]
 fn character(v: u64) -> u8
     requires { v < 36 }
     ensures { result ≡ character_of v }
 {
     if v < 10 {
-        return 48 + v as u8;
+        return b'0' + v as u8;
     }
-    55 + v as u8
+    b'A' + (v - 10) as u8
 }
 
-// Writes the k lowest digits of v to the base 36 into out from `at` on; all other bytes are kept.
+// Writes the k lowest digits of v to the base 36 into out from `at` on; all other bytes are kept. The library writes no number to that base.
+#[tactic(auto, using(crate::proofs::Written::writes))]
 fn put_characters(k: usize, v: u64, at: usize, out: &mut [u8])
     requires { at + k ≤ length out.old }
     ensures { out.new ≡ overwrite at (characters k v) out.old }
@@ -195,35 +140,18 @@ fn put_characters(k: usize, v: u64, at: usize, out: &mut [u8])
 }
 
 // Writes the 20 bytes of an LEI into out from `at` on; all other bytes are kept.
-pub fn put_lei(high: u64, low: u64, at: usize, out: &mut [u8])
+#[tactic(auto, using(crate::proofs::Written::writes))]
+pub fn put_lei(lei: Lei, at: usize, out: &mut [u8])
     requires { at + 20 ≤ length out.old }
-    ensures { out.new ≡ overwrite at (lei_text (high, low)) out.old }
+    ensures { out.new ≡ overwrite at (lei_text lei) out.old }
 {
-    put_characters(10, high, at, out);
-    put_characters(10, low, at + 10, out);
+    put_characters(10, lei.high, at, out);
+    put_characters(10, lei.low, at + 10, out);
 }
 
-// Whether two LEIs are one.
-fn same_lei(h: u64, l: u64, high: u64, low: u64) -> bool
-    ensures { result ≡ same_lei (h, l) (high, low) }
+// The first place of an LEI among those known.
+pub fn number_of(known: &[Lei], lei: Lei) -> Option<usize>
+    ensures { result ≡ place_among known.now lei }
 {
-    if h != high {
-        return false;
-    }
-    l == low
-}
-
-// The first place of an LEI among the first `count` of a table, or `count` where it is not there.
-pub fn number_of(high: &[u64], low: &[u64], count: usize, h: u64, l: u64) -> usize
-    requires { (count ≤ length high.now) × (count ≤ length low.now) }
-    ensures { (result ≡ first_place (h, l) (table count high.now low.now)) × (result ≤ count) }
-{
-    let mut i = 0;
-    while i < count {
-        if same_lei(h, l, high[i], low[i]) {
-            return i;
-        }
-        i += 1;
-    }
-    count
+    known.iter().position(|k| lei == *k)
 }

@@ -13,7 +13,7 @@ use Rattle.article.specs.Answer.{Answer, make_answer}
 use Rattle.words.specs.Words.{encode}
 use Rattle.holding.specs.declared.Head.{Head}
 use Rattle.columns.specs.Columns.{Columns, count_in, rows_in, submission, holding_sizes, line_sizes}
-use Rattle.columns.proofs.Columns.{column-entries}
+use Rattle.columns.proofs.Submitted.{column-entries}
 use Rattle.sizes.specs.Sizes.{Room}
 use Rattle.sizes.proofs.Sizes.{room-exactly, lengths-exactly}
 use Rattle.proposal.specs.Submission.{book_of, priced, remainders_of, ranked}

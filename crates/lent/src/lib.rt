@@ -1,23 +1,22 @@
 // The check on what the host lends: columns of bytes in, lists of bytes written.
 #![tactic(auto)]
 
-ghost use Rattle.std.specs.Prelude.{[], ◌∷◌};
 ghost use Rattle.article.specs.Answer.{make_answer};
-ghost use Rattle.words.specs.Words.{entries};
-ghost use Rattle.columns.specs.Columns.{make_columns};
-ghost use Rattle.verdict.specs.Judges.{ScratchRoom};
+ghost use Rattle.columns.specs.Columns.{count_in};
+ghost use Rattle.verdict.specs.Scratch.{HasRoom, SameLists};
 ghost use Rattle.lent.specs.Boundary.{make_lent, Answers, Checks};
 
+use columns::Columns;
 use holding::Head;
-use verdict::Verdict;
+use verdict::{Scratch, Verdict};
 
-// Puts two numbers into an answer slice of 16 bytes or more, and returns the number.
+// Puts two numbers into an answer slice of 16 bytes or more, and returns the number, which is what the host gets.
 pub fn put_answer(number: u64, first: u64, second: u64, out: &mut [u8]) -> u64
     ensures { Answers (make_answer number first second) out.old out.new result }
 {
-    if out.len() >= 16 {
-        words::put_word(out, 0, first);
-        words::put_word(out, 1, second);
+    let enough = out.len() >= 16;
+    if enough {
+        words::write_words(&[first, second], out);
     }
     number
 }
@@ -26,49 +25,30 @@ pub fn put_answer(number: u64, first: u64, second: u64, out: &mut [u8]) -> u64
 // number is returned.
 pub fn judge(
     head: Head,
-    side: &[u8],
-    kind: &[u8],
-    issuer: &[u8],
-    maturity: &[u8],
-    value: &[u8],
-    price: &[u8],
-    currency: &[u8],
-    rating: &[u8],
-    long: &[u8],
-    short: &[u8],
-    amount: &[u8],
+    columns: &Columns<'_>,
     remainder: &mut [u8],
     ranking: &mut [u8],
     answer: &mut [u8],
-    legs: &mut [u64],
-    left: &mut [u64],
-    margins: &mut [u64],
-    ranks: &mut [u64],
+    scratch: &mut Scratch<'_>,
 ) -> u64
-    requires { ScratchRoom (entries side.now) legs.old left.old margins.old ranks.old }
-    ensures { Checks head (make_columns
-        (side.now ∷ kind.now ∷ issuer.now ∷ maturity.now ∷ value.now ∷ currency.now ∷ rating.now ∷ [])
-        price.now
-        (long.now ∷ short.now ∷ amount.now ∷ []))
+    requires { HasRoom (count_in columns.now.holdings) scratch.old }
+    ensures checks { Checks head columns.now
         (make_lent remainder.old ranking.old answer.old)
         (make_lent remainder.new ranking.new answer.new) result }
+    ensures same { SameLists scratch.old scratch.new }
 {
-    let n = side.len() / 8;
+    let n = columns.holdings();
     let two = sizes::lists_too_short(n, remainder.len(), ranking.len(), answer.len());
-    let verdict = verdict::check(
-        two, head, side, kind, issuer, maturity, value, price, currency, rating, long, short,
-        amount, legs, left, margins, ranks,
-    );
-    match verdict {
+    match verdict::check(two, head, columns, scratch) {
         Verdict::Accepted { units, cents } => {
-            words::write_words(left, n, remainder);
-            words::write_words(ranks, n, ranking);
-            return put_answer(0, units, cents, answer);
+            words::write_words(&scratch.left[..n], remainder);
+            words::write_words(&scratch.ranks[..n], ranking);
+            put_answer(0, units, cents, answer)
         }
         Verdict::Refused {
             number,
             place,
             second,
-        } => return put_answer(number, place, second, answer),
+        } => put_answer(number, place, second, answer),
     }
 }

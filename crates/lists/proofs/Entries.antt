@@ -8,6 +8,7 @@ use native.Mathlib.Omega.{arith}
 use lib.Dec.{leb, eqb}
 use lib.ListN.{length, get_or}
 use borrow.Author.Tests.{leb-true, eq-eqb, eqb-true}
+use Rattle.std.specs.List.{list_all}
 use Rattle.lists.specs.Choice.{same, every, some}
 use Rattle.lists.specs.Tables.{Each}
 use Rattle.lists.proofs.Tests.{neither, either_way}
@@ -23,6 +24,11 @@ each-by P test f (x ∷ xs) e =
 pub each-every : {A : Type 0} (P : A → Type 0) (test : A → Bool) → ((x : A) → P x → test x ≡ true) → (xs : List A) → Each P xs → every test xs ≡ true
 each-every P test f [] h = refl
 each-every P test f (x ∷ xs) h = rw (f x h.0) (each-every P test f xs h.1)
+
+-- as the library finds it
+pub all_every : {A : Type 0} (test : A → Bool) (xs : List A) → list_all test xs ≡ every test xs
+all_every test [] = refl
+all_every test (x ∷ xs) = rw (all_every test xs)
 
 -- no entry passes a test exactly when each has what failing it gives
 pub none-some : {A : Type 0} (P : A → Type 0) (test : A → Bool) → ((x : A) → (test x ≡ false) ↔ P x) → (xs : List A) → (some test xs ≡ false) ↔ Each P xs

@@ -12,13 +12,10 @@ pub fn zeros() -> [u64; 256]
 }
 
 // Writes bytes over the first of a list; the others are kept.
+#[tactic(auto, unfolding(crate::specs::Tables::front))]
 pub fn copy(from: &[u8], to: &mut [u8])
     requires { length from.now ≤ length to.old }
     ensures { to.new ≡ front from.now to.old }
 {
-    let mut i = 0;
-    while i < from.len() {
-        to[i] = from[i];
-        i += 1;
-    }
+    to[..from.len()].copy_from_slice(from);
 }

@@ -125,12 +125,13 @@ strip_rate_lem : (l : Leg) → is_corporate l ≡ true → is_strip l ≡ true �
 unfolding scan_rate is_strip is_bond
 strip_rate_lem l n k = rw (positive 2 l.kind k, n)
 
--- it is at most 21,900
-pub bond-low : (l : Leg) → RateInRange l → is_bond l ≡ true → scan_rate l ≤ scan_limit
-bond-low l f b =
+-- a bond's is at most 21,900
+pub bond_low : (l : Leg) → RateInRange l → l.kind ≡ 0 → l.rate ≤ scan_limit
+unfolding is_bond
+bond_low l f e =
     either_way (is_corporate l)
-    (λ n. omega (arith, bond_rate_lem l b, f.bond n b, flat_high 2 l.period))
-    (λ n. omega (arith, bond_rate_lem l b, f.government n))
+    (λ n. omega (arith, f.bond n (eq-eqb l.kind 0 e), flat_high 2 l.period))
+    f.government
 
 -- what a bond and a strip of one corporation and one period save: twice the lesser of the bond's rate and a third of the strip's
 capped-saving : {b s : ℕ} (period : ℕ) → b ≡ flat_rate 2 period → (2 * s ≡ 3 * flat_rate 2 period) ⊎ ((period ≡ 5) × (s ≡ 43800))

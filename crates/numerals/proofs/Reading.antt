@@ -1,6 +1,6 @@
 -- A numeral is read digit by digit: what each test on the way says of the text, and what was read before each place. Assumes nothing.
 use mathlib.Core.Path.{◌≡◌, refl, sym, ap, ◌∙◌}
-use mathlib.Core.Logic.{◌≢◌}
+use mathlib.Core.Logic.{◌≢◌, ◌⊎◌, ⊎_elim}
 use mathlib.Core.List.{List, [], ◌∷◌}
 use Prim.Native.Nat.{ℕ, zero, suc, ◌+◌, ◌*◌, ◌^◌, ◌≤◌, ◌<◌}
 use native.Mathlib.Nat.{pow-suc, pow-le-pow_right}
@@ -10,19 +10,19 @@ use lib.ListN.{length, get_or, take}
 use lib.Seq.{take-suc, take_all}
 use Rattle.lists.proofs.Entries.{each_at}
 use Rattle.numerals.specs.Numerals.{digits, numeral_of}
-use Rattle.numerals.specs.declared.Numeral.TheVariants.{Number, NotANumeral}
+use Rattle.std.specs.Prelude.{Some, None}
 use Rattle.numerals.proofs.Digits.{IsDigit, digits-one, digits_more, digits-some, digits-each, digits-first}
 use Rattle.numerals.proofs.Exactly.{numeral_of_lem, not_numeral}
 
 module _ (most : ℕ) (text : List ℕ) where
-  pub text-none : length text ≡ 0 → NotANumeral ≡ numeral_of most text
+  pub text-none : length text ≡ 0 → None ≡ numeral_of most text
   text-none h = not_numeral most text (λ v e l. omega (arith, digits-some v, ap (length {A = ℕ}) e))
 
-  pub text-long : most < length text → NotANumeral ≡ numeral_of most text
+  pub text-long : most < length text → None ≡ numeral_of most text
   text-long h = not_numeral most text (λ v e l. omega arith)
 
   -- `0`
-  pub text_zero : get_or text 0 0 ≡ 48 → length text ≡ 1 → length text ≤ most → Number 0 ≡ numeral_of most text
+  pub text_zero : get_or text 0 0 ≡ 48 → length text ≡ 1 → length text ≤ most → Some 0 ≡ numeral_of most text
   text_zero h n l = numeral_of_lem most 0 text (alone text h n ∙ sym (digits-one 0 (omega arith))) l
     where
       alone : (text : List ℕ) → get_or text 0 0 ≡ 48 → length text ≡ 1 → text ≡ 48 ∷ []
@@ -31,7 +31,7 @@ module _ (most : ℕ) (text : List ℕ) where
       alone (c ∷ d ∷ text) h n = absurd (omega arith)
 
   -- `0` and more
-  pub text-lead : get_or text 0 0 ≡ 48 → length text ≢ 1 → NotANumeral ≡ numeral_of most text
+  pub text-lead : get_or text 0 0 ≡ 48 → length text ≢ 1 → None ≡ numeral_of most text
   text-lead h n = not_numeral most text (λ v e l. none v e)
     where
       none : (v : ℕ) → text ≡ digits v → ⊥
@@ -40,14 +40,11 @@ module _ (most : ℕ) (text : List ℕ) where
 
   -- a byte that is no digit
   module _ (i : ℕ) (h : i < length text) where
-    other : (IsDigit (get_or text i 0) → ⊥) → NotANumeral ≡ numeral_of most text
+    other : (IsDigit (get_or text i 0) → ⊥) → None ≡ numeral_of most text
     other n = not_numeral most text (λ v e l. n (rw e (each_at IsDigit 0 (digits v) (digits-each v) i (rw (← e) h))))
 
-    pub text-low : get_or text i 0 < 48 → NotANumeral ≡ numeral_of most text
-    text-low l = other (λ d. omega (arith, d.0))
-
-    pub text-high : 57 < get_or text i 0 → NotANumeral ≡ numeral_of most text
-    text-high l = other (λ d. omega (arith, d.1))
+    pub text-other : (get_or text i 0 < 48) ⊎ (57 < get_or text i 0) → None ≡ numeral_of most text
+    text-other = ⊎_elim (λ l. other (λ d. omega (arith, d.0))) (λ l. other (λ d. omega (arith, d.1)))
 
 -- before place i stands nothing, or the numeral of x, which is above 0
 pub record Read (text : List ℕ) (x i : ℕ) : Type 0 where
@@ -87,6 +84,9 @@ module _ (text : List ℕ) where
         let p : 10 ^ i ≤ 10 ^ 18 = pow-le-pow_right (omega arith) l in
         omega (arith, r.small)
 
-    pub read_all : (most : ℕ) → length text ≤ i → length text ≢ 0 → length text ≤ most → Number x ≡ numeral_of most text
+    pub read_all : (most : ℕ) → length text ≤ i → length text ≢ 0 → length text ≤ most → Some x ≡ numeral_of most text
     read_all most h n l =
         numeral_of_lem most x text (sym (take_all i text h) ∙ (r.some (omega arith)).1) l
+
+-- what `read_numeral` owes, step by step
+pub ruleset reads = (text-none, text-long, text_zero, text-lead, text-other, read_none, read_more, read_fits, read_all)

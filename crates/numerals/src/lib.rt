@@ -4,52 +4,40 @@
 ghost use Rattle.std.specs.Prelude.{◌≡◌, ◌+◌, ◌≤◌, ◌<◌, length};
 ghost use Rattle.numerals.specs.Numerals.{digits, numeral_of, Put};
 
-#[derive(Clone, Copy)]
-pub enum Numeral {
-    Number(u64),
-    NotANumeral,
-}
-
 // The number of a digit.
 pub fn digit(c: u8) -> u64
     requires { 48 ≤ c }
     ensures { result + 48 ≡ c }
 {
-    (c - 48) as u64
+    (c - b'0') as u64
 }
 
 // The number that the text is the numeral of, in 1 to `most` digits.
-pub fn read_numeral(text: &[u8], most: usize) -> Numeral
+#[tactic(auto, using(crate::proofs::Reading::reads))]
+pub fn read_numeral(text: &[u8], most: usize) -> Option<u64>
     requires { most ≤ 19 }
     ensures { result ≡ numeral_of most text.now }
 {
-    let n = text.len();
-    if n == 0 {
-        return Numeral::NotANumeral; // no digit
+    if text.is_empty() {
+        return None; // no digit
     }
-    if most < n {
-        return Numeral::NotANumeral; // too many digits
+    if most < text.len() {
+        return None; // too many digits
     }
-    if text[0] == 48 {
-        if n == 1 {
-            return Numeral::Number(0);
+    if text[0] == b'0' {
+        if text.len() == 1 {
+            return Some(0);
         }
-        return Numeral::NotANumeral; // a leading zero
+        return None; // a leading zero
     }
     let mut x = 0;
-    let mut i = 0;
-    while i < n {
-        let c = text[i];
-        if c < 48 {
-            return Numeral::NotANumeral; // below `0`
-        }
-        if 57 < c {
-            return Numeral::NotANumeral; // above `9`
+    for &c in text {
+        if !c.is_ascii_digit() {
+            return None;
         }
         x = 10 * x + digit(c);
-        i += 1;
     }
-    Numeral::Number(x)
+    Some(x)
 }
 
 // Writes the numeral of a number below 10 into out at `at`, and returns the place after it.
@@ -57,11 +45,12 @@ fn put_digit(x: u64, at: usize, out: &mut [u8]) -> usize
     requires { (x < 10) × (at < length out.old) }
     ensures { Put x at result out.old out.new }
 {
-    out[at] = 48 + x as u8;
+    out[at] = b'0' + x as u8;
     at + 1
 }
 
-// Writes the numeral of x into out from `at` on, and returns the place after it.
+// Writes the numeral of x into out from `at` on, and returns the place after it. By hand: what `write!` leaves in a slice no contract of the library says.
+#[tactic(auto, using(crate::proofs::Written::room_after))]
 pub fn put_digits(x: u64, at: usize, out: &mut [u8]) -> usize
     requires { at + length (digits x) ≤ length out.old }
     ensures { Put x at result out.old out.new }

@@ -1,19 +1,14 @@
 -- A leg is read back from its code. Assumes nothing.
-use mathlib.Core.Path.{◌≡◌}
+use mathlib.Core.Path.{◌≡◌, ap, ◌∙◌}
 use Prim.Native.Nat.{ℕ, ◌+◌, ◌*◌, ◌/◌, ◌%◌, ◌<◌}
 use native.Mathlib.Omega.{arith}
+use Rattle.std.proofs.lemmas.Nat.{mod-mul-add}
 use Rattle.article.specs.declared.pair.Leg.{Leg}
 use Rattle.packed.specs.Packed.{leg_in, Small}
 
--- four bits, a byte and two bytes below other fields
-four_bits : (x field high : ℕ) → x ≡ field + 16 * high → field < 16 → x % 16 ≡ field
-four_bits x field high e h = omega (arith, e, h)
-
-byte : (x field high : ℕ) → x ≡ field + 256 * high → field < 256 → x % 256 ≡ field
-byte x field high e h = omega (arith, e, h)
-
-two_bytes : (x field high : ℕ) → x ≡ field + 65536 * high → field < 65536 → x % 65536 ≡ field
-two_bytes x field high e h = omega (arith, e, h)
+-- a field of so many values below other fields
+field_of : (values x field high : ℕ) → x ≡ field + values * high → field < values → x % values ≡ field
+field_of values x field high e h = ap (λ (y : ℕ). y % values) (e ∙ omega arith) ∙ mod-mul-add high values field h
 
 -- the code of a leg
 abbrev code_of : Leg → ℕ
@@ -36,12 +31,12 @@ back l s =
     let from-letter : c / 72057594037927936 ≡ l.letter + 16 * 0 = omega (arith, s.rate, s.period, s.side, s.kind, s.issuer, s.currency, s.rating) in
     let low : c % 65536 ≡ l.rate = omega (arith, s.rate) in
     λ i. record {
-      letter = four_bits _ _ 0 from-letter s.letter i;
-      side = four_bits _ _ _ from-side s.side i;
-      kind = four_bits _ _ _ from-kind s.kind i;
-      issuer = two_bytes _ _ _ from-issuer s.issuer i;
-      currency = four_bits _ _ _ from-currency s.currency i;
-      rating = four_bits _ _ _ from-rating s.rating i;
-      period = byte _ _ _ from-period s.period i;
+      letter = field_of 16 _ _ 0 from-letter s.letter i;
+      side = field_of 16 _ _ _ from-side s.side i;
+      kind = field_of 16 _ _ _ from-kind s.kind i;
+      issuer = field_of 65536 _ _ _ from-issuer s.issuer i;
+      currency = field_of 16 _ _ _ from-currency s.currency i;
+      rating = field_of 16 _ _ _ from-rating s.rating i;
+      period = field_of 256 _ _ _ from-period s.period i;
       rate = low i;
     }

@@ -7,6 +7,7 @@ ghost use Rattle.packed.specs.Packed.{leg_in, Small};
 use article::pair::Leg;
 
 // A leg as one number, from which it is read back.
+#[tactic(auto, using(crate::proofs::Back::back))]
 pub fn code_of(leg: Leg) -> u64
     requires { Small leg }
     ensures { leg_in result ≡ leg }
@@ -22,6 +23,7 @@ pub fn code_of(leg: Leg) -> u64
 }
 
 // The leg of a number.
+#[tactic(auto, unfolding(crate::specs::Packed::leg_in))]
 pub fn leg_in(code: u64) -> Leg
     ensures { result ≡ leg_in code }
 {

@@ -1,7 +1,7 @@
 -- A book that is opened holding by holding: what is known before each, and what it comes to. Assumes nothing.
 use mathlib.Core.Path.{◌≡◌, refl, sym, ap, subst, ◌∙◌}
 use mathlib.Core.Bool.{true}
-use mathlib.Core.List.{List, [], ◌∷◌, map}
+use mathlib.Core.List.{List, [], map}
 use Prim.Native.Nat.{ℕ, ◌+◌, ◌≤◌, ◌<◌}
 use native.Mathlib.Omega.{arith}
 use lib.ListN.{length, get_or, set, length-set}
@@ -18,8 +18,10 @@ use Rattle.dates.specs.Calendar.{is_date}
 use Rattle.holding.specs.declared.Row.{Row}
 use Rattle.holding.specs.declared.{Head.Head, Account.Account}
 use Rattle.holding.specs.declared.Holding.{Holding}
-use Rattle.holding.specs.declared.Built.{Built}
-use Rattle.holding.specs.declared.Built.TheVariants.{Made, Refused}
+use Rattle.std.specs.Prelude.{Result, Ok, Err}
+use Rattle.refusals.specs.Refusals.{number_of}
+use Rattle.refusals.specs.declared.Refusal.{Refusal, TheVariants.Price}
+use Rattle.refusals.proofs.Refusals.{number-from_1}
 use Rattle.holding.proofs.Heads.{letter-back}
 use Rattle.holding.proofs.Ranges.{fault-none}
 use Rattle.holding.proofs.Rows.{made_row, refused-row}
@@ -39,17 +41,8 @@ use Rattle.packed.specs.Packed.{leg_in, Small, leg_at}
 use Rattle.packed.proofs.Holdings.{letter-few, small}
 use Rattle.positions.specs.Opens.{OpenRoom, Opens}
 
--- a row whose numbers were read at an entry of the columns
-pub row_read : (side kind issuer maturity value currency rating : List ℕ) (i : ℕ) {a b c d e f g : ℕ}
-    → a ≡ word_at side i → b ≡ word_at kind i → c ≡ word_at issuer i → d ≡ word_at maturity i → e ≡ word_at value i → f ≡ word_at currency i → g ≡ word_at rating i
-    → record { side = a; kind = b; issuer = c; maturity = d; value = e; currency = f; rating = g }
-    ≡ row_by (numbers_at (side ∷ kind ∷ issuer ∷ maturity ∷ value ∷ currency ∷ rating ∷ []) i)
-unfolding numbers_at
-row_read side kind issuer maturity value currency rating i a b c d e f g =
-    λ j. record { side = a j; kind = b j; issuer = c j; maturity = d j; value = e j; currency = f j; rating = g j }
-
 -- the leg of a record that was made has a code
-pub small-leg : {a : Account} {row : Row} {b : Built} {h : Holding} {leg : Leg} → is_date a.date ≡ true → Builds a row b → b ≡ Made h → leg ≡ leg_of a h → Small leg
+pub small-leg : {a : Account} {row : Row} {b : Result Holding Refusal} {h : Holding} {leg : Leg} → is_date a.date ≡ true → Builds a row b → b ≡ Ok h → leg ≡ leg_of a h → Small leg
 small-leg v g s e = rw e (small _ _ (record { valued = v; ranges = (made_row g s).0 }))
 
 -- the row of a holding, and how many there are
@@ -78,7 +71,7 @@ module _ {a : Account} {columns : List (List ℕ)} {price legs₀ left₀ : List
 
   module _ {legs left : List ℕ} {i : ℕ} (o : Opening a columns price legs₀ left₀ legs left i) where
     -- holding i as its row was read, and what it made
-    module _ (h : i < count_in columns) {r : Row} (e : r ≡ row_by (numbers_at columns i)) {b : Built} (g : Builds a r b) where
+    module _ (h : i < count_in columns) {r : Row} (e : r ≡ row_by (numbers_at columns i)) {b : Result Holding Refusal} (g : Builds a r b) where
       here : i < length (rows_in columns)
       here = rw (count columns) h
 
@@ -94,25 +87,25 @@ module _ {a : Account} {columns : List (List ℕ)} {price legs₀ left₀ : List
       price_is = get_or-to _ (word_at price) i 0 (omega (arith, o.room.prices))
 
       -- its first fault is the book's
-      refused : {n : ℕ} {f : Fault} → (n ≡ 0 → ⊥) → n ≡ first_of (holding_faults a (row columns i) (get_or (decode price) i 0)) 0 → f ≡ make_fault n i 0
-          → Opens a columns price left₀ legs left f
+      refused_here : {x : Refusal} {f : Fault} → number_of x ≡ first_of (holding_faults a (row columns i) (get_or (decode price) i 0)) 0 → f ≡ make_fault x i 0
+          → Opens a columns price left₀ legs left (Err f)
       unfolding book_faults at_holding fault_answer
-      refused {n} other first s = rw s (record {
-        fault = sym (passed_first o.passed (make_answer 0 0 0) here (λ w. first-at i _ n first other w));
-        opened = λ z. absurd (other z);
-      })
+      refused_here {x} first s =
+          let other : number_of x ≡ 0 → ⊥ = λ z. omega (arith, number-from_1 x) in
+          rw s (record { fault = sym (passed_first o.passed (make_answer 0 0 0) here (λ w. first-at i _ (number_of x) first other w)); opened = tt })
 
       -- a row that is refused, and a price above the highest
-      pub opens_row : {n : ℕ} {f : Fault} → b ≡ Refused n → f ≡ make_fault n i 0 → Opens a columns price left₀ legs left f
+      pub opens_row : {x : Refusal} {f : Fault} → b ≡ Err x → f ≡ make_fault x i 0 → Opens a columns price left₀ legs left (Err f)
       opens_row s t =
           let (number, other) = refused-row builds s in
-          refused other (row_first _ _ _ _ number other) t
+          refused_here (row_first _ _ _ _ number (λ z. other (sym number ∙ z))) t
 
-      pub opens-price : {m : Holding} {x : ℕ} {f : Fault} → b ≡ Made m → x ≡ word_at price i → price_limit < x → f ≡ make_fault 10 i 0 → Opens a columns price left₀ legs left f
-      opens-price s w d t = refused (λ z. omega arith) (price-first _ _ _ (made_row builds s).1 (omega (arith, price_is))) t
+      pub opens-price : {m : Holding} {x : ℕ} {f : Fault} → b ≡ Ok m → x ≡ word_at price i → price_limit < x → f ≡ make_fault Price i 0
+          → Opens a columns price left₀ legs left (Err f)
+      opens-price s w d t = refused_here (price-first _ _ _ (made_row builds s).1 (omega (arith, price_is))) t
 
       -- without a fault, its leg and its value are written
-      pub opening-more : (code : ℕ) {m : Holding} {x : ℕ} {leg : Leg} → b ≡ Made m → x ≡ word_at price i → x ≤ price_limit → leg ≡ leg_of a m → leg_in code ≡ leg
+      pub opening-more : (code : ℕ) {m : Holding} {x : ℕ} {leg : Leg} → b ≡ Ok m → x ≡ word_at price i → x ≤ price_limit → leg ≡ leg_of a m → leg_in code ≡ leg
           → Opening a columns price legs₀ left₀ (set legs i code) (set left i r.value) (i + 1)
       unfolding at_holding
       opening-more code s w d el ec =
@@ -166,11 +159,11 @@ module _ {a : Account} {columns : List (List ℕ)} {price legs₀ left₀ : List
       all_values = sym (map-to (λ (r : Row). r.value) i (row columns)) ∙ ap (map (λ (r : Row). r.value)) (to_back i (rows_in columns) no_row (sym whole))
 
       -- no holding has a fault
-      pub opens-all : {f : Fault} → f ≡ make_fault 0 0 0 → Opens a columns price left₀ legs left f
+      pub opens-all : Opens a columns price left₀ legs left (Ok tt)
       unfolding book_faults fault_answer priced book_of
-      opens-all s = rw s (record {
+      opens-all = record {
         fault = sym (first_of-none (book_faults a (rows_in columns) (decode price)) _ (passed-all o.passed (omega (arith, whole))));
-        opened = λ _. record {
+        opened = record {
           bounded = record {
             few = in_limits.holdings;
             held = omega (arith, count columns, o.room.legs_held, o.legs_long);
@@ -181,4 +174,4 @@ module _ {a : Account} {columns : List (List ℕ)} {price legs₀ left₀ : List
           values_high = λ k q. rw (value-at book k) (in_limits.each_row k q).value.high;
           prices_high = in_limits.prices;
         };
-      })
+      }

@@ -1,6 +1,6 @@
 -- What opening a book promises. Assumes nothing.
 use mathlib.Core.{Path.◌≡◌, Bool.true, List.List, List.map}
-use Rattle.std.specs.Prelude.{ℕ, ◌*◌, ◌≤◌, length}
+use Rattle.std.specs.Prelude.{ℕ, ◌*◌, ◌≤◌, length, Result, IfOk}
 use Rattle.lists.specs.Tables.{Each, front}
 use Rattle.holding.specs.Holding.{value_limit}
 use Rattle.dates.specs.Calendar.{is_date}
@@ -29,6 +29,6 @@ pub record Opened (a : Account) (rows : List Row) (prices left legs' left' : Lis
   pub prices_high : AtMost price_limit (length rows) (book_of a rows prices).price
 
 -- the first fault of the book's holdings and prices, and where there is none the lists; after a fault what they hold is free
-pub record Opens (a : Account) (columns : List (List ℕ)) (price left legs' left' : List ℕ) (r : Fault) : Type 0 where
+pub record Opens (a : Account) (columns : List (List ℕ)) (price left legs' left' : List ℕ) (r : Result (Unit {0}) Fault) : Type 0 where
   pub fault : fault_answer r ≡ first_fault (book_faults a (rows_in columns) (decode price))
-  pub opened : r.number ≡ 0 → Opened a (rows_in columns) (decode price) left legs' left'
+  pub opened : IfOk r (λ _. Opened a (rows_in columns) (decode price) left legs' left')

@@ -1,58 +1,40 @@
 // A book opened: each holding's leg, packed, and its value, in lent lists.
 #![tactic(auto)]
 
-ghost use Rattle.std.specs.Prelude.{[], ◌∷◌};
 ghost use Rattle.positions.specs.Opens.{OpenRoom, Opens};
 
 use article::pair;
-use holding::{Account, Built, Row};
+use columns::Columns;
+use holding::Account;
 use proposal::Fault;
+use refusals::Refusal;
 
-// Each holding in turn, up to the first fault: 4, 5, 6, 24, 7, 8, 23, 25, then a price above 43,800.
+// The highest price that is taken.
+const HIGHEST: u64 = 43800;
+
+// Each holding in turn, up to the first fault: 4, 5, 6, 24, 7, 8, 23, 25, then a price above the highest.
 pub fn open(
     account: Account,
-    side: &[u8],
-    kind: &[u8],
-    issuer: &[u8],
-    maturity: &[u8],
-    value: &[u8],
-    price: &[u8],
-    currency: &[u8],
-    rating: &[u8],
+    columns: &Columns<'_>,
     legs: &mut [u64],
     left: &mut [u64],
-) -> Fault
-    requires { OpenRoom account (side.now ∷ kind.now ∷ issuer.now ∷ maturity.now ∷ value.now ∷ currency.now ∷ rating.now ∷ []) price.now legs.old left.old }
-    ensures { Opens account
-        (side.now ∷ kind.now ∷ issuer.now ∷ maturity.now ∷ value.now ∷ currency.now ∷ rating.now ∷ [])
-        price.now left.old legs.new left.new result }
+) -> Result<(), Fault>
+    requires { OpenRoom account columns.now.holdings columns.now.price legs.old left.old }
+    ensures { Opens account columns.now.holdings columns.now.price left.old legs.new left.new result }
 {
-    let n = side.len() / 8;
-    let mut i: usize = 0;
-    while i < n {
-        let row = Row {
-            side: words::word(side, i),
-            kind: words::word(kind, i),
-            issuer: words::word(issuer, i),
-            maturity: words::word(maturity, i),
-            value: words::word(value, i),
-            currency: words::word(currency, i),
-            rating: words::word(rating, i),
+    let n = columns.holdings();
+    for i in 0..n {
+        let row = columns.row(i);
+        // By cases: the fault that map_err would make stands in no clause.
+        let holding = match holding::holding_of(account, row) {
+            Ok(holding) => holding,
+            Err(refusal) => return Err(proposal::fault_at(refusal, i, 0)),
         };
-        let built = holding::holding_of(account, row);
-        match built {
-            Built::Refused(number) => {
-                return proposal::fault_at(number, i, 0);
-            }
-            Built::Made(h) => {
-                if words::word(price, i) > 43800 {
-                    return proposal::fault_at(10, i, 0);
-                }
-                legs[i] = packed::code_of(pair::leg_of(account, h));
-                left[i] = row.value;
-            }
+        if words::word(columns.price, i) > HIGHEST {
+            return Err(proposal::fault_at(Refusal::Price, i, 0));
         }
-        i = i + 1;
+        legs[i] = packed::code_of(pair::leg_of(account, holding));
+        left[i] = row.value;
     }
-    proposal::fault_at(0, 0, 0)
+    Ok(())
 }

@@ -3,6 +3,7 @@ use mathlib.Core.Path.{◌≡◌, refl, sym, subst, ◌∙◌}
 use mathlib.Core.Bool.{true, false}
 use mathlib.Core.List.{List, [], ◌∷◌, map}
 use Prim.Native.Nat.{ℕ, ◌*◌, ◌/◌, ◌≤◌}
+use Rattle.std.proofs.Common.{Result}
 use native.Mathlib.Omega.{arith}
 use lib.Dec.{ltb}
 use lib.ListN.{length, replicate}
@@ -13,25 +14,28 @@ use Rattle.lists.proofs.Entries.{each-by, each_map}
 use Rattle.lists.proofs.Tables.{to_eq}
 use Rattle.holding.specs.declared.Head.{Head}
 use Rattle.proposal.specs.Submission.{Submission, line_by, priced_row, row_price}
-use Rattle.columns.specs.Columns.{Columns, column_at, submission, holding_sizes, line_sizes, column, filled_from, filled, column_in, Entered}
-use Rattle.columns.proofs.Columns.{column-entries}
+use Rattle.columns.specs.Columns.{Columns, count_in, submission, holding_sizes, line_sizes, column, filled_from, filled, column_in, Entered}
+use Rattle.columns.proofs.Submitted.{column-entries}
 use Rattle.columns.proofs.Tables.{column-long, entered-column, by_tables, filled-values}
 use Rattle.columns.proofs.ReadBack.{SubmissionFits, nth, bare, bare-column, submission-filled}
+use Rattle.words.specs.Words.{entries}
 use Rattle.sizes.specs.Sizes.{entries_of, Equal}
 use Rattle.sizes.proofs.Sizes.{differ-exactly}
 use Rattle.verdict.specs.Judges.{columns_differ, Scratch, Judges}
 use Rattle.verdict.specs.declared.Verdict.{Verdict}
 use Rattle.report.specs.Report.{report_of, report_room, Prints}
-use Rattle.report.specs.declared.Printed.{Printed}
+use Rattle.refusals.specs.declared.Refusal.{Refusal}
 use Rattle.report.proofs.Judged.{report_judged}
 use Rattle.printing.specs.Printed.{PrintsColumns, columns_of, TablesHold}
 
-pub columns-printed : (h : Head) (c : Columns) (before after : Scratch) {v : Verdict} {old now : List ℕ} {r : Printed} → Judges false h c before after v
-    → (let lines = report_of v (length (column_at c.holdings 0) / 8) after.left after.margins after.ranks in Prints lines old now r × (length lines ≤ report_room))
-    → PrintsColumns h c old now r
-columns-printed h c before after judges (p, few) =
-    let same = report_judged h c before after _ _ judges (sym (column-entries h c).holdings) in
-    record { prints = rw (← same) p; room = rw (← same) few }
+pub columns-printed : (h : Head) (c : Columns) (before after : Scratch) {v : Verdict} {count : ℕ} {left margins ranks old now : List ℕ} {r : Result ℕ Refusal}
+    → Judges false h c before after v → count ≡ count_in c.holdings
+    → (let lines = report_of v count left margins ranks in Prints lines old now r × (length lines ≤ report_room))
+    → left ≡ after.left → margins ≡ after.margins → ranks ≡ after.ranks → PrintsColumns h c old now r
+unfolding count_in entries
+columns-printed h c before after judges many (p, few) e f g =
+    let same = report_judged h c before after _ _ judges (many ∙ sym (column-entries h c).holdings) in
+    record { prints = rw (← same, ← e, ← f, ← g) p; room = rw (← same, ← e, ← f, ← g) few }
 
 -- the columns of one table are equally long
 equal : (n count : ℕ) (table : List ℕ) → n ≤ 512 → length table ≡ 8 * (512 * count) → (j : ℕ) (js : List ℕ) → every (λ k. ltb k count) (j ∷ js) ≡ true

@@ -4,6 +4,7 @@ use mathlib.Core.Bool.{false}
 use mathlib.Core.Logic.{◌↔◌, ◌≢◌}
 use mathlib.Core.List.{List, ◌++◌}
 use Prim.Native.Nat.{ℕ, ◌*◌, ◌≤◌, ◌<◌}
+use Rattle.std.proofs.Common.{Result, Ok, Err}
 use native.Mathlib.Omega.{arith}
 use lib.ListN.{length, get_or, take}
 use borrow.Author.Tests.{eq-eqb, ne_eqb}
@@ -16,11 +17,9 @@ use Rattle.proposal.specs.Outcome.{outcome}
 use Rattle.proposal.specs.Demands.{Acceptable}
 use Rattle.proposal.proofs.Clear.{number}
 use Rattle.proposal.proofs.Demands.{demands}
-use Rattle.holding.specs.declared.Head.{Head}
 use Rattle.columns.specs.Columns.{submission}
 use Rattle.reader.specs.File.{parsed_in, values_by, holdings_of, submission_of, submission_in, file_fault, ReadsFile}
 use Rattle.reader.specs.declared.Contents.{Contents}
-use Rattle.reader.specs.declared.Contents.TheVariants.{Read, Refused}
 use Rattle.readable.specs.Readable.{Submits}
 use Rattle.readable.proofs.Exactly.{read-exactly}
 use Rattle.readable.proofs.Fitting.{file-fits}
@@ -28,7 +27,10 @@ use Rattle.readable.proofs.Answered.{refusal-known, was_read, no_fault, head_rea
 use Rattle.verdict.specs.Judges.{outcome_in}
 use Rattle.verdict.proofs.Judged.{all-ranked}
 use Rattle.report.specs.Report.{line_of, refusal_line, margin_line, remainder_line, printed_lines, book_line, printed_of, report_room, Prints}
-use Rattle.report.specs.declared.Printed.{Printed}
+use Rattle.refusals.specs.Refusals.{number_of}
+use Rattle.refusals.specs.declared.Refusal.{Refusal}
+use Rattle.proposal.specs.declared.Fault.{Fault}
+use Rattle.lei.specs.declared.Lei.{Lei}
 use Rattle.report.proofs.Judged.{ranked-texts}
 use Rattle.report.proofs.Prints.{prints-written, prints-too_short}
 use Rattle.printing.specs.Printed.{file_answer, printed, holding_line, PrintsColumns, columns_of, TablesHold, PrintsFigures, PrintsFile}
@@ -85,7 +87,7 @@ module _ (text : List ℕ) where
     lines = rw (eq-eqb (file_answer text).number 0 e) (ap (margin_line (file_answer text) ++◌) (ranked-texts s _ _ (same_line s)));
   }
 
-  promised : {before after : List ℕ} {r : Printed} → Prints (printed text) before after r → length (printed text) ≤ report_room → PrintsFile text before after r
+  promised : {before after : List ℕ} {r : Result ℕ Refusal} → Prints (printed text) before after r → length (printed text) ≤ report_room → PrintsFile text before after r
   unfolding printed
   promised p few =
       let begins = begins_when s (file_answer text) in
@@ -100,19 +102,21 @@ module _ (text : List ℕ) where
         only = (read-exactly text).only;
       }
 
-  module _ {book lines book' lines' high' low' : List ℕ} {d : Contents} (from-file : ReadsFile text 512 book lines book' lines' high' low' d) where
-    pub refused_printed : {n place : ℕ} {before after : List ℕ} {r : Printed} → d ≡ Refused n place
-        → (let line = refusal_line (make_answer n place 0) in Prints line before after r × (length line ≤ report_room)) → PrintsFile text before after r
+  module _ {book lines book' lines' : List ℕ} {known' : List Lei} {d : Result Contents Fault} (from-file : ReadsFile text 512 book lines book' lines' known' d) where
+    pub refused_printed : {f : Fault} {before after : List ℕ} {r : Result ℕ Refusal} → d ≡ Err f
+        → (let line = refusal_line (make_answer (number_of f.refusal) f.place f.second) in Prints line before after r × (length line ≤ report_room)) → PrintsFile text before after r
     unfolding printed printed_of printed_lines
-    refused_printed {n} {place} e (p, few) =
+    refused_printed {f} e (p, few) =
         let (other, fault) = refusal-known from-file e in
-        let same : file_answer text ≡ make_answer n place 0 = answer-refused (λ z. other (sym (ap number fault) ∙ z)) ∙ fault in
-        let line : printed text ≡ refusal_line (make_answer n place 0) = rw (same, ne_eqb n 0 other) in
+        let n : ℕ = number_of f.refusal in
+        let a : Answer = make_answer n f.place f.second in
+        let same : file_answer text ≡ a = answer-refused (λ z. other (sym (ap number fault) ∙ z)) ∙ fault in
+        let line : printed text ≡ refusal_line a = rw (same, ne_eqb n 0 other) in
         promised (rw line p) (rw line few)
 
     -- tables that the file was read into
-    module _ {h : Head} {n m corporations : ℕ} (e : d ≡ Read h n m corporations) (whole : length book ≡ 8 * (512 * 8)) (whole_lines : length lines ≡ 8 * (512 * 3)) where
-      pub tables_hold : TablesHold n m book' lines'
+    module _ {c : Contents} (e : d ≡ Ok c) (whole : length book ≡ 8 * (512 * 8)) (whole_lines : length lines ≡ 8 * (512 * 3)) where
+      pub tables_hold : TablesHold c.holdings c.lines book' lines'
       tables_hold = record {
         few-holdings = few-holdings from-file e;
         few-lines = few-lines from-file e;
@@ -120,14 +124,14 @@ module _ (text : List ℕ) where
         whole_lines = (from-file.each_line (was_read from-file e)).long ∙ whole_lines;
       }
 
-      pub checked_printed : {before after : List ℕ} {r : Printed} → PrintsColumns h (columns_of n m book' lines') before after r → PrintsFile text before after r
+      pub checked_printed : {before after : List ℕ} {r : Result ℕ Refusal} → PrintsColumns c.head (columns_of c.holdings c.lines book' lines') before after r → PrintsFile text before after r
       unfolding printed outcome_in submission_of
       checked_printed p =
           let read = was_read from-file e in
-          let holds : submission h (columns_of n m book' lines') ≡ submission_in text =
+          let holds : submission c.head (columns_of c.holdings c.lines book' lines') ≡ submission_in text =
           rw (← head_read from-file e)
-          (tables_submitted n m book' lines' _ (holdings_of (parsed_in text)) (values_by 2 (parsed_in text)) (from-file.each_holding read) (from-file.each_line read)
+          (tables_submitted c.holdings c.lines book' lines' _ (holdings_of (parsed_in text)) (values_by 2 (parsed_in text)) (from-file.each_holding read) (from-file.each_line read)
           (holdings-held from-file e) (lines-held from-file e) (file-fits text (no_fault from-file e))) in
-          let same : printed_of (submission h (columns_of n m book' lines')) (outcome_in false h (columns_of n m book' lines')) ≡ printed text =
-          rw (answer_checked (no_fault from-file e), tables_even n m book' lines' tables_hold, holds) in
+          let same : printed_of (submission c.head (columns_of c.holdings c.lines book' lines')) (outcome_in false c.head (columns_of c.holdings c.lines book' lines')) ≡ printed text =
+          rw (answer_checked (no_fault from-file e), tables_even c.holdings c.lines book' lines' tables_hold, holds) in
           promised (rw same at p.prints) (rw same at p.room)

@@ -1,6 +1,6 @@
 -- THE PAGE OF THE PROGRAM: what `margin` prints, from the bytes of the file to the bytes that are printed. Assumes nothing.
 use mathlib.Core.{Path.◌≡◌, Logic.◌↔◌, Bool.cond, Bool.false, List.List, List.[], List.◌∷◌, List.◌++◌, List.flat_map}
-use Rattle.std.specs.Prelude.{ℕ, ◌-◌, ◌*◌, ◌≤◌, ◌<◌}
+use Rattle.std.specs.Prelude.{ℕ, ◌-◌, ◌*◌, ◌≤◌, ◌<◌, Result}
 use lib.{Dec.eqb, ListN.length, ListN.get_or, ListN.take}
 use Rattle.lists.specs.Tables.{ascii, front}
 use Rattle.article.specs.Answer.{Answer, make_answer}
@@ -13,10 +13,10 @@ use Rattle.holding.specs.declared.Head.{Head}
 use Rattle.columns.specs.Columns.{Columns, make_columns, submission, column_in}
 use Rattle.verdict.specs.Judges.{outcome_in}
 use Rattle.report.specs.Report.{line_of, printed_of, report_room, Prints, printed_answer}
-use Rattle.report.specs.declared.Printed.{Printed}
+use Rattle.refusals.specs.declared.Refusal.{Refusal}
 
 -- what is printed of a head and columns: the lines of what they submit, by its outcome, where nothing else is lent; they are no longer than a report can be
-pub record PrintsColumns (h : Head) (c : Columns) (before after : List ℕ) (r : Printed) : Type 0 where
+pub record PrintsColumns (h : Head) (c : Columns) (before after : List ℕ) (r : Result ℕ Refusal) : Type 0 where
   pub prints : Prints (printed_of (submission h c) (outcome_in false h c)) before after r
   pub room : length (printed_of (submission h c) (outcome_in false h c)) ≤ report_room
 
@@ -53,7 +53,7 @@ pub record PrintsFigures (s : Submission) (bytes : List ℕ) : Type 0 where
   pub lines : bytes ≡ line_of (ascii "M") (units ∷ cents ∷ []) ++ flat_map (holding_line s) (ranked (priced s) s.lines)
 
 -- what printing a file promises of the lent list, before and after, and of what is returned
-module _ (text before after : List ℕ) (r : Printed) where
+module _ (text before after : List ℕ) (r : Result ℕ Refusal) where
   pub record PrintsFile : Type 0 where
     -- the bytes stand at the front of the list, all others are kept, and they are counted; or the list is too short
     pub prints : Prints (printed text) before after r

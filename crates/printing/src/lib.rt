@@ -1,108 +1,97 @@
 // What the program `margin` prints of a file: read, checked and reported.
 #![tactic(auto)]
 
-ghost use Rattle.std.specs.Prelude.{[], ◌∷◌};
-ghost use Rattle.columns.specs.Columns.{make_columns};
+ghost use Rattle.std.specs.Prelude.{◌≡◌, ◌+◌, length};
+ghost use Rattle.reader.specs.File.{file_limit};
+ghost use Rattle.report.specs.Report.{report_room};
 ghost use Rattle.printing.specs.Printed.{TablesHold, columns_of, PrintsColumns, PrintsFile};
 
+use columns::Columns;
 use holding::Head;
+use lei::Lei;
 use reader::Contents;
-use report::Printed;
+use refusals::Refusal;
+use report::Lists;
+use verdict::Scratch;
+
+// The entries of a column of a table: as many as a file may have lines.
+const ROWS: usize = 512;
+
+// Room for a file, and for one byte more: a file that fills it is too long.
+pub fn file_buffer() -> [u8; reader::LIMIT + 1]
+    ensures { file_limit + 1 ≡ length result }
+{
+    [0; reader::LIMIT + 1]
+}
+
+// Room for what is printed.
+pub fn print_buffer() -> [u8; report::ROOM]
+    ensures { report_room ≡ length result }
+{
+    [0; report::ROOM]
+}
 
 // Checks columns for an account, by its head, and prints what is found.
-fn print_columns(
-    head: Head,
-    side: &[u8],
-    kind: &[u8],
-    issuer: &[u8],
-    maturity: &[u8],
-    value: &[u8],
-    price: &[u8],
-    currency: &[u8],
-    rating: &[u8],
-    long: &[u8],
-    short: &[u8],
-    amount: &[u8],
-    out: &mut [u8],
-) -> Printed
-    ensures { PrintsColumns head (make_columns
-        (side.now ∷ kind.now ∷ issuer.now ∷ maturity.now ∷ value.now ∷ currency.now ∷ rating.now ∷ [])
-        price.now
-        (long.now ∷ short.now ∷ amount.now ∷ []))
-        out.old out.new result }
+fn print_columns(head: Head, columns: &Columns<'_>, out: &mut [u8]) -> Result<usize, Refusal>
+    ensures { PrintsColumns head columns.now out.old out.new result }
 {
     let mut legs = lists::zeros();
     let mut left = lists::zeros();
     let mut margins = lists::zeros();
     let mut ranks = lists::zeros();
-    let verdict = verdict::check(
-        false,
-        head,
-        side,
-        kind,
-        issuer,
-        maturity,
-        value,
-        price,
-        currency,
-        rating,
-        long,
-        short,
-        amount,
-        &mut legs,
-        &mut left,
-        &mut margins,
-        &mut ranks,
-    );
-    report::report(verdict, side.len() / 8, &left, &margins, &ranks, out)
+    let mut scratch = Scratch {
+        legs: &mut legs,
+        left: &mut left,
+        margins: &mut margins,
+        ranks: &mut ranks,
+    };
+    let verdict = verdict::check(false, head, columns, &mut scratch);
+    let lists = Lists {
+        left: &left,
+        margins: &margins,
+        ranks: &ranks,
+    };
+    report::report(verdict, columns.holdings(), &lists, out)
 }
 
-// The same of the first n holdings and the first m lines of two tables.
+// The same of the holdings and the lines that two tables hold.
 fn print_tables(
-    head: Head,
-    n: usize,
-    m: usize,
+    contents: Contents,
     book: &[u8],
     lines: &[u8],
     out: &mut [u8],
-) -> Printed
-    requires { TablesHold n m book.now lines.now }
-    ensures { PrintsColumns head (columns_of n m book.now lines.now)
+) -> Result<usize, Refusal>
+    requires { TablesHold contents.holdings contents.lines book.now lines.now }
+    ensures { PrintsColumns contents.head (columns_of contents.holdings contents.lines book.now lines.now)
         out.old out.new result }
 {
-    print_columns(
-        head,
-        columns::column(book, 512, n, 0),
-        columns::column(book, 512, n, 1),
-        columns::column(book, 512, n, 2),
-        columns::column(book, 512, n, 3),
-        columns::column(book, 512, n, 4),
-        columns::column(book, 512, n, 5),
-        columns::column(book, 512, n, 6),
-        columns::column(book, 512, n, 7),
-        columns::column(lines, 512, m, 0),
-        columns::column(lines, 512, m, 1),
-        columns::column(lines, 512, m, 2),
-        out,
-    )
+    let n = contents.holdings;
+    let m = contents.lines;
+    let columns = Columns {
+        side: columns::column(book, ROWS, n, 0),
+        kind: columns::column(book, ROWS, n, 1),
+        issuer: columns::column(book, ROWS, n, 2),
+        maturity: columns::column(book, ROWS, n, 3),
+        value: columns::column(book, ROWS, n, 4),
+        price: columns::column(book, ROWS, n, 5),
+        currency: columns::column(book, ROWS, n, 6),
+        rating: columns::column(book, ROWS, n, 7),
+        long: columns::column(lines, ROWS, m, 0),
+        short: columns::column(lines, ROWS, m, 1),
+        amount: columns::column(lines, ROWS, m, 2),
+    };
+    print_columns(contents.head, &columns, out)
 }
 
-// Prints a file at the front of out: its margin, or its refusal. A list too short for that is left alone, and 2 returned.
-pub fn print_file(text: &[u8], out: &mut [u8]) -> Printed
+// Prints a file at the front of out: its margin, or its refusal. A list too short for that is left alone.
+pub fn print_file(text: &[u8], out: &mut [u8]) -> Result<usize, Refusal>
     ensures { PrintsFile text.now out.old out.new result }
 {
-    let mut book = [0u8; 4096 * (rfc4180::FIELDS - 1)];
-    let mut lines = [0u8; 4096 * 3];
-    let mut high = lists::zeros();
-    let mut low = lists::zeros();
-    let contents = reader::read(text, 512, &mut book, &mut lines, &mut high, &mut low);
-    match contents {
-        Contents::Refused { number, place } => report::refusal(number, place, 0, out),
-        Contents::Read {
-            head,
-            holdings,
-            lines: pairs,
-            corporations: _,
-        } => print_tables(head, holdings, pairs, &book, &lines, out),
+    let mut book = [0u8; 8 * ROWS * (rfc4180::FIELDS - 1)];
+    let mut lines = [0u8; 8 * ROWS * 3];
+    let mut known = [Lei { high: 0, low: 0 }; 256];
+    match reader::read(text, ROWS, &mut book, &mut lines, &mut known) {
+        Ok(contents) => print_tables(contents, &book, &lines, out),
+        Err(fault) => report::refusal(fault.refusal.number(), fault.place, fault.second, out),
     }
 }

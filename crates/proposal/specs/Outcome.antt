@@ -1,8 +1,9 @@
 -- Document 01, "Who can be refused, and for what", with document 02 a), b), d) and e): the first that holds of one list of refusals, or the figures. Assumes nothing.
 use mathlib.Core.{Bool.Bool, Bool.not, Bool.◌&&◌, Bool.◌||◌, List.List, List.[], List.◌∷◌, List.◌++◌, List.map}
-use Rattle.std.specs.Prelude.{ℕ, ◌+◌}
+use Rattle.std.specs.Prelude.{ℕ, ◌+◌, Result, Ok, Err}
 use lib.{Dec.ltb, Dec.eqb, ListN.length, ListN.get_or, ListN.take}
 use Rattle.lists.specs.{Choice.first_of, Tables.in_turn}
+use Rattle.refusals.specs.{Refusals.number_of, declared.Refusal.Refusal}
 use Rattle.holding.specs.Holding.{head_faults, row_faults}
 use Rattle.holding.specs.declared.{Account.Account, Row.Row}
 use Rattle.article.specs.{Answer.Answer, Answer.make_answer, Pair.is_long, Pair.is_short, Pair.allowed}
@@ -13,12 +14,13 @@ use Rattle.proposal.specs.Submission.{Submission, account_in, PricedBook, terms_
 use Rattle.proposal.specs.Submission.{remainder, units_of, cents_of}
 use Rattle.proposal.specs.declared.Fault.{Fault}
 
-abbrev pub make_fault : ℕ → ℕ → ℕ → Fault
-make_fault number place second = record { number = number; place = place; second = second }
+abbrev pub make_fault : Refusal → ℕ → ℕ → Fault
+make_fault refusal place second = record { refusal = refusal; place = place; second = second }
 
 -- the paper's number and places of what is found: number 0 for no fault
-unfoldable pub fault_answer : Fault → Answer
-fault_answer f = make_answer f.number f.place f.second
+unfoldable pub fault_answer : {A : Type 0} → Result A Fault → Answer
+fault_answer (Ok _) = make_answer 0 0 0
+fault_answer (Err f) = make_answer (number_of f.refusal) f.place f.second
 
 -- refusals, each with its test, at one place
 unfoldable pub at_place : ℕ → List (Bool × ℕ) → List (Bool × Answer)

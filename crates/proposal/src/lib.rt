@@ -4,21 +4,32 @@
 ghost use Rattle.std.specs.Prelude.{◌≡◌};
 ghost use Rattle.proposal.specs.Outcome.{make_fault};
 
-// A refusal: its number, 0 for none, and two places.
+use refusals::Refusal;
+
+// A refusal at two places.
 #[derive(Clone, Copy)]
 pub struct Fault {
-    pub number: u64,
+    pub refusal: Refusal,
     pub place: u64,
     pub second: u64,
 }
 
-// A refusal at two places, number 0 for none.
-pub fn fault_at(number: u64, place: usize, second: usize) -> Fault
-    ensures { result ≡ make_fault number place second }
+// A refusal with its two places, as numbers of the answer.
+pub fn fault_at(refusal: Refusal, place: usize, second: usize) -> Fault
+    ensures { result ≡ make_fault refusal place second }
 {
     Fault {
-        number,
+        refusal,
         place: place as u64,
         second: second as u64,
+    }
+}
+
+// A refusal of the whole submission: its places are 0.
+impl From<Refusal> for Fault {
+    ghost from_gives = { λ refusal fault. fault ≡ make_fault refusal 0 0 };
+
+    fn from(refusal: Refusal) -> Fault {
+        fault_at(refusal, 0, 0)
     }
 }

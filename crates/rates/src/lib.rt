@@ -7,7 +7,8 @@ ghost use Rattle.rates.specs.Rate.{period_of, class_of, bond_rate, strip_rate, r
 
 use holding::{Account, Holding, Issuer, Kind};
 
-// Issuer class (Canada with US and GB, the provinces, corporations) by period: the article's percentages in units.
+// Issuer class (Canada with US and GB, the provinces, corporations) by period: the article's percentages in units. Class and period are numbers, since they are
+// places of this table.
 const FLAT: [[u16; 5]; 3] = [
     [1460, 1460, 2920, 5840, 5840],
     [2920, 4380, 5840, 7300, 7300],
@@ -15,6 +16,7 @@ const FLAT: [[u16; 5]; 3] = [
 ];
 
 // The period of a term, 1 to 5: from the valuation date to a maturity.
+#[tactic(auto, using(crate::proofs::Periods::period_1, crate::proofs::Periods::period_2, crate::proofs::Periods::period_3, crate::proofs::Periods::period_4, crate::proofs::Periods::period_5))]
 pub fn period(account: Account, maturity: u32) -> u64
     ensures { (result ≡ period_of account maturity) × ((1 ≤ result) × (result ≤ 5)) }
 {
@@ -35,14 +37,13 @@ pub fn period(account: Account, maturity: u32) -> u64
     5
 }
 
+// The class of an issuer, its row of the table.
 fn class_of(issuer: Issuer) -> usize
     ensures { (result ≡ class_of issuer) × (result < 3) }
 {
     match issuer {
-        Issuer::Canada => 0,
+        Issuer::Canada | Issuer::UnitedStates | Issuer::UnitedKingdom => 0,
         Issuer::Province(_) => 1,
-        Issuer::UnitedStates => 0,
-        Issuer::UnitedKingdom => 0,
         Issuer::Corporation(_) => 2,
     }
 }
@@ -65,6 +66,7 @@ fn bond_rate(account: Account, issuer: Issuer, maturity: u32, period: u64) -> u6
 }
 
 // One and a half times the bond's rate, three times from 20 years.
+#[tactic(auto, using(crate::proofs::Terms::below_twenty, crate::proofs::Terms::from_twenty))]
 fn strip_rate(account: Account, bond: u64, maturity: u32) -> u64
     requires { bond ≤ 8000000000 }
     ensures { result ≡ strip_rate bond account maturity }
@@ -75,7 +77,9 @@ fn strip_rate(account: Account, bond: u64, maturity: u32) -> u64
     bond * 3
 }
 
-// The rate of a holding alone, whose period was worked out.
+// The rate of a holding alone, whose period was worked out. The period comes back as a number, since who asked for it keeps its totals by it: a struct of account,
+// maturity and period would be taken apart at each call.
+#[tactic(auto, unfolding(crate::specs::Rate::rate_of, crate::specs::Rate::rate_at, crate::specs::Rate::kind_rate))]
 pub fn rate_in(account: Account, h: Holding, period: u64) -> u64
     requires { (period ≡ period_of account h.maturity) × ((1 ≤ period) × (period ≤ 5)) }
     ensures { result ≡ rate_of account h }
@@ -86,7 +90,6 @@ pub fn rate_in(account: Account, h: Holding, period: u64) -> u64
     let bond = bond_rate(account, issuer, maturity, period);
     match kind {
         Kind::Bond => bond,
-        Kind::Coupon => strip_rate(account, bond, maturity),
-        Kind::Residual => strip_rate(account, bond, maturity),
+        Kind::Coupon | Kind::Residual => strip_rate(account, bond, maturity),
     }
 }

@@ -5,21 +5,20 @@ use mathlib.Core.Bool.{Bool, true, false, cond}
 use mathlib.Core.List.{List, [], ◌∷◌}
 use Prim.Native.Nat.{ℕ, ◌≤◌}
 use native.Mathlib.Omega.{arith}
-use lib.ListN.{length, length-map}
-use borrow.Author.Tests.{eq-eqb}
+use lib.ListN.{length, take, length-map}
 use Rattle.lists.specs.Choice.{first_of}
 use Rattle.lists.proofs.Tests.{same_or_not}
 use Rattle.lists.proofs.Firsts.{first-append, first-refused, first_of-none}
-use Rattle.holding.specs.declared.Head.{Head}
 use Rattle.article.specs.Answer.{Answer, make_answer}
 use Rattle.proposal.specs.Submission.{priced_row, line_by}
 use Rattle.proposal.proofs.Clear.{number}
-use Rattle.rfc4180.proofs.Places.{clash}
-use Rattle.lei.specs.Numbering.{table}
 use Rattle.reader.specs.File.{parsed_in, values_by, holdings_of, leis_in, submission_of, submission_in, file_faults, file_fault, answer_to, read_answer}
-use Rattle.reader.specs.File.{contents_answer, contents_of, ReadsFile}
+use Rattle.reader.specs.File.{contents_answer, make_contents, ReadsFile}
 use Rattle.reader.specs.declared.Contents.{Contents}
-use Rattle.reader.specs.declared.Contents.TheVariants.{Read, Refused}
+use Rattle.refusals.specs.Refusals.{number_of}
+use Rattle.proposal.specs.declared.Fault.{Fault}
+use Rattle.lei.specs.declared.Lei.{Lei}
+use Rattle.std.specs.Prelude.{Result, Ok, Err}
 use Rattle.readable.proofs.Numbers.{none-exactly}
 
 -- what is answered to a text, by any answer to one that is read
@@ -64,25 +63,18 @@ module _ (text : List ℕ) (two : Bool) where
   unfolding read_answer
   answer-exactly = to-exactly text two counts refl
 
--- contents are not of both cases
-refused-number : {n place : ℕ} (a : Answer) (head : Head) (count : ℕ) → Refused n place ≡ contents_of a head count → a.number ≢ 0
-unfolding contents_of
-refused-number a head count e z =
-    let read : contents_of a head count ≡ Read head a.first a.second count = rw (eq-eqb a.number 0 z) in
-    clash cc
-
-module _ {text : List ℕ} {rows : ℕ} {book lines book' lines' high' low' : List ℕ} {d : Contents} (from-file : ReadsFile text rows book lines book' lines' high' low' d) where
+module _ {text : List ℕ} {rows : ℕ} {book lines book' lines' : List ℕ} {known' : List Lei} {d : Result Contents Fault} (from-file : ReadsFile text rows book lines book' lines' known' d) where
   -- a refusal is the file's first
-  pub refusal-known : {n place : ℕ} → d ≡ Refused n place → (n ≢ 0) × (file_fault text ≡ make_answer n place 0)
-  refusal-known {n} {place} e =
-      let answer : make_answer n place 0 ≡ read_answer false text = rw e at from-file.answer in
-      let other : (read_answer false text).number ≢ 0 = refused-number (read_answer false text) (submission_in text).head (length (leis_in text)) (sym e ∙ from-file.contents) in
+  pub refusal-known : {f : Fault} → d ≡ Err f → (number_of f.refusal ≢ 0) × (file_fault text ≡ make_answer (number_of f.refusal) f.place f.second)
+  refusal-known {f} e =
+      let answer : make_answer (number_of f.refusal) f.place f.second ≡ read_answer false text = rw e at from-file.answer in
+      let other : (read_answer false text).number ≢ 0 = rw e at from-file.contents in
       let fault : (file_fault text).number ≢ 0 = λ z. other ((answer-exactly text false).1 (z, refl)) in
       (λ z. other (sym (ap number answer) ∙ z), sym (answer-refused text false fault) ∙ sym answer)
 
   -- a file that was read has none, and its head and its counts are those of what is submitted
-  module _ {head : Head} {n m corporations : ℕ} (e : d ≡ Read head n m corporations) where
-    answer : make_answer 0 n m ≡ read_answer false text
+  module _ {c : Contents} (e : d ≡ Ok c) where
+    answer : make_answer 0 c.holdings c.lines ≡ read_answer false text
     answer = rw e at from-file.answer
 
     pub was_read : (contents_answer d).number ≡ 0
@@ -91,49 +83,42 @@ module _ {text : List ℕ} {rows : ℕ} {book lines book' lines' high' low' : Li
     pub no_fault : (file_fault text).number ≡ 0
     no_fault = ((answer-exactly text false).0 (sym (ap number answer))).0
 
-    counted : make_answer 0 n m ≡ counts text false
+    counted : make_answer 0 c.holdings c.lines ≡ counts text false
     counted = answer ∙ answer-none text false no_fault
 
-    read : contents_of (read_answer false text) (submission_in text).head (length (leis_in text)) ≡ Read (submission_in text).head n m (length (leis_in text))
-    unfolding contents_of
-    read = rw (sym answer)
+    read : c ≡ make_contents (submission_in text).head (read_answer false text).first (read_answer false text).second (length (leis_in text))
+    read = (rw e at from-file.contents).1
 
-    pub head_read : (submission_in text).head ≡ head
-    unfolding contents_of
-    head_read =
-        let same = sym e ∙ from-file.contents ∙ read in
-        cc
+    pub head_read : (submission_in text).head ≡ c.head
+    head_read = sym (ap (λ (c : Contents). c.head) read)
 
-    pub leis-counted : length (leis_in text) ≡ corporations
-    unfolding contents_of
-    leis-counted =
-        let same = sym e ∙ from-file.contents ∙ read in
-        cc
+    pub leis-counted : length (leis_in text) ≡ c.corporations
+    leis-counted = sym (ap (λ (c : Contents). c.corporations) read)
 
-    -- they are in their lists, no more than these hold
-    pub leis-held : table corporations high' low' ≡ leis_in text
+    -- they are in their list, no more than it holds
+    pub leis-held : take c.corporations known' ≡ leis_in text
     leis-held = rw leis-counted at (from-file.each_lei was_read)
 
-    pub few-corporations : corporations ≤ 256
+    pub few-corporations : c.corporations ≤ 256
     few-corporations = rw leis-counted at (from-file.few_leis was_read)
 
-    pub holdings-counted : length (submission_in text).rows ≡ n
+    pub holdings-counted : length (submission_in text).rows ≡ c.holdings
     holdings-counted = sym (ap (λ (a : Answer). a.first) counted)
 
-    pub lines-counted : length (submission_in text).lines ≡ m
+    pub lines-counted : length (submission_in text).lines ≡ c.lines
     lines-counted = sym (ap (λ (a : Answer). a.second) counted)
 
     -- so are those of the values, which the tables hold
-    pub holdings-held : length (holdings_of (parsed_in text)) ≡ n
+    pub holdings-held : length (holdings_of (parsed_in text)) ≡ c.holdings
     unfolding submission_of
     holdings-held = sym (length-map (holdings_of (parsed_in text)) priced_row) ∙ holdings-counted
 
-    pub lines-held : length (values_by 2 (parsed_in text)) ≡ m
+    pub lines-held : length (values_by 2 (parsed_in text)) ≡ c.lines
     unfolding submission_of
     lines-held = sym (length-map (values_by 2 (parsed_in text)) line_by) ∙ lines-counted
 
-    pub few-holdings : n ≤ rows
+    pub few-holdings : c.holdings ≤ rows
     few-holdings = rw holdings-held at (from-file.each_holding was_read).few
 
-    pub few-lines : m ≤ rows
+    pub few-lines : c.lines ≤ rows
     few-lines = rw lines-held at (from-file.each_line was_read).few

@@ -12,7 +12,7 @@ use Rattle.proposal.specs.Submission.{no_row}
 use Rattle.lei.specs.Lei.{IsLei}
 use Rattle.codes.specs.Codes.{Named}
 use Rattle.layout.specs.Layout.{corporation}
-use Rattle.layout.specs.declared.Value.TheVariants.{Of}
+use Rattle.std.specs.Prelude.{Ok}
 use Rattle.layout.proofs.Issuers.{issuer-exactly}
 use Rattle.readable.specs.Readable.{Issued, government, known_corporation, new_corporation, AreHoldings, no_holdings, holding_and, issuer_text, text_at, number_at, ByFirst}
 use Rattle.readable.proofs.Known.{Known, known-none, issued-known}
@@ -49,7 +49,7 @@ issued-corporate : {known then : List (List ℕ)} {t : List ℕ} {v n : ℕ} →
 issued-corporate {t = t} {v = v} (government named) = (
   λ h. absurd (omega (arith, named.inside)),
   λ is.
-      let both : Of v ≡ Of corporation = sym ((issuer-exactly t v).1 (inl named)) ∙ (issuer-exactly t corporation).1 (inr (is, refl)) in
+      let both : Ok v ≡ Ok corporation = sym ((issuer-exactly t v).1 (inl named)) ∙ (issuer-exactly t corporation).1 (inr (is, refl)) in
       let same : v ≡ corporation = cc in
       omega (arith, named.inside),
 )

@@ -9,7 +9,7 @@ use lib.ListN.{length, length-map}
 use Rattle.proposal.specs.Submission.{Submission, priced_row, line_by}
 use Rattle.rfc4180.specs.Grammar.{File, none}
 use Rattle.rfc4180.specs.Reading.{records_of}
-use Rattle.rfc4180.proofs.Places.{clash, records_end}
+use Rattle.rfc4180.proofs.Places.{records_end}
 use Rattle.grammar.proofs.Sound.{file_sound}
 use Rattle.grammar.proofs.Complete.{file_complete}
 use Rattle.holding.specs.Holding.{head_numbers}
@@ -85,7 +85,7 @@ module _ (text : List ℕ) where
   submits_some s h e =
       let nothing : records_of text ≡ [] = records_end text 0 (omega (arith, e)) in
       let all = file_complete text _ h.rendering in
-      clash cc
+      absurd cc
 
   pub read-exactly : ReadExactly text
   read-exactly = record {

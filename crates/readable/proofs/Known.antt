@@ -2,7 +2,7 @@
 use mathlib.Core.Path.{◌≡◌, sym, ap, ◌∙◌}
 use mathlib.Core.Logic.{◌≢◌, ⊎_elim}
 use mathlib.Core.List.{List, [], ◌∷◌, ◌++◌, map, map-append}
-use Prim.Native.Nat.{ℕ, suc, ◌+◌, ◌≤◌, ◌<◌}
+use Prim.Native.Nat.{ℕ, ◌+◌, ◌≤◌, ◌<◌}
 use native.Mathlib.Nat.{eq-or-lt_of_le}
 use native.Mathlib.Omega.{arith}
 use lib.Dec.{ltb}
@@ -12,10 +12,11 @@ use borrow.Author.Tests.{eq-eqb, ne_eqb, ltb-true, ltb-false}
 use Rattle.lists.specs.Tables.{Each}
 use Rattle.lists.proofs.Entries.{each_at, each_append}
 use Rattle.lists.proofs.Tables.{get_or-map_in}
-use Rattle.lists.proofs.Tests.{by-test, either_way, same_or_not}
-use Rattle.lei.specs.Lei.{Key, no_key, IsLei, lei_of}
-use Rattle.lei.specs.Numbering.{same_lei, first_place}
-use Rattle.lei.proofs.Places.{first-here, first-least, enter-known, enter_new}
+use Rattle.lists.proofs.Tests.{either_way, same_or_not}
+use Rattle.lei.specs.Lei.{no_lei, IsLei, lei_of}
+use Rattle.lei.specs.declared.Lei.{Lei}
+use Rattle.lei.specs.Numbering.{first_place}
+use Rattle.lei.proofs.Places.{first-here, first-least, first-most, enter-known, enter_new}
 use Rattle.lei.proofs.Identifiers.{identifiers}
 use Rattle.codes.specs.Codes.{Named}
 use Rattle.layout.specs.Layout.{corporation, issuer_in, IsValue}
@@ -50,15 +51,9 @@ issued-known (government named) m = m
 issued-known (known_corporation is at) m = m
 issued-known {known} {t = t} (new_corporation is new) m = known_more known t m is new
 
--- the first place of an LEI is in the list or at its end
-first-most : (x : Key) (ys : List Key) → first_place x ys ≤ length ys
-unfolding first_place
-first-most x [] = omega arith
-first-most x (y ∷ ys) = by-test (λ (n : ℕ). n ≤ suc (length ys)) (same_lei x y) (λ _. omega arith) (λ _. omega (arith, first-most x ys))
-
 -- a text and its numbers among those known
 module _ (known : List (List ℕ)) (m : Known known) (t : List ℕ) (is : IsLei t) where
-  abbrev keys : List Key
+  abbrev keys : List Lei
   keys = map lei_of known
 
   abbrev place : ℕ
@@ -71,10 +66,10 @@ module _ (known : List (List ℕ)) (m : Known known) (t : List ℕ) (is : IsLei 
   text_at_lem : place < length known → get_or known place [] ≡ t
   text_at_lem h =
       (identifiers.two-numbers.equal (get_or known place []) t (each_at IsLei [] known m.each place h).form is.form).0
-      (sym (get_or-map_in lei_of known place [] no_key h) ∙ first-here (lei_of t) keys (omega (arith, many)))
+      (sym (get_or-map_in lei_of known place [] no_lei h) ∙ first-here (lei_of t) keys (omega (arith, many)))
 
   place_at : (k : ℕ) → k < length known → get_or known k [] ≡ t → place ≤ k
-  place_at k h e = first-least (lei_of t) keys k (omega (arith, many)) (get_or-map_in lei_of known k [] no_key h ∙ ap lei_of e)
+  place_at k h e = first-least (lei_of t) keys k (omega (arith, many)) (get_or-map_in lei_of known k [] no_lei h ∙ ap lei_of e)
 
   -- one that is known stands at its only place, and a new one is to join at the end
   place-known : (k : ℕ) → Named t known k → place ≡ k

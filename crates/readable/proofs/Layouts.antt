@@ -13,8 +13,7 @@ use Rattle.lists.proofs.Tables.{length_to, to_eq, to_back, take-to}
 use Rattle.lists.proofs.Tests.{by-test}
 use Rattle.rfc4180.specs.Reading.{field_count, formed}
 use Rattle.codes.specs.Codes.{place_of, Named}
-use Rattle.codes.specs.declared.Place.{Place}
-use Rattle.codes.specs.declared.Place.TheVariants.{At, Nowhere}
+use Rattle.std.specs.Prelude.{Option, Some, None}
 use Rattle.codes.proofs.Places.{distinct-exactly}
 use Rattle.layout.specs.Layout.{AreValues, no_values, value_and, padded, letters, sorts_by, issuer_in, rating_in, Rated, IsRecord, Values, values, wrong, values_of}
 use Rattle.layout.specs.Layout.{Meaning, good, refused, misrated, lei_numbers, meant, after_letter, parsed_of, parse}
@@ -43,7 +42,7 @@ as_many no_values = (refl, refl)
 as_many (value_and h hs) = (ap suc (as_many hs).0, ap suc (as_many hs).1)
 
 -- the letters differ, by computing
-letter-exactly : (letter : List ℕ) (k : ℕ) → (place_of letter letters ≡ At k) ↔ Named letter letters k
+letter-exactly : (letter : List ℕ) (k : ℕ) → (place_of letter letters ≡ Some k) ↔ Named letter letters k
 unfolding same
 letter-exactly letter k = distinct-exactly letter letters refl k
 
@@ -55,9 +54,9 @@ module _ (letter : List ℕ) (texts : List (List ℕ)) where
       record { fields = vs; named = n; are = (values-exactly (sorts_by k) texts vs).0 e; rated = (rated-exactly k (issuer_in vs) (rating_in vs)).0 good; behind = refl })
   meant_as k (wrong number) n e = tt
 
-  after_as : (p : Place) → place_of letter letters ≡ p → ParsedAs (after_letter p texts) (letter ∷ texts)
-  after_as (At k) e = meant_as k (values_of (sorts_by k) texts) ((letter-exactly letter k).0 e) refl
-  after_as Nowhere e = tt
+  after_as : (p : Option ℕ) → place_of letter letters ≡ p → ParsedAs (after_letter p texts) (letter ∷ texts)
+  after_as (Some k) e = meant_as k (values_of (sorts_by k) texts) ((letter-exactly letter k).0 e) refl
+  after_as None e = tt
 
   -- good values after the letter of a number
   parse_values : (k : ℕ) (vs : List ℕ) → Named letter letters k → AreValues (sorts_by k) texts vs → (k ≡ 1 → Rated (issuer_in vs) (rating_in vs))

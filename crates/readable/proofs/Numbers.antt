@@ -9,14 +9,14 @@ use Rattle.lists.proofs.Tables.{get_or-map_in}
 use Rattle.lists.proofs.Firsts.{None, Numbered, each-in_turn, none_first, first_of-none}
 use Rattle.article.specs.Answer.{make_answer}
 use Rattle.proposal.proofs.Clear.{number}
-use Rattle.codes.specs.declared.Place.{Place}
+use Rattle.std.specs.Prelude.{Option}
 use Rattle.rfc4180.specs.Reading.{Read, broken, records_of}
 use Rattle.layout.specs.Layout.{Meaning, good, refused, parse}
 use Rattle.layout.proofs.Letters.{parse-refused}
 use Rattle.reader.specs.File.{values_by, parsed_in, faults_of, at_record, file_faults, file_fault}
 
 -- the refusals of a record: its own, or 22, 3 and 9
-numbered_of : (n : ℕ) (before : Place) (count : ℕ → ℕ) (r : Read) (m : Meaning) → parse r ≡ m → Numbered number (faults_of n before count m)
+numbered_of : (n : ℕ) (before : Option ℕ) (count : ℕ → ℕ) (r : Read) (m : Meaning) → parse r ≡ m → Numbered number (faults_of n before count m)
 numbered_of n before count r (good k vs) e = (omega arith, (omega arith, (omega arith, tt)))
 numbered_of n before count r (refused k) e = (omega (arith, parse-refused r e), tt)
 

@@ -9,7 +9,7 @@ use lib.ListN.{length, get_or, take}
 use borrow.Author.Tests.{le-ltb, ltb-false, eq-eqb, ne_eqb, eqb-false}
 use Rattle.lists.proofs.Firsts.{None, none-in_turn, in_turn-none}
 use Rattle.lists.proofs.Tests.{same_or_not}
-use Rattle.codes.specs.declared.Place.{Place}
+use Rattle.std.specs.Prelude.{Option}
 use Rattle.layout.specs.Layout.{Meaning, good, refused}
 use Rattle.reader.specs.File.{parsed_in, values_by, letter_of, letter_before, at_record, file_faults}
 use Rattle.reader.proofs.Comes.{Comes, comes_exactly}
@@ -58,7 +58,7 @@ order_comes (m ∷ ms) last count o zero q = rw (first last count m ms) o.0
 order_comes (m ∷ ms) last count o (suc n) q = rw (later last count m ms n) (order_comes ms m _ o.1 n (omega arith))
 
 -- then there are not too many of a letter of which none comes after the most
-module _ (k most : ℕ) (limit : (before : Place) (count : ℕ → ℕ) (vs : List ℕ) → Comes before count (good k vs) → count k ≢ most) where
+module _ (k most : ℕ) (limit : (before : Option ℕ) (count : ℕ → ℕ) (vs : List ℕ) → Comes before count (good k vs) → count k ≢ most) where
   pub few : (parsed : List Meaning) (last : Meaning) (count : ℕ → ℕ) → InOrder last count parsed → count k ≤ most → count k + many k parsed ≤ most
   unfolding values_by
   few [] last count o l = omega arith

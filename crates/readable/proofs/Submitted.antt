@@ -14,8 +14,7 @@ use Rattle.holding.specs.declared.{Head.Head, Row.Row}
 use Rattle.pairing.specs.declared.Line.{Line}
 use Rattle.proposal.specs.Submission.{Submission, priced_numbers, priced_row, row_price, line_numbers, line_by}
 use Rattle.lei.specs.Lei.{lei_of}
-use Rattle.codes.specs.declared.Place.{Place}
-use Rattle.codes.specs.declared.Place.TheVariants.{At}
+use Rattle.std.specs.Prelude.{Option, Some}
 use Rattle.rfc4180.specs.Reading.{field_count, Read, formed, broken}
 use Rattle.layout.specs.Layout.{issuer_in, value_and, IsValue, IsRecord, Meaning, good, refused, may_follow, parse}
 use Rattle.layout.specs.declared.Sort.TheVariants.{Issuer}
@@ -61,14 +60,14 @@ Headed reads s =
 -- after a P there is no H
 late : {known leis : List (List ℕ)} {r : List (List ℕ)} {rs : List (List (List ℕ))} {rows : List Row} {prices : List ℕ}
     → AreHoldings known (r ∷ rs) rows prices leis → (count : ℕ → ℕ)
-    → Comes (At 2) count (parse (formed r)) → ⊥
+    → Comes (Some 2) count (parse (formed r)) → ⊥
 late (holding_and {r = r} is issued rest) count c = false≢true (rw (record_good r 1 _ is) at c).0
 
 -- after a record that came there is no D
 abbrev NoHead : Meaning → Type 0
 NoHead last = may_follow (letter_of last) 0 ≡ true → ⊥
 
-no_head : (before : Place) (count : ℕ → ℕ) (m : Meaning) → Comes before count m → NoHead m
+no_head : (before : Option ℕ) (count : ℕ → ℕ) (m : Meaning) → Comes before count m → NoHead m
 no_head before count (good k vs) c e = false≢true e
 no_head before count (refused number) c e = absurd c
 

@@ -7,63 +7,49 @@ use Prim.Native.Nat.{ℕ, suc}
 use native.Mathlib.Omega.{arith}
 use lib.ListN.{length}
 use borrow.Author.Tests.{ne_eqb}
+use Rattle.std.specs.Prelude.{Option, Some, None, Result, Ok, Err}
+use Rattle.refusals.specs.declared.Refusal.{Refusal, TheVariants.Field}
 use Rattle.lists.specs.Choice.{same}
 use Rattle.codes.specs.Codes.{place_of}
-use Rattle.codes.specs.declared.Place.{Place}
-use Rattle.codes.specs.declared.Place.TheVariants.{At, Nowhere}
 use Rattle.codes.proofs.Places.{distinct-exactly}
 use Rattle.numerals.specs.Numerals.{numeral_of}
-use Rattle.numerals.specs.declared.Numeral.{Numeral}
-use Rattle.numerals.specs.declared.Numeral.TheVariants.{Number, NotANumeral}
 use Rattle.numerals.proofs.Exactly.{numeral_exactly}
 use Rattle.dates.specs.Text.{read_date}
-use Rattle.dates.specs.declared.text.Reading.{Reading}
-use Rattle.dates.specs.declared.text.Reading.TheVariants.{Number as Dated, NotADate}
 use Rattle.dates.proofs.Texts.{read-exactly}
 use Rattle.layout.specs.Layout.{IsValue, AreValues, no_values, value_and, accounts, sides, kinds, currencies, ratings}
-use Rattle.layout.specs.Layout.{by_place, by_numeral, by_date, value_of, Values, values, wrong, and_value, values_of}
+use Rattle.layout.specs.Layout.{valued, value_of, Values, values, wrong, and_value, values_of}
 use Rattle.layout.specs.declared.Sort.{Sort}
 use Rattle.layout.specs.declared.Sort.TheVariants.{Account, Side, Kind, Issuer, Currency, Rating, Date, Six, Twelve, Empty}
-use Rattle.layout.specs.declared.Value.{Value}
-use Rattle.layout.specs.declared.Value.TheVariants.{Of, Refused}
 use Rattle.layout.proofs.Issuers.{issuer-exactly}
 
 -- the value of a place, of a numeral or of a date is its number
-place-value : (p : Place) (v : ℕ) → (by_place p ≡ Of v) ↔ (p ≡ At v)
-place-value (At n) v = (λ e. cc, λ e. cc)
-place-value Nowhere v = (λ e. cc, λ e. cc)
-
-numeral_value : (n : Numeral) (v : ℕ) → (by_numeral n ≡ Of v) ↔ (n ≡ Number v)
-numeral_value (Number n) v = (λ e. cc, λ e. cc)
-numeral_value NotANumeral v = (λ e. cc, λ e. cc)
-
-date-value : (r : Reading) (v : ℕ) → (by_date r ≡ Of v) ↔ (r ≡ Dated v)
-date-value (Dated n) v = (λ e. cc, λ e. cc)
-date-value NotADate v = (λ e. cc, λ e. cc)
+valued-as : (o : Option ℕ) (v : ℕ) → (valued o ≡ Ok v) ↔ (o ≡ Some v)
+valued-as (Some n) v = (λ e. cc, λ e. cc)
+valued-as None v = (λ e. cc, λ e. cc)
 
 -- nothing is the text of an empty field, and 0 its value
-empty-value : (t : List ℕ) (v : ℕ) → (value_of Empty t ≡ Of v) ↔ IsValue Empty t v
+empty-value : (t : List ℕ) (v : ℕ) → (value_of Empty t ≡ Ok v) ↔ IsValue Empty t v
 unfolding value_of
 empty-value [] v = (λ e. (refl, cc), λ h. rw h.1)
 empty-value (c ∷ t) v = (
   λ e.
-      let w : Refused 21 ≡ Of v = rw (ne_eqb (suc (length t)) 0 (omega arith)) at e in
+      let w : ◌≡◌ {A = Result ℕ Refusal} (Err Field) (Ok v) = rw (ne_eqb (suc (length t)) 0 (omega arith)) at e in
       (cc, cc),
   λ h. absurd (omega (arith, ap (length {A = ℕ}) h.0)),
 )
 
 -- a text and its value; the texts of each table differ, by computing
-pub value-exactly : (s : Sort) (t : List ℕ) (v : ℕ) → (value_of s t ≡ Of v) ↔ IsValue s t v
+pub value-exactly : (s : Sort) (t : List ℕ) (v : ℕ) → (value_of s t ≡ Ok v) ↔ IsValue s t v
 unfolding value_of same
-value-exactly Account t v = Iff.trans (place-value (place_of t accounts) v) (distinct-exactly t accounts refl v)
-value-exactly Side t v = Iff.trans (place-value (place_of t sides) v) (distinct-exactly t sides refl v)
-value-exactly Kind t v = Iff.trans (place-value (place_of t kinds) v) (distinct-exactly t kinds refl v)
+value-exactly Account t v = Iff.trans (valued-as (place_of t accounts) v) (distinct-exactly t accounts refl v)
+value-exactly Side t v = Iff.trans (valued-as (place_of t sides) v) (distinct-exactly t sides refl v)
+value-exactly Kind t v = Iff.trans (valued-as (place_of t kinds) v) (distinct-exactly t kinds refl v)
 value-exactly Issuer t v = issuer-exactly t v
-value-exactly Currency t v = Iff.trans (place-value (place_of t currencies) v) (distinct-exactly t currencies refl v)
-value-exactly Rating t v = Iff.trans (place-value (place_of t ratings) v) (distinct-exactly t ratings refl v)
-value-exactly Date t v = Iff.trans (date-value (read_date t) v) (read-exactly t v)
-value-exactly Six t v = Iff.trans (numeral_value (numeral_of 6 t) v) (numeral_exactly 6 t v)
-value-exactly Twelve t v = Iff.trans (numeral_value (numeral_of 12 t) v) (numeral_exactly 12 t v)
+value-exactly Currency t v = Iff.trans (valued-as (place_of t currencies) v) (distinct-exactly t currencies refl v)
+value-exactly Rating t v = Iff.trans (valued-as (place_of t ratings) v) (distinct-exactly t ratings refl v)
+value-exactly Date t v = Iff.trans (valued-as (read_date t) v) (read-exactly t v)
+value-exactly Six t v = Iff.trans (valued-as (numeral_of 6 t) v) (numeral_exactly 6 t v)
+value-exactly Twelve t v = Iff.trans (valued-as (numeral_of 12 t) v) (numeral_exactly 12 t v)
 value-exactly Empty t v = empty-value t v
 
 -- several texts, where they are read as values
@@ -78,11 +64,11 @@ good-values [] (t ∷ ts) = tt
 good-values (s ∷ ss) [] = tt
 good-values (s ∷ ss) (t ∷ ts) = by (value_of s t) (values_of ss ts) refl (good-values ss ts)
   where
-    by : (w : Value) (ws : Values) → value_of s t ≡ w → Good ss ts ws → Good (s ∷ ss) (t ∷ ts) (and_value w ws)
-    by (Of v) (values vs) e h = value_and ((value-exactly s t v).0 e) h
-    by (Of v) (wrong number) e h = tt
-    by (Refused first) (values vs) e h = tt
-    by (Refused first) (wrong number) e h = tt
+    by : (w : Result ℕ Refusal) (ws : Values) → value_of s t ≡ w → Good ss ts ws → Good (s ∷ ss) (t ∷ ts) (and_value w ws)
+    by (Ok v) (values vs) e h = value_and ((value-exactly s t v).0 e) h
+    by (Ok v) (wrong number) e h = tt
+    by (Err first) (values vs) e h = tt
+    by (Err first) (wrong number) e h = tt
 
 are-values : {ss : List Sort} {ts : List (List ℕ)} {vs : List ℕ} → AreValues ss ts vs → values_of ss ts ≡ values vs
 unfolding values_of

@@ -7,12 +7,12 @@ use lib.Dec.{eqb}
 use borrow.Author.Tests.{eq-eqb, ne_eqb, not-false}
 use Rattle.lists.proofs.Firsts.{None}
 use Rattle.lists.proofs.Tests.{same_or_not}
-use Rattle.codes.specs.declared.Place.{Place}
+use Rattle.std.specs.Prelude.{Option}
 use Rattle.layout.specs.Layout.{Meaning, good, refused, may_follow}
 use Rattle.reader.specs.File.{faults_of}
 
 -- what may come after a letter and after so many of each
-abbrev pub Comes : Place → (ℕ → ℕ) → Meaning → Type 0
+abbrev pub Comes : Option ℕ → (ℕ → ℕ) → Meaning → Type 0
 Comes before count (good k vs) = (may_follow before k ≡ true) × (k ≡ 1 → count 1 ≢ 256) × (k ≡ 2 → count 2 ≢ 512)
 Comes before count (refused number) = ⊥
 
@@ -23,7 +23,7 @@ not_both a b c d = (
   λ h. same_or_not a b (λ p. rw (eq-eqb a b p, ne_eqb c d (h p))) (λ o. rw (ne_eqb a b o)),
 )
 
-pub comes_exactly : (n : ℕ) (before : Place) (count : ℕ → ℕ) (m : Meaning) → None (faults_of n before count m) ↔ Comes before count m
+pub comes_exactly : (n : ℕ) (before : Option ℕ) (count : ℕ → ℕ) (m : Meaning) → None (faults_of n before count m) ↔ Comes before count m
 comes_exactly n before count (good k vs) = (
   λ c. (not-false _ c.0, (not_both k 1 (count 1) 256).0 c.1.0, (not_both k 2 (count 2) 512).0 c.1.1.0),
   λ h. (rw h.0, ((not_both k 1 (count 1) 256).1 h.1, ((not_both k 2 (count 2) 512).1 h.2, tt))),

@@ -8,7 +8,7 @@ use native.Mathlib.Numerals.{add-one}
 use native.Mathlib.Omega.{arith}
 use lib.Dec.{ltb}
 use lib.ListN.{length, get_or, take, drop, length-append, length-drop, length-set}
-use lib.Seq.{take-suc, drop-cons}
+use lib.Seq.{take-suc, drop-cons, length-take-le, get_or-take}
 use borrow.Author.Tests.{eq-eqb, ne_eqb, le-ltb, ltb-true, ltb-false}
 use Rattle.lists.specs.Choice.{first_of}
 use Rattle.lists.proofs.Tests.{either_way}
@@ -16,19 +16,18 @@ use Rattle.lists.proofs.Passed.{passed-more, passed_first}
 use Rattle.holding.specs.Holding.{head_by}
 use Rattle.holding.specs.declared.Head.{Head}
 use Rattle.article.specs.Answer.{Answer, make_answer}
-use Rattle.codes.specs.declared.Place.{Place}
-use Rattle.codes.specs.declared.Place.TheVariants.{At, Nowhere}
+use Rattle.std.specs.Prelude.{Option, Some, None, Ok, Err}
+use Rattle.refusals.specs.Refusals.{number_of}
+use Rattle.refusals.specs.declared.Refusal.{Refusal}
 use Rattle.rfc4180.specs.Reading.{Split, fields, malformed, record_at, records_at, field_count}
-use Rattle.rfc4180.proofs.Places.{clash, progress, records_broken, records_next}
-use Rattle.lei.specs.Lei.{Key}
-use Rattle.lei.specs.Numbering.{table}
-use Rattle.lei.proofs.Places.{length-table}
+use Rattle.rfc4180.proofs.Places.{progress, records_broken, records_next}
+use Rattle.lei.specs.declared.Lei.{Lei}
 use Rattle.columns.specs.Columns.{EntryRoom, EntryPut}
 use Rattle.columns.proofs.Tables.{entered-more}
-use Rattle.layout.specs.Layout.{letters, Meaning, good, refused, may_follow, parse, read_of, meaning_of, EntryAt}
+use Rattle.layout.specs.Layout.{Meaning, good, refused, may_follow, place_by, parse, read_of, meaning_of, EntryAt}
 use Rattle.layout.specs.declared.Entry.{Entry}
-use Rattle.layout.specs.declared.Parsed.TheVariants.{Good, Refused}
-use Rattle.layout.proofs.Letters.{parse-good, good_length, parse-refused}
+use Rattle.layout.specs.declared.Letter.{Letter}
+use Rattle.layout.proofs.Letters.{good_length}
 use Rattle.reader.specs.File.{parsed_in, values_by, with_number, holdings_of, leis_of, faults_of, at_record, file_limit, file_faults, NumbersIssuer}
 use Rattle.reader.proofs.Reading.{values-append, Passing, count_by, Tabled, held_in, lined_in, Listed, head_in, Refuses}
 use Rattle.reader.proofs.Numbering.{numbered_more, leis-more, length-numbered, leis-few}
@@ -60,23 +59,23 @@ from-here text i more = by (record_at text i) refl
     by malformed q = rw (records_broken text i more q)
 
 -- n records of a text that is not too long are passed, and the code looked at the one at place i
-pub record Turn (text : List ℕ) (before : Place) (n i : ℕ) (vs : List ℕ) (e : Entry) : Type 0 where
+pub record Turn (text : List ℕ) (before : Option ℕ) (n i : ℕ) (vs : List ℕ) (e : Entry) : Type 0 where
   pub short : length text ≤ file_limit
   pub passing : Passing text before n i
   pub more : i < length text
   pub looked : EntryAt text i vs e
 
--- and that one is good, of the letter of number k
-pub record GoodTurn (text : List ℕ) (before : Place) (n i : ℕ) (vs : List ℕ) (e : Entry) (k : ℕ) : Type 0 where
+-- and that one is good, of a letter
+pub record GoodTurn (text : List ℕ) (before : Option ℕ) (n i : ℕ) (vs : List ℕ) (e : Entry) (letter : Letter) : Type 0 where
   pub turn : Turn text before n i vs e
-  pub good : e.parsed ≡ Good k
+  pub good : e.parsed ≡ Ok letter
 
 -- the next record starts further on, and in the text
 pub record Ahead (text : List ℕ) (i next : ℕ) : Type 0 where
   pub further : i < next
   pub within : next ≤ length text
 
-module _ {text : List ℕ} {before : Place} {n i : ℕ} {vs : List ℕ} {e : Entry} (u : Turn text before n i vs e) where
+module _ {text : List ℕ} {before : Option ℕ} {n i : ℕ} {vs : List ℕ} {e : Entry} (u : Turn text before n i vs e) where
   -- what it means is the next in the text
   module _ {m : Meaning} (means : meaning_of e.parsed vs ≡ m) where
     parsed_here : parse (read_of text (record_at text i)) ≡ m
@@ -100,23 +99,19 @@ module _ {text : List ℕ} {before : Place} {n i : ℕ} {vs : List ℕ} {e : Ent
     values-more : (k : ℕ) → values_by k (take (n + 1) (parsed_in text)) ≡ values_by k (take n (parsed_in text)) ++ values_by k (m ∷ [])
     values-more k = rw (add-one, take-suc (parsed_in text) n (refused 0) nth.within, nth.here) (values-append k (take n (parsed_in text)) (m ∷ []))
 
-  module _ {number : ℕ} (s : e.parsed ≡ Refused number) where
-    pub turn-refused : Refuses text (make_answer number n 0)
-    unfolding first_of
-    turn-refused = refusal {m = refused number} (rw s) (λ w. refl)
-
-    pub turn-number : 19 ≤ number
-    turn-number = parse-refused (read_of text (record_at text i)) (parsed_here (rw s))
+  pub turn-refused : {r : Refusal} → e.parsed ≡ Err r → Refuses text (make_answer (number_of r) n 0)
+  unfolding first_of
+  turn-refused {r} s = refusal {m = refused (number_of r)} (rw s) (λ w. refl)
 
 -- a good record
-module _ {text : List ℕ} {before : Place} {n i : ℕ} {vs : List ℕ} {e : Entry} {k : ℕ} (g : GoodTurn text before n i vs e k) where
+module _ {text : List ℕ} {before : Option ℕ} {n i : ℕ} {vs : List ℕ} {e : Entry} {letter : Letter} (g : GoodTurn text before n i vs e letter) where
+  abbrev k : ℕ
+  k = place_by letter
+
   means : meaning_of e.parsed vs ≡ good k vs
   means = rw g.good
 
-  -- its letter is a known one, and it has a value for each field after it and two for an LEI
-  pub turn-letter : k < length letters
-  turn-letter = parse-good (read_of text (record_at text i)) (parsed_here g.turn means)
-
+  -- it has a value for each field after its letter and two for an LEI
   pub turn-values : length vs ≡ field_count + 1
   turn-values = good_length (read_of text (record_at text i)) (parsed_here g.turn means)
 
@@ -136,7 +131,7 @@ module _ {text : List ℕ} {before : Place} {n i : ℕ} {vs : List ℕ} {e : Ent
           (record { further = rw same a; within = rw same w }, rw (q, same))
       by malformed q =
           let out : refused 19 ≡ good k vs = rw q at (parsed_here g.turn means) in
-          clash cc
+          absurd cc
 
   pub turn-ahead : Ahead text i e.next
   turn-ahead = followed.0
@@ -152,7 +147,7 @@ module _ {text : List ℕ} {before : Place} {n i : ℕ} {vs : List ℕ} {e : Ent
     turn_full_lines here full = refusal g.turn means (λ w. rw (follows, here, full))
 
   -- it may come, and is passed
-  pub turn-passing : Comes before (count_by text n) (good k vs) → Passing text (At k) (n + 1) e.next
+  pub turn-passing : Comes before (count_by text n) (good k vs) → Passing text (Some k) (n + 1) e.next
   turn-passing comes =
       let (ahead, rest) = followed in
       record {
@@ -162,7 +157,7 @@ module _ {text : List ℕ} {before : Place} {n i : ℕ} {vs : List ℕ} {e : Ent
             passed-more g.turn.passing.passed (nth g.turn means).within
             (rw (faults-here g.turn means) ((comes_exactly n before (count_by text n) (good k vs)).1 comes));
         last = rw (add-one, (nth g.turn means).here);
-        started = λ none. clash cc;
+        started = λ none. absurd cc;
       }
 
   -- the values of another letter are those of the records before
@@ -178,9 +173,9 @@ module _ {text : List ℕ} {before : Place} {n i : ℕ} {vs : List ℕ} {e : Ent
       let same : values_by 0 (take (n + 1) (parsed_in text)) ≡ vs ∷ [] = values-more g.turn means 0 ∙ rw (none, here) in
       rw same
     where
-      first-only : (p : Place) → may_follow p 0 ≡ true → p ≡ Nowhere
-      first-only Nowhere e = refl
-      first-only (At j) e = absurd (false≢true e)
+      first-only : (p : Option ℕ) → may_follow p 0 ≡ true → p ≡ None
+      first-only None e = refl
+      first-only (Some j) e = absurd (false≢true e)
 
   pub headed_same : {head : Head} → (k ≡ 0 → ⊥) → head ≡ head_in text n → head ≡ head_in text (n + 1)
   headed_same other same = rw (values_same 0 other) same
@@ -199,31 +194,30 @@ module _ {text : List ℕ} {before : Place} {n i : ℕ} {vs : List ℕ} {e : Ent
   unfolding holdings_of leis_of
   held_more here = rw (values_here 1 here) (numbered_more [] (values_by 1 (take n (parsed_in text))) vs)
 
-  module _ {count : ℕ} {high₀ low₀ high low : List ℕ} (m : Listed text n high₀ low₀ high low count) where
-    pub listed_same : (k ≡ 1 → ⊥) → Listed text (n + 1) high₀ low₀ high low count
+  module _ {count : ℕ} {known₀ known : List Lei} (m : Listed text n known₀ known count) where
+    pub listed_same : (k ≡ 1 → ⊥) → Listed text (n + 1) known₀ known count
     unfolding leis_of
-    listed_same other = record { known = m.known ∙ rw (values_same 1 other); long_high = m.long_high; long_low = m.long_low }
+    listed_same other = record { listed = m.listed ∙ rw (values_same 1 other); inside = m.inside; long = m.long }
 
     -- fewer are known than there may be holdings
     pub listed-few : count_by text n 1 < 256 → count < 256
     unfolding leis_of
-    listed-few l = omega (arith, length-table count high low, ap (λ (ks : List Key). length ks) m.known, leis-few [] (values_by 1 (take n (parsed_in text))))
+    listed-few l = omega (arith, length-take-le count known m.inside, ap (λ (ks : List Lei). length ks) m.listed, leis-few [] (values_by 1 (take n (parsed_in text))))
 
     -- an H with the number of its issuer, whose values are as many as before, and the LEIs that are known then
-    module _ {after : List Key} {vs' : List ℕ} (done : NumbersIssuer (table count high low) after vs vs') where
+    module _ {after : List Lei} {vs' : List ℕ} (done : NumbersIssuer (take count known) after vs vs') where
       pub numbered_values : length vs' ≡ field_count + 1
       numbered_values = ap (length {A = ℕ}) done.number ∙ length-set vs 2 _ ∙ turn-values
 
       pub held_numbered : k ≡ 1 → held_in text (n + 1) ≡ held_in text n ++ (vs' ∷ [])
-      held_numbered here = held_more here ∙ rw (done.number, m.known)
+      held_numbered here = held_more here ∙ rw (done.number, m.listed)
 
-      pub listed_more : (count' : ℕ) (high' low' : List ℕ) → k ≡ 1 → after ≡ table count' high' low' → length high' ≡ length high → length low' ≡ length low
-          → Listed text (n + 1) high₀ low₀ high' low' count'
+      pub listed_more : (count' : ℕ) (known' : List Lei) → k ≡ 1 → after ≡ take count' known' → count' ≤ length known' → length known' ≡ length known → Listed text (n + 1) known₀ known' count'
       unfolding leis_of
-      listed_more count' high' low' here is h l = record {
-        known = sym is ∙ done.entered ∙ rw (m.known, values_here 1 here) (sym (leis-more [] (values_by 1 (take n (parsed_in text))) vs));
-        long_high = h ∙ m.long_high;
-        long_low = l ∙ m.long_low;
+      listed_more count' known' here is h l = record {
+        listed = sym is ∙ done.entered ∙ rw (m.listed, values_here 1 here) (sym (leis-more [] (values_by 1 (take n (parsed_in text))) vs));
+        inside = h;
+        long = l ∙ m.long;
       }
 
   -- the values of a line
@@ -243,20 +237,29 @@ module _ {values : List (List ℕ)} {most columns rows put : ℕ} {old now : Lis
   pub tabled_same : {values' : List (List ℕ)} → values' ≡ values → Tabled values' most columns rows old now put
   tabled_same e = rw e t
 
-  module _ {vs : List ℕ} (less : put ≡ most → ⊥) where
-    -- as there are no more entries than bytes before the record
-    pub entry-room : (text : List ℕ) (i : ℕ) → length values ≤ i → i < length text → length old ≡ 8 * (rows * columns) → (rows < 512 → length text ≤ rows)
-        → columns ≤ length vs → most ≤ 512 → EntryRoom columns rows put vs now
-    entry-room text i before more whole enough wide low = record {
-      whole = t.entered.long ∙ whole;
-      within = either_way (ltb rows 512) (λ l. omega (arith, enough (ltb-true rows 512 l), t.counted)) (λ l. omega (arith, ltb-false rows 512 l, t.few));
-      enough = wide;
-    }
+  module _ (vs : List ℕ) (less : put ≡ most → ⊥) where
+    -- of values that are the first of the record's, as there are no more entries than bytes before the record
+    module _ {firsts : List ℕ} (first : take columns vs ≡ firsts) (wide : columns ≤ length vs) where
+      long-firsts : length firsts ≡ columns
+      long-firsts = sym (ap (length {A = ℕ}) first) ∙ length-take-le columns vs wide
 
-    pub tabled_more : {values' : List (List ℕ)} {new : List ℕ} → values' ≡ values ++ (vs ∷ []) → EntryRoom columns rows put vs now → EntryPut columns rows put vs now new
-        → Tabled values' most columns rows old new (put + 1)
-    tabled_more e room done = record {
-      counted = rw (e, length-append, ← t.counted) refl;
-      few = omega (arith, t.few);
-      entered = rw e (entered-more t.entered (rw t.counted at done) (rw t.counted at room.within));
-    }
+      pub entry-room : (text : List ℕ) (i : ℕ) → length values ≤ i → i < length text → length old ≡ 8 * (rows * columns) → (rows < 512 → length text ≤ rows)
+          → most ≤ 512 → EntryRoom rows put firsts now
+      entry-room text i before more whole enough low = record {
+        whole = t.entered.long ∙ whole ∙ rw long-firsts;
+        within = either_way (ltb rows 512) (λ l. omega (arith, enough (ltb-true rows 512 l), t.counted)) (λ l. omega (arith, ltb-false rows 512 l, t.few));
+      }
+
+      pub tabled_more : {values' : List (List ℕ)} {new : List ℕ} → values' ≡ values ++ (vs ∷ []) → EntryRoom rows put firsts now → EntryPut (length firsts) rows put firsts now new
+          → Tabled values' most columns rows old new (put + 1)
+      tabled_more {new = new} e room done = record {
+        counted = rw (e, length-append, ← t.counted) refl;
+        few = omega (arith, t.few);
+        entered = rw e (entered-more t.entered (rw t.counted at all) (rw t.counted at room.within));
+      }
+        where
+          all : EntryPut columns rows put vs now new
+          all = record {
+            long = done.long;
+            each = λ j l. done.each j (rw long-firsts l) ∙ rw (← first, get_or-take columns vs j 0 l);
+          }

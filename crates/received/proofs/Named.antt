@@ -4,6 +4,7 @@ use mathlib.Core.Logic.{◌↔◌, ◌≢◌}
 use mathlib.Core.Bool.{Bool, true, false, cond}
 use mathlib.Core.List.{List, []}
 use Prim.Native.Nat.{ℕ, ◌+◌, ◌*◌, ◌≤◌, ◌<◌}
+use Rattle.std.proofs.Common.{Result, Ok, Err}
 use native.Mathlib.Omega.{arith}
 use lib.Dec.{ltb, eqb}
 use lib.ListN.{length, get_or, take, drop, length-map}
@@ -11,25 +12,25 @@ use borrow.Author.Tests.{ne_eqb, le-ltb, ltb-false}
 use Rattle.lists.specs.Tables.{front}
 use Rattle.lists.proofs.Tables.{get_or-map_in}
 use Rattle.lists.proofs.Tests.{neither}
-use Rattle.holding.specs.declared.Head.{Head}
 use Rattle.article.specs.Answer.{Answer, make_answer}
 use Rattle.proposal.specs.Submission.{Submission}
 use Rattle.proposal.proofs.Clear.{number}
-use Rattle.lei.specs.Lei.{Key, no_key, lei_text}
-use Rattle.lei.specs.Numbering.{table}
+use Rattle.lei.specs.declared.Lei.{Lei}
+use Rattle.lei.specs.Lei.{no_lei, lei_text}
+use Rattle.refusals.specs.Refusals.{number_of}
+use Rattle.proposal.specs.declared.Fault.{Fault}
 use Rattle.lent.specs.Boundary.{Answers}
-use Rattle.reader.specs.File.{submission_in, leis_in, TableRoom, ReadsFile}
+use Rattle.reader.specs.File.{submission_in, leis_in, ReadsFile}
 use Rattle.reader.specs.declared.Contents.{Contents}
-use Rattle.reader.specs.declared.Contents.TheVariants.{Read, Refused}
 use Rattle.readable.specs.Readable.{Submits, text_at, number_at}
-use Rattle.readable.proofs.Answered.{to-refused, to_none, to-exactly, refusal-known, no_fault, leis-counted, leis-held, few-corporations}
+use Rattle.readable.proofs.Answered.{to-refused, to_none, to-exactly, refusal-known, no_fault, leis-counted, leis-held}
 use Rattle.readable.proofs.Exactly.{read-exactly}
 use Rattle.received.specs.Naming.{lei_texts, leis_too_short, LeisRoom, naming_answer, naming, Names}
 use Rattle.received.proofs.Written.{text-read}
 
 -- a text, the list for its LEIs, and an answer slice
 module _ (text leis slice : List ℕ) where
-  abbrev keys : List Key
+  abbrev keys : List Lei
   keys = leis_in text
 
   abbrev counted : Answer
@@ -88,19 +89,19 @@ module _ (text leis slice : List ℕ) where
       let all = (read-exactly text).leis s h in
       let inside : k < length keys = omega (arith, named.inside, ap (λ (ts : List (List ℕ)). length ts) all, length-map keys lei_text) in
       rw e (text-read keys k _ inside)
-      ∙ sym (named.here ∙ ap (λ (ts : List (List ℕ)). get_or ts k []) all ∙ get_or-map_in lei_text keys k no_key [] inside)
+      ∙ sym (named.here ∙ ap (λ (ts : List (List ℕ)). get_or ts k []) all ∙ get_or-map_in lei_text keys k no_lei [] inside)
 
-  module _ {rows : ℕ} {book lines book' lines' high' low' : List ℕ} {d : Contents} (from-file : ReadsFile text rows book lines book' lines' high' low' d) where
-    pub record_refused : {n place : ℕ} (slice' : List ℕ) (r : ℕ) → d ≡ Refused n place → Answers (make_answer n place 0) slice slice' r → Names text leis leis slice slice' r
+  module _ {rows : ℕ} {book lines book' lines' : List ℕ} {known' : List Lei} {d : Result Contents Fault} (from-file : ReadsFile text rows book lines book' lines' known' d) where
+    pub record_refused : {f : Fault} (slice' : List ℕ) (r : ℕ) → d ≡ Err f → Answers (make_answer (number_of f.refusal) f.place f.second) slice slice' r → Names text leis leis slice slice' r
     unfolding naming_answer
-    record_refused {n} {place} slice' r e t =
+    record_refused {f} slice' r e t =
         let (other, fault) = refusal-known from-file e in
-        refused (make_answer n place 0) slice' r (to-refused text short counted refl (λ z. other (sym (ap number fault) ∙ z)) ∙ fault) other t
+        refused (make_answer (number_of f.refusal) f.place f.second) slice' r (to-refused text short counted refl (λ z. other (sym (ap number fault) ∙ z)) ∙ fault) other t
 
     -- nothing is refused
-    module _ {h : Head} {n m corporations : ℕ} (e : d ≡ Read h n m corporations) where
+    module _ {c : Contents} (e : d ≡ Ok c) where
       -- the list is measured for what the text has
-      pub measured : {two : Bool} → two ≡ leis_too_short corporations (length leis) (length slice) → two ≡ short
+      pub measured : {two : Bool} → two ≡ leis_too_short c.corporations (length leis) (length slice) → two ≡ short
       measured t = t ∙ rw (← leis-counted from-file e)
 
       module _ {two : Bool} (same : two ≡ short) where
@@ -110,18 +111,14 @@ module _ (text leis slice : List ℕ) where
             refused (make_answer 2 0 0) slice' r (to_none text short counted (no_fault from-file e) ∙ rw (sym same ∙ t)) (λ w. omega arith) answered
 
         module _ (fits : two ≡ false) where
-          pub put_room : {high low : List ℕ} → TableRoom rows text book lines high low → length high' ≡ length high → length low' ≡ length low
-              → (corporations ≤ length high') × (corporations ≤ length low') × (20 * corporations ≤ length leis)
-          put_room room a b =
-              let few = few-corporations from-file e in
-              let enough = (room-exactly.0 (sym same ∙ fits)).each in
-              (omega (arith, room.room_high), omega (arith, room.room_low), omega (arith, leis-counted from-file e, enough))
+          pub put_room : 20 * c.corporations ≤ length leis
+          put_room = omega (arith, leis-counted from-file e, (room-exactly.0 (sym same ∙ fits)).each)
 
-          pub all_named : {leis' : List ℕ} (slice' : List ℕ) (r : ℕ) → leis' ≡ front (lei_texts (table corporations high' low')) leis
-              → Answers (make_answer 0 corporations 0) slice slice' r → Names text leis leis' slice slice' r
+          pub all_named : {leis' : List ℕ} (slice' : List ℕ) (r : ℕ) → leis' ≡ front (lei_texts (take c.corporations known')) leis
+              → Answers (make_answer 0 c.corporations 0) slice slice' r → Names text leis leis' slice slice' r
           unfolding naming_answer
           all_named {leis'} slice' r put answered =
-              let whole : naming_answer text leis slice ≡ make_answer 0 corporations 0 =
+              let whole : naming_answer text leis slice ≡ make_answer 0 c.corporations 0 =
               to_none text short counted (no_fault from-file e) ∙ rw (sym same ∙ fits, leis-counted from-file e) in
               let zero : eqb (naming_answer text leis slice).number 0 ≡ true = rw whole in
               let texts : leis' ≡ front (lei_texts keys) leis = put ∙ rw (leis-held from-file e) in

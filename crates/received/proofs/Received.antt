@@ -4,6 +4,7 @@ use mathlib.Core.Logic.{◌↔◌, ◌≢◌}
 use mathlib.Core.Bool.{Bool, true, false, cond}
 use mathlib.Core.List.{List, [], ◌∷◌, ◌++◌, map}
 use Prim.Native.Nat.{ℕ, suc, ◌*◌, ◌/◌, ◌≤◌, ◌<◌}
+use Rattle.std.proofs.Common.{Result, Ok, Err}
 use native.Mathlib.Omega.{arith}
 use lib.Dec.{eqb}
 use lib.ListN.{length, get_or, take, drop, length-map, length-append, length-take, length-drop}
@@ -12,7 +13,6 @@ use Rattle.lists.specs.Tables.{Each, list_to, front}
 use Rattle.lists.proofs.Tables.{to_back}
 use Rattle.lists.proofs.Entries.{each_so, each-parts, each_back}
 use Rattle.holding.specs.Holding.{head_numbers}
-use Rattle.holding.specs.declared.Head.{Head}
 use Rattle.article.specs.Answer.{Answer, make_answer}
 use Rattle.proposal.specs.Submission.{Submission, no_row, no_line}
 use Rattle.proposal.proofs.Clear.{number}
@@ -26,7 +26,9 @@ use Rattle.sizes.proofs.Sizes.{room-exactly}
 use Rattle.lent.specs.Boundary.{Answers}
 use Rattle.reader.specs.File.{parsed_in, values_by, holdings_of, submission_of, submission_in, TableRoom, ReadsFile}
 use Rattle.reader.specs.declared.Contents.{Contents}
-use Rattle.reader.specs.declared.Contents.TheVariants.{Read, Refused}
+use Rattle.refusals.specs.Refusals.{number_of}
+use Rattle.proposal.specs.declared.Fault.{Fault}
+use Rattle.lei.specs.declared.Lei.{Lei}
 use Rattle.readable.specs.Readable.{Submits}
 use Rattle.readable.proofs.Answered.{answer-refused, answer-none, answer-exactly, refusal-known, was_read, no_fault}
 use Rattle.readable.proofs.Answered.{head_read, holdings-counted, lines-counted, holdings-held, lines-held, few-holdings, few-lines}
@@ -116,19 +118,19 @@ module _ (text head : List ℕ) (table lined : List (List ℕ)) (out : List ℕ)
         only = (read-exactly text).only;
       }
 
-  module _ {rows : ℕ} {book lines book' lines' high' low' : List ℕ} {d : Contents} (from-file : ReadsFile text rows book lines book' lines' high' low' d) where
-    pub record_refused : {n place : ℕ} (out' : List ℕ) (r : ℕ) → d ≡ Refused n place → Answers (make_answer n place 0) out out' r
+  module _ {rows : ℕ} {book lines book' lines' : List ℕ} {known' : List Lei} {d : Result Contents Fault} (from-file : ReadsFile text rows book lines book' lines' known' d) where
+    pub record_refused : {f : Fault} (out' : List ℕ) (r : ℕ) → d ≡ Err f → Answers (make_answer (number_of f.refusal) f.place f.second) out out' r
         → Reads text head head before before out out' r
     unfolding reading_answer
-    record_refused {n} {place} out' r e t =
+    record_refused {f} out' r e t =
         let (other, fault) = refusal-known from-file e in
-        refused (make_answer n place 0) out' r (answer-refused text short (λ z. other (sym (ap number fault) ∙ z)) ∙ fault) other t
+        refused (make_answer (number_of f.refusal) f.place f.second) out' r (answer-refused text short (λ z. other (sym (ap number fault) ∙ z)) ∙ fault) other t
 
     -- nothing is refused
-    module _ {h : Head} {n m corporations : ℕ} (e : d ≡ Read h n m corporations) where
+    module _ {c : Contents} (e : d ≡ Ok c) where
       -- the lists are measured for what the text submits
       pub measured : {two : Bool}
-          → two ≡ too_short ((length (head_numbers h), length head) ∷ (map (λ size. (n, size)) (holding_sizes before) ++ map (λ size. (m, size)) (line_sizes before))) (length out)
+          → two ≡ too_short ((length (head_numbers c.head), length head) ∷ (map (λ size. (c.holdings, size)) (holding_sizes before) ++ map (λ size. (c.lines, size)) (line_sizes before))) (length out)
           → two ≡ short
       unfolding held_lists head_numbers lists_of
       measured t = t ∙ rw (← holdings-counted from-file e, ← lines-counted from-file e)
@@ -144,11 +146,11 @@ module _ (text head : List ℕ) (table lined : List (List ℕ)) (out : List ℕ)
           each-held : Each Holds (held_lists s head before)
           each-held = ((room-exactly (held_lists s head before) (length out)).0 (sym same ∙ fits)).each
 
-          pub head_room : 8 * length (head_numbers h) ≤ length head
+          pub head_room : 8 * length (head_numbers c.head) ≤ length head
           unfolding held_lists head_numbers
           head_room = let all = each-held.0 in omega arith
 
-          each_list : Each (λ (c : List ℕ). 8 * n ≤ length c) (before.holdings ++ (before.price ∷ [])) × Each (λ (c : List ℕ). 8 * m ≤ length c) before.lines
+          each_list : Each (λ (b : List ℕ). 8 * c.holdings ≤ length b) (before.holdings ++ (before.price ∷ [])) × Each (λ (b : List ℕ). 8 * c.lines ≤ length b) before.lines
           unfolding held_lists lists_of holding_sizes line_sizes
           each_list =
               let (book, lines) = each-parts Holds (map (λ size. (length s.rows, size)) (holding_sizes before)) (map (λ size. (length s.lines, size)) (line_sizes before))
@@ -157,15 +159,15 @@ module _ (text head : List ℕ) (table lined : List (List ℕ)) (out : List ℕ)
                 rw (← lines-counted from-file e) (with_room _ before.lines lines),
               )
 
-          module _ {high low : List ℕ} (room : TableRoom rows text book lines high low) where
-            pub book_room : length table ≡ 8 → CopyRoom rows n book' table
+          module _ {known : List Lei} (room : TableRoom rows text book lines known) where
+            pub book_room : length table ≡ 8 → CopyRoom rows c.holdings book' table
             book_room eight = record {
               few = few-holdings from-file e;
               whole = (from-file.each_holding (was_read from-file e)).long ∙ room.whole_book ∙ rw eight;
               each = in_order _ table lined eight each_list.0;
             }
 
-            pub lines_room : length lined ≡ 3 → CopyRoom rows m lines' lined
+            pub lines_room : length lined ≡ 3 → CopyRoom rows c.lines lines' lined
             lines_room three = record {
               few = few-lines from-file e;
               whole = (from-file.each_line (was_read from-file e)).long ∙ room.whole_lines ∙ rw three;
@@ -173,11 +175,11 @@ module _ (text head : List ℕ) (table lined : List (List ℕ)) (out : List ℕ)
             }
 
       -- put one after the other, the numbers of the head are those that are submitted; copied, so are the tables
-      head_put : {dated head' : List ℕ} → dated ≡ with_word head 0 h.date → head' ≡ with_word dated 1 h.letter → head' ≡ column (head_numbers s.head) head
+      head_put : {dated head' : List ℕ} → dated ≡ with_word head 0 c.head.date → head' ≡ with_word dated 1 c.head.letter → head' ≡ column (head_numbers s.head) head
       unfolding column head_numbers
-      head_put p q = rw (head_read from-file e) (encoded_two h.date h.letter head _ _ p q)
+      head_put p q = rw (head_read from-file e) (encoded_two c.head.date c.head.letter head _ _ p q)
 
-      all_filled : {table' lined' : List (List ℕ)} → length table ≡ 8 → length lined ≡ 3 → table' ≡ copied rows n book' 0 table → lined' ≡ copied rows m lines' 0 lined
+      all_filled : {table' lined' : List (List ℕ)} → length table ≡ 8 → length lined ≡ 3 → table' ≡ copied rows c.holdings book' 0 table → lined' ≡ copied rows c.lines lines' 0 lined
           → by_tables table' lined' ≡ filled s before
       unfolding submission_of
       all_filled eight three f g =
@@ -187,14 +189,14 @@ module _ (text head : List ℕ) (table lined : List (List ℕ)) (out : List ℕ)
           ∙ sym (filled-values s.head (holdings_of (parsed_in text)) (values_by 2 (parsed_in text)) table lined eight three)
 
       pub all_read : {two : Bool} {dated head' : List ℕ} {table' lined' : List (List ℕ)} (out' : List ℕ) (r : ℕ) → two ≡ short → two ≡ false
-          → length table ≡ 8 → length lined ≡ 3 → dated ≡ with_word head 0 h.date → head' ≡ with_word dated 1 h.letter
-          → table' ≡ copied rows n book' 0 table → lined' ≡ copied rows m lines' 0 lined
-          → Answers (make_answer 0 n m) out out' r → Reads text head head' before (by_tables table' lined') out out' r
+          → length table ≡ 8 → length lined ≡ 3 → dated ≡ with_word head 0 c.head.date → head' ≡ with_word dated 1 c.head.letter
+          → table' ≡ copied rows c.holdings book' 0 table → lined' ≡ copied rows c.lines lines' 0 lined
+          → Answers (make_answer 0 c.holdings c.lines) out out' r → Reads text head head' before (by_tables table' lined') out out' r
       unfolding reading_answer filled head_numbers
       all_read out' r same fits eight three p q f g answered =
           let put = head_put p q in
           let after = all_filled eight three f g in
-          let whole : reading_answer text head before out ≡ make_answer 0 n m =
+          let whole : reading_answer text head before out ≡ make_answer 0 c.holdings c.lines =
           answer-none text short (no_fault from-file e) ∙ rw (sym same ∙ fits, holdings-counted from-file e, lines-counted from-file e) in
           let zero : eqb (reading_answer text head before out).number 0 ≡ true = rw whole in
           let fit = file-fits text (no_fault from-file e) in

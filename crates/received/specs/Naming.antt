@@ -5,13 +5,14 @@ use lib.{Dec.ltb, Dec.eqb, ListN.length, ListN.take, ListN.drop}
 use Rattle.lists.specs.Tables.{front}
 use Rattle.article.specs.Answer.{Answer, make_answer}
 use Rattle.proposal.specs.Submission.{Submission}
-use Rattle.lei.specs.Lei.{Key, lei_text}
+use Rattle.lei.specs.Lei.{lei_text}
+use Rattle.lei.specs.declared.Lei.{Lei}
 use Rattle.lent.specs.Boundary.{Answers}
 use Rattle.reader.specs.File.{submission_in, leis_in, answer_to}
 use Rattle.readable.specs.Readable.{Submits, text_at, number_at}
 
 -- the texts of LEIs, one after another
-unfoldable pub lei_texts : List Key → List ℕ
+unfoldable pub lei_texts : List Lei → List ℕ
 lei_texts [] = []
 lei_texts (x ∷ xs) = lei_text x ++ lei_texts xs
 

@@ -1,144 +1,102 @@
 // The reader on what the host lends: a text in, columns of bytes filled, or the LEIs of its corporations written.
 #![tactic(auto)]
 
-ghost use Rattle.std.specs.Prelude.{◌≡◌, [], ◌∷◌, ◌*◌, ◌≤◌, length};
+ghost use Rattle.std.specs.Prelude.{◌≡◌, ◌*◌, ◌≤◌, length};
 ghost use Rattle.lists.specs.Tables.{front};
-ghost use Rattle.lei.specs.Numbering.{table};
-ghost use Rattle.columns.specs.Columns.{make_columns};
+ghost use Rattle.refusals.specs.Refusals.{number_of};
+ghost use Rattle.article.specs.Answer.{make_answer};
+ghost use Rattle.columns.specs.Filling.{columns_in, SameLists};
+ghost use Rattle.lent.specs.Boundary.{Answers};
 ghost use Rattle.reader.specs.File.{TableRoom};
 ghost use Rattle.received.specs.Reading.{Reads};
 ghost use Rattle.received.specs.Naming.{lei_texts, leis_too_short, Names};
 
-use reader::Contents;
+use columns::ColumnsMut;
+use lei::Lei;
+use proposal::Fault;
+use refusals::Refusal;
 
-// Reads a text into what is lent, by way of two tables whose columns have `rows` entries, and two lists for LEIs: what is submitted goes into the columns
+// Puts a refusal's places into an answer slice, and returns its number.
+fn put_fault(fault: Fault, answer: &mut [u8]) -> u64
+    ensures { Answers (make_answer (number_of fault.refusal) fault.place fault.second) answer.old answer.new result }
+{
+    lent::put_answer(fault.refusal.number(), fault.place, fault.second, answer)
+}
+
+// Reads a text into what is lent, by way of two tables whose columns have `rows` entries, and a list for LEIs: what is submitted goes into the columns
 // once all of it is read and each list is known to hold it. The answer's number is returned.
 pub fn read_into(
     text: &[u8],
     rows: usize,
     book: &mut [u8],
     lines: &mut [u8],
-    high: &mut [u64],
-    low: &mut [u64],
+    known: &mut [Lei],
     head: &mut [u8],
-    side: &mut [u8],
-    kind: &mut [u8],
-    issuer: &mut [u8],
-    maturity: &mut [u8],
-    value: &mut [u8],
-    price: &mut [u8],
-    currency: &mut [u8],
-    rating: &mut [u8],
-    long: &mut [u8],
-    short: &mut [u8],
-    amount: &mut [u8],
+    columns: &mut ColumnsMut<'_>,
     answer: &mut [u8],
 ) -> u64
-    requires { TableRoom rows text.now book.old lines.old high.old low.old }
-    ensures { Reads text.now head.old head.new
-        (make_columns
-        (side.old ∷ kind.old ∷ issuer.old ∷ maturity.old ∷ value.old ∷ currency.old ∷ rating.old ∷ [])
-        price.old
-        (long.old ∷ short.old ∷ amount.old ∷ []))
-        (make_columns
-        (side.new ∷ kind.new ∷ issuer.new ∷ maturity.new ∷ value.new ∷ currency.new ∷ rating.new ∷ [])
-        price.new
-        (long.new ∷ short.new ∷ amount.new ∷ []))
-        answer.old answer.new result }
+    requires { TableRoom rows text.now book.old lines.old known.old }
+    ensures read { Reads text.now head.old head.new (columns_in columns.old) (columns_in columns.new) answer.old answer.new result }
+    ensures same { SameLists columns.old columns.new }
 {
-    let contents = reader::read(text, rows, book, lines, high, low);
-    match contents {
-        Contents::Refused { number, place } => lent::put_answer(number, place, 0, answer),
-        Contents::Read {
-            head: valued,
-            holdings,
-            lines: pairs,
-            corporations: _,
-        } => {
-            if sizes::columns_too_short(
-                holdings,
-                pairs,
-                head.len(),
-                side.len(),
-                kind.len(),
-                issuer.len(),
-                maturity.len(),
-                value.len(),
-                price.len(),
-                currency.len(),
-                rating.len(),
-                long.len(),
-                short.len(),
-                amount.len(),
-                answer.len(),
-            ) {
-                return lent::put_answer(2, 0, 0, answer);
+    match reader::read(text, rows, book, lines, known) {
+        Ok(contents) => {
+            let n = contents.holdings;
+            let m = contents.lines;
+            if sizes::columns_too_short(n, m, head.len(), columns, answer.len()) {
+                return put_fault(proposal::fault_at(Refusal::NoRoom, 0, 0), answer);
             }
-            words::put_word(head, 0, valued.date);
-            words::put_word(head, 1, valued.letter);
-            columns::copy_book(
-                book, rows, holdings, side, kind, issuer, maturity, value, price, currency, rating,
-            );
-            columns::copy_lines(lines, rows, pairs, long, short, amount);
-            lent::put_answer(0, holdings as u64, pairs as u64, answer)
+            words::put_word(head, 0, contents.head.date);
+            words::put_word(head, 1, contents.head.letter);
+            columns.copy_book(book, rows, n);
+            columns.copy_lines(lines, rows, m);
+            lent::put_answer(0, n as u64, m as u64, answer)
         }
+        Err(fault) => put_fault(fault, answer),
     }
 }
 
 // Whether a list of bytes has fewer than 20 for each LEI, or an answer slice fewer than 16.
+#[tactic(auto, unfolding(crate::specs::Naming::leis_too_short), using(lists::proofs::Tests::tests))]
 fn leis_too_short(count: usize, leis: usize, answer: usize) -> bool
     ensures { result ≡ leis_too_short count leis answer }
 {
-    if leis / 20 < count {
-        return true;
-    }
-    answer < 16
+    (leis / 20 < count) | (answer < 16)
 }
 
-// Writes the first `count` LEIs of two lists one after another at the front of a list of bytes; the others are kept.
-fn put_leis(high: &[u64], low: &[u64], count: usize, out: &mut [u8])
-    requires { (count ≤ length high.now) × (count ≤ length low.now) × (20 * count ≤ length out.old) }
-    ensures { out.new ≡ front (lei_texts (table count high.now low.now)) out.old }
+// Writes LEIs one after another at the front of a list of bytes; the others are kept.
+fn put_leis(leis: &[Lei], out: &mut [u8])
+    requires { 20 * length leis.now ≤ length out.old }
+    ensures { out.new ≡ front (lei_texts leis.now) out.old }
 {
-    let mut i = 0;
-    while i < count {
-        lei::put_lei(high[i], low[i], 20 * i, out);
-        i += 1;
+    for (i, lei) in leis.iter().enumerate() {
+        lei::put_lei(*lei, 20 * i, out);
     }
 }
 
 // Writes the LEIs of a text's corporations in the order of their numbers, once the text is read and the list is known to hold them, in the same tables and
-// lists. The answer's number is returned.
+// list. The answer's number is returned.
 pub fn leis_into(
     text: &[u8],
     rows: usize,
     book: &mut [u8],
     lines: &mut [u8],
-    high: &mut [u64],
-    low: &mut [u64],
+    known: &mut [Lei],
     leis: &mut [u8],
     answer: &mut [u8],
 ) -> u64
-    requires { TableRoom rows text.now book.old lines.old high.old low.old }
+    requires { TableRoom rows text.now book.old lines.old known.old }
     ensures { Names text.now leis.old leis.new answer.old answer.new result }
 {
-    let contents = reader::read(text, rows, book, lines, high, low);
-    match contents {
-        Contents::Refused {
-            number,
-            place: record,
-        } => lent::put_answer(number, record, 0, answer),
-        Contents::Read {
-            head: _,
-            holdings: _,
-            lines: _,
-            corporations,
-        } => {
-            if leis_too_short(corporations, leis.len(), answer.len()) {
-                return lent::put_answer(2, 0, 0, answer);
+    match reader::read(text, rows, book, lines, known) {
+        Ok(contents) => {
+            let count = contents.corporations;
+            if leis_too_short(count, leis.len(), answer.len()) {
+                return put_fault(proposal::fault_at(Refusal::NoRoom, 0, 0), answer);
             }
-            put_leis(high, low, corporations, leis);
-            lent::put_answer(0, corporations as u64, 0, answer)
+            put_leis(&known[..count], leis);
+            lent::put_answer(0, count as u64, 0, answer)
         }
+        Err(fault) => put_fault(fault, answer),
     }
 }

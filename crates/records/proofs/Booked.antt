@@ -38,11 +38,11 @@ use Rattle.records.proofs.Rows.{length-rows, rows_back, front-rows}
 use Rattle.records.proofs.Rewriting.{still}
 
 -- a list lent with too little is refused with 3 or 2, whatever its totals are
-short-refused : (b : Book) (o : Order) → outcome true b o ≡ cond (ltb 256 b.day.count) (make_answer 3 0 0) (make_answer 2 0 0)
+short-refused : (b : Book) (o : Order Row) → outcome true b o ≡ cond (ltb 256 b.day.count) (make_answer 3 0 0) (make_answer 2 0 0)
 unfolding outcome faults lent_faults at_place first_of
 short-refused b o = rw (or-true (ltb (length b.list) b.day.count))
 
-short-number : (b : Book) (o : Order) → accepted true b o ≡ false
+short-number : (b : Book) (o : Order Row) → accepted true b o ≡ false
 unfolding accepted
 short-number b o = rw (short-refused b o) (either_way (ltb 256 b.day.count) (λ e. rw e) (λ e. rw e))
 
@@ -70,7 +70,7 @@ module _ {before after : List ℕ} (own : Bytes before) (its : Bytes after) wher
 abbrev number : Answer → ℕ
 number a = a.number
 
-order-numbered : (room : ℕ) (d : Day) (rows : List Row) (o : Order) → Numbered number (order_faults room d rows o)
+order-numbered : (room : ℕ) (d : Day) (rows : List Row) (o : Order Row) → Numbered number (order_faults room d rows o)
 unfolding order_faults sum_faults join_faults taking_faults date_faults matured_faults at_matured
 order-numbered room d rows (Add t) =
     let described = description_faults (account_at d) t in
@@ -84,7 +84,7 @@ order-numbered room d rows (MoveTo to) =
     numbered-append number (at_place 0 (date_faults d.date to)) (matured_faults rows to) (listed_at 0 _ (omega arith, (omega arith, tt)))
     (numbered-in_turn number (at_matured rows to) (λ k. listed_at k _ (omega arith, tt)) (length rows))
 
-faults-numbered : (short : Bool) (b : Book) (o : Order) → Numbered number (faults short b o)
+faults-numbered : (short : Bool) (b : Book) (o : Order Row) → Numbered number (faults short b o)
 unfolding faults lent_faults head_faults totals_faults
 faults-numbered short b o =
     let room = length b.list in
@@ -95,7 +95,7 @@ faults-numbered short b o =
     numbered-append number (at_place 0 (lent_faults short room d)) (from_rows room d rows o) (listed_at 0 _ (omega arith, (omega arith, (omega arith, (omega arith, tt)))))
     (numbered-append number (rows_faults (account_at d) rows) (from_totals room d rows o) (rows-numbered (account_at d) rows) from-totals)
 
-accepted_answer_lem : (short : Bool) (b : Book) (o : Order) → (outcome short b o).number ≡ 0 → outcome short b o ≡ accepted_answer (holdings_in b) o
+accepted_answer_lem : (short : Bool) (b : Book) (o : Order Row) → (outcome short b o).number ≡ 0 → outcome short b o ≡ accepted_answer (holdings_in b) o
 unfolding outcome
 accepted_answer_lem short b o z =
     first_of-none (faults short b o) _ (none_first number (faults short b o) (accepted_answer (holdings_in b) o) (faults-numbered short b o) z).0
@@ -113,7 +113,7 @@ front-taken n xs =
     drop_past ys = rw (drop-length ys) (append-nil ys)
 
 -- an order to what is lent, which the core judged with what was read as stored
-module _ (before : Slices) {s : Bool} {o : Order} {count : ℕ} {h : Head} {d : Day} {out : Outcome}
+module _ (before : Slices) {s : Bool} {o : Order Row} {count : ℕ} {h : Head} {d : Day} {out : Outcome}
     (is : s ≡ too_short (length before.totals) (length before.answer))
     (st : Stored count before.totals h d) (judged : Concluded s (make_book d (rows_in before.list)) o out) where
   abbrev short : Bool
@@ -163,7 +163,7 @@ module _ (before : Slices) {s : Bool} {o : Order} {count : ℕ} {h : Head} {d : 
 
   -- a change that was written leaves the book's rows, and so does a move, which changes none
   abbrev change_by : Row → List Row
-  change_by t = changed out.change (valued t out.change.value) (rows_in before.list)
+  change_by t = changed out.change (valued t) (rows_in before.list)
 
   as_booked : {t : Row} {after : List ℕ} → t ≡ trade_of o → Rewritten (change_by t) before.list after → Rewritten (booked short read o).list before.list after
   as_booked {after = after} e w =

@@ -2,7 +2,6 @@ pub mod Bytes
 pub mod Rows
 pub mod Places
 pub mod Rewriting
-pub mod Seen
 pub mod Judged
 pub mod Totals
 pub mod Lent

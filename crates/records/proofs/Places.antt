@@ -6,7 +6,7 @@ use native.Mathlib.Omega.{arith}
 use lib.ListN.{length, get_or, take, drop, get_or-append}
 use lib.Seq.{get_or-take, get_or-drop, get_or-append-add, length-take-le}
 use Rattle.lists.specs.Tables.{front, overwrite}
-use Rattle.lists.proofs.Overwrite.{overwrite-none, length-overwrite}
+use Rattle.lists.proofs.Overwrite.{length-overwrite}
 use Rattle.booking.specs.Seeing.{moved_up}
 use Rattle.records.proofs.Bytes.{length_part}
 
@@ -41,14 +41,7 @@ module _ {A : Type 0} (at : ℕ) (xs old : List A) (room : at ≤ length old) (d
 
 -- entries that moved up, from `first` to before `end`
 module _ {A : Type 0} (first end : ℕ) (xs : List A) where
-  -- none
-  pub moved_none : end ≤ first → moved_up first end xs ≡ xs
-  unfolding moved_up
-  moved_none h =
-      let none : end - first ≡ 0 = omega arith in
-      rw none (overwrite-none (first - 1) xs)
-
-  module _ (from : 1 ≤ first) (some : first < end) (room : end ≤ length xs) (d : A) where
+  module _ (from : 1 ≤ first) (some : first ≤ end) (room : end ≤ length xs) (d : A) where
     abbrev part : List A
     part = take (end - first) (drop first xs)
 

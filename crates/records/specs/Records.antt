@@ -83,11 +83,11 @@ pub record LentNumbers (count : ℕ) (h : Head) (s : Slices) : Type 0 where
   pub long : (short_in s ≡ false) ↔ ((40 ≤ length s.totals) × (16 ≤ length s.answer))
 
 -- the head of the book after an order: only a move changes its date
-unfoldable pub head_after : Order → Head → Head
+unfoldable pub head_after : Order Row → Head → Head
 head_after o h = record { date = date_after o h.date; letter = h.letter }
 
 -- what an exported booking promises of an order to what is lent, before and after, and of the number that it returns
-module _ (o : Order) (count : ℕ) (h : Head) (before after : Slices) (r : ℕ) where
+module _ (o : Order Row) (count : ℕ) (h : Head) (before after : Slices) (r : ℕ) where
   abbrev lent : Book
   lent = lent_book count h before
 

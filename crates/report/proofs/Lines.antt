@@ -1,13 +1,12 @@
 -- The parts of a line and of a report, written one after another, make it whole. Assumes nothing.
-use mathlib.Core.Path.{◌≡◌, sym, ◌∙◌}
+use mathlib.Core.Path.{◌≡◌}
 use mathlib.Core.List.{List, [], ◌∷◌, flat_map}
 use Prim.Native.Nat.{ℕ, ◌+◌, ◌≤◌, ◌<◌, ◌^◌}
 use native.Mathlib.Omega.{arith}
 use lib.ListN.{length, get_or, take}
-use lib.Seq.{take_all}
 use borrow.Author.Tests.{eq-eqb, ne_eqb}
 use Rattle.lists.specs.Tables.{list_to, ascii}
-use Rattle.lists.proofs.Tables.{length_to, get_or-to}
+use Rattle.lists.proofs.Tables.{get_or-to}
 use Rattle.numerals.specs.Numerals.{Put}
 use Rattle.numerals.proofs.Digits.{digits-word}
 use Rattle.verdict.specs.Judges.{answer_of}
@@ -38,7 +37,8 @@ remainder-written left margins ranks i h r e f w = rw (get_or-to 256 (λ k. get_
 
 -- a verdict whose number and values are these
 module _ (v : Verdict) (count : ℕ) (left margins ranks : List ℕ) {numbers : List ℕ} (e : numbers ≡ answer_numbers (answer_of v)) where
-  pub refused-written : {next : ℕ} {old now : List ℕ} → (get_or numbers 0 0 ≡ 0 → ⊥) → Written (line_of (ascii "X") (take 3 numbers)) 0 next old now
+  pub refused-written : {next : ℕ} {old now : List ℕ} → (get_or numbers 0 0 ≡ 0 → ⊥)
+      → Written (line_of (ascii "X") (get_or numbers 0 0 ∷ get_or numbers 1 0 ∷ get_or numbers 2 0 ∷ [])) 0 next old now
       → Written (report_of v count left margins ranks) 0 next old now
   unfolding report_of printed_lines refusal_line answer_numbers
   refused-written h w = rw (ne_eqb _ _ (rw e at h)) (rw e at w)
@@ -49,9 +49,3 @@ module _ (v : Verdict) (count : ℕ) (left margins ranks : List ℕ) {numbers : 
       → Written (report_of v count left margins ranks) 0 next old now
   unfolding report_of printed_lines margin_line answer_numbers
   accepted-written h p q = rw (eq-eqb _ _ (rw e at h)) (written_then (omega arith) (rw e at p) q)
-
--- past the whole of a list of 256 more of it is the same
-pub whole : (f : ℕ → ℕ) (n : ℕ) → 256 ≤ n → take 256 (list_to 256 f) ≡ take n (list_to 256 f)
-whole f n h =
-    let all = list_to 256 f in
-    take_all 256 all (omega (arith, length_to 256 f)) ∙ sym (take_all n all (omega (arith, length_to 256 f)))

@@ -1,10 +1,12 @@
 -- Document 01, "The file": the lines that are printed, as bytes. Assumes nothing.
 use mathlib.Core.{Path.◌≡◌, Bool.cond, List.List, List.[], List.◌∷◌, List.◌++◌, List.flat_map}
-use Rattle.std.specs.Prelude.{ℕ, ◌+◌, ◌*◌}
+use Rattle.std.specs.Prelude.{ℕ, ◌+◌, ◌*◌, Result, Ok, Err}
 use lib.{Dec.ltb, Dec.eqb, ListN.length, ListN.get_or, ListN.take}
 use Rattle.lists.specs.Tables.{front, overwrite, list_to, ascii}
 use Rattle.article.specs.Answer.{Answer, make_answer}
-use Rattle.report.specs.declared.Printed.{Printed, TheVariants.Written as Put, TheVariants.Refused}
+use Rattle.refusals.specs.Refusals.{number_of}
+use Rattle.refusals.specs.declared.Refusal.{Refusal}
+use Rattle.refusals.specs.declared.Refusal.TheVariants.{NoRoom}
 use Rattle.numerals.specs.Numerals.{digits}
 use Rattle.pairing.specs.declared.Line.{Line}
 use Rattle.proposal.specs.Submission.{Submission, PricedBook, priced, remainder, margin, ranked}
@@ -21,13 +23,13 @@ abbrev pub report_room : ℕ
 report_room = 257 * 66
 
 -- the paper's number and values of each case: 0 with how many bytes were written, or the refusal's number
-abbrev pub printed_answer : Printed → Answer
-printed_answer (Put bytes) = make_answer 0 bytes 0
-printed_answer (Refused number) = make_answer number 0 0
+abbrev pub printed_answer : Result ℕ Refusal → Answer
+printed_answer (Ok bytes) = make_answer 0 bytes 0
+printed_answer (Err refusal) = make_answer (number_of refusal) 0 0
 
 -- a text printed into a list: at its front, all other bytes kept, its own counted; a list that is shorter is left alone, and 2 returned
-pub record Prints (text old now : List ℕ) (r : Printed) : Type 0 where
-  pub case : r ≡ cond (ltb (length old) (length text)) (Refused 2) (Put (length text))
+pub record Prints (text old now : List ℕ) (r : Result ℕ Refusal) : Type 0 where
+  pub case : r ≡ cond (ltb (length old) (length text)) (Err NoRoom) (Ok (length text))
   pub bytes : now ≡ cond (ltb (length old) (length text)) old (front text old)
 
 -- a number after a comma

@@ -1,19 +1,17 @@
--- The places of a record's fields, written into two lists a field at a time: what the loop over the fields keeps. Assumes nothing.
+-- The places of a record's fields, written into a list a field at a time: what the loop over the fields keeps. Assumes nothing.
 use mathlib.Core.Path.{◌≡◌, refl, sym, ap, ◌∙◌}
-use mathlib.Core.Bool.{Bool, true, false}
-use mathlib.Core.List.{List, [], ◌∷◌, ◌++◌, map}
+use Rattle.std.specs.Prelude.{Option, Some, None}
+use mathlib.Core.Bool.{true, false}
+use mathlib.Core.List.{List, [], ◌∷◌, ◌++◌}
 use Prim.Native.Nat.{ℕ, ◌+◌, ◌-◌, ◌≤◌, ◌<◌}
 use native.Mathlib.Omega.{arith}
-use lib.ListN.{length, take, set, length-append, length-take, length-map}
+use lib.ListN.{length, take, set, length-append}
 use lib.Seq.{take-nil, append_snoc}
 use Rattle.lists.specs.Tables.{front}
-use Rattle.lists.proofs.Tables.{front_long}
-use Rattle.rfc4180.specs.Reading.{field_at, Split, fields, malformed, push, on_piece, record_at, field_count, Scans}
+use Rattle.rfc4180.specs.Reading.{scanned, field_at, Split, fields, malformed, push, on_piece, record_at, field_count, Scans}
 use Rattle.rfc4180.specs.declared.Span.{Span}
 use Rattle.rfc4180.specs.declared.Piece.{Piece}
-use Rattle.rfc4180.specs.declared.Piece.TheVariants.{Field, Broken}
-use Rattle.rfc4180.specs.declared.Scanned.TheVariants.{Fields}
-use Rattle.rfc4180.proofs.Pieces.{FieldRead, field_read, reach, ahead}
+use Rattle.rfc4180.proofs.Pieces.{FieldRead, PieceRead, field_read, reach, ahead}
 use Rattle.rfc4180.proofs.Places.{record_turn, not_last}
 
 -- fields before those of a record
@@ -29,98 +27,77 @@ prefixed-none : (p : Split) → p ≡ prefixed [] p
 prefixed-none (fields ss next) = refl
 prefixed-none malformed = refl
 
--- the starts of fields, or their ends, at the front of a list, as far as it reaches
-pub record Placed (f : Span → ℕ) (done : List Span) (old now : List ℕ) : Type 0 where
-  pub in_front : now ≡ front (map f (take (length old) done)) old
+-- the first of the fields that are done, at the front of a list as far as it reaches
+unfoldable pub first_of : List Span → List Span → List Span
+first_of done old = front (take (length old) done) old
 
-placed-none : (f : Span → ℕ) (old : List ℕ) → Placed f [] old old
-unfolding front
-placed-none f old = record { in_front = rw take-nil }
+first-none : (old : List Span) → first_of [] old ≡ old
+unfolding first_of front
+first-none old = rw take-nil
 
-placed-set : (f : Span → ℕ) (done : List Span) (s : Span) (old : List ℕ)
-    → set (front (map f (take (length old) done)) old) (length done) (f s) ≡ front (map f (take (length old) (done ++ (s ∷ [])))) old
-unfolding front
-placed-set f done s [] = refl
-placed-set f [] s (y ∷ old) = rw (take-nil (length old))
-placed-set f (x ∷ done) s (y ∷ old) = ap (λ l. f x ∷ l) (placed-set f done s old)
-
-module _ {f : Span → ℕ} {done : List Span} {old now : List ℕ} (p : Placed f done old now) where
-  -- one field more
-  placed-more : {n : ℕ} (s : Span) {kept : List ℕ} → n ≡ length done → kept ≡ set now n (f s) → Placed f (done ++ (s ∷ [])) old kept
-  placed-more s counted e = record { in_front = e ∙ rw (counted, p.in_front) (placed-set f done s old) }
-
-  -- in a list with room for field_count
-  placed_first : length now ≡ field_count → now ≡ front (map f (take field_count done)) old
-  placed_first room =
-      let firsts = map f (take (length old) done) in
-      let fit : length firsts ≤ length old = simp (length-map, length-take) (omega arith) in
-      let long : length old ≡ field_count = omega (arith, ap length p.in_front, front_long firsts old fit) in
-      rw long at p.in_front
-
--- n fields that are done, with their places in two lists
-pub record Listed (done : List Span) (starts₀ ends₀ starts ends : List ℕ) (n : ℕ) : Type 0 where
-  pub counted : n ≡ length done
-  pub started : Placed (λ s. s.start) done starts₀ starts
-  pub ended : Placed (λ s. s.end) done ends₀ ends
-
-listed_more : {done : List Span} {starts₀ ends₀ starts ends starts' ends' : List ℕ} {n : ℕ} (s : Span) → Listed done starts₀ ends₀ starts ends n
-    → starts' ≡ set starts n s.start → ends' ≡ set ends n s.end → Listed (done ++ (s ∷ [])) starts₀ ends₀ starts' ends' (n + 1)
-listed_more {done} s l a b = record {
-  counted = omega (arith, length-append done (s ∷ []), l.counted);
-  started = placed-more l.started s l.counted a;
-  ended = placed-more l.ended s l.counted b;
-}
+first-set : (done : List Span) (s : Span) (old : List Span) → set (first_of done old) (length done) s ≡ first_of (done ++ (s ∷ [])) old
+unfolding first_of front
+first-set done s [] = refl
+first-set [] s (y ∷ old) = rw (take-nil (length old))
+first-set (x ∷ done) s (y ∷ old) = ap (λ l. x ∷ l) (first-set done s old)
 
 -- what the loop keeps when it comes to place i with n fields done: these and the record from there on are the one that is asked for
-pub record Filling (text : List ℕ) (at : ℕ) (starts₀ ends₀ starts ends : List ℕ) (n i : ℕ) : Type 0 where
+pub record Filling (text : List ℕ) (at : ℕ) (old now : List Span) (n i : ℕ) : Type 0 where
   pub done : List Span
-  pub listed : Listed done starts₀ ends₀ starts ends n
+  pub counted : n ≡ length done
+  pub in_front : now ≡ first_of done old
   pub not_past : n ≤ i
   pub few : n ≤ length text
   pub completes : record_at text at ≡ prefixed done (record_at text i)
 
-pub filling-none : (text : List ℕ) (at : ℕ) (starts ends : List ℕ) → Filling text at starts ends starts ends 0 at
-filling-none text at starts ends = record {
+pub filling-none : (text : List ℕ) (at : ℕ) (old : List Span) → Filling text at old old 0 at
+filling-none text at old = record {
   done = [];
-  listed = record { counted = refl; started = placed-none _ starts; ended = placed-none _ ends };
+  counted = refl;
+  in_front = sym (first-none old);
   not_past = omega arith;
   few = omega arith;
   completes = prefixed-none (record_at text at);
 }
 
 -- a turn that finds piece p at i
-module _ {text : List ℕ} {at : ℕ} {starts₀ ends₀ starts ends : List ℕ} {n i : ℕ} (t : Filling text at starts₀ ends₀ starts ends n i) where
-  turned : {p : Piece} → p ≡ field_at text i → record_at text at ≡ prefixed t.done (on_piece p (record_at text))
-  turned e = t.completes ∙ rw (record_turn text i, e)
+module _ {text : List ℕ} {at : ℕ} {old now : List Span} {n i : ℕ} (t : Filling text at old now n i) {found : Option Piece} (e : found ≡ field_at text i) where
+  turned : record_at text at ≡ prefixed t.done (on_piece found (record_at text))
+  turned = t.completes ∙ rw (record_turn text i, e)
 
-  pub filling-broken : {p : Piece} → p ≡ field_at text i → p ≡ Broken → record_at text at ≡ malformed
-  filling-broken e b = turned (sym b ∙ e)
+  pub filling-broken : found ≡ None → Scans (record_at text at) old now None
+  filling-broken b = rw (turned, b)
 
-  module _ {p : Piece} {s : Span} {last : Bool} {next : ℕ} (e : p ≡ field_at text i) (b : p ≡ Field s last next) where
-    filling-on : last ≡ false → (i < next) × (next ≤ length text)
-    filling-on l =
-        let r : FieldRead text i s false next = rw (sym e ∙ b, l) at (field_read text i) in
+  module _ {p : Piece} (b : found ≡ Some p) where
+    filling_on : p.last ≡ false → (i < p.next) × (p.next ≤ length text)
+    filling_on l =
+        let r : PieceRead text i (Some p) = rw (sym e ∙ b) at (field_read text i) in
+        let r : FieldRead text i p.span false p.next = rw l at r in
         (ahead r not_last, (reach r not_last).1)
 
-    pub filling_less : last ≡ false → length text - next < length text - i
+    pub filling_less : p.last ≡ false → length text - p.next < length text - i
     filling_less l =
-        let (far, near) = filling-on l in
+        let (far, near) = filling_on l in
         omega arith
 
-    -- the field goes into both lists
-    module _ {starts' ends' : List ℕ} (to-starts : starts' ≡ set starts n s.start) (to-ends : ends' ≡ set ends n s.end) where
-      pub filling-last : length starts' ≡ field_count → length ends' ≡ field_count → last ≡ true → Scans (record_at text at) starts₀ ends₀ starts' ends' (Fields (n + 1) next)
-      filling-last room room' l =
-          let m = listed_more s t.listed to-starts to-ends in
-          rw (turned {p = Field s true next} (rw (← l) (sym b ∙ e))) (rw m.counted, placed_first m.started room, placed_first m.ended room')
+    -- the field goes into the list
+    module _ {now' : List Span} (put : now' ≡ set now n p.span) where
+      put_first : now' ≡ first_of (t.done ++ (p.span ∷ [])) old
+      put_first = put ∙ rw (t.counted, t.in_front) (first-set t.done p.span old)
 
-      pub filling-more : last ≡ false → Filling text at starts₀ ends₀ starts' ends' (n + 1) next
+      pub filling-last : length old ≡ field_count → p.last ≡ true → Scans (record_at text at) old now' (Some (scanned (n + 1) p.next))
+      unfolding first_of
+      filling-last room l =
+          rw (turned, b, l) (rw (length-append t.done (p.span ∷ []), t.counted), rw room at put_first)
+
+      pub filling-more : p.last ≡ false → Filling text at old now' (n + 1) p.next
       filling-more l =
-          let (far, near) = filling-on l in
+          let (far, near) = filling_on l in
           record {
-            done = t.done ++ (s ∷ []);
-            listed = listed_more s t.listed to-starts to-ends;
+            done = t.done ++ (p.span ∷ []);
+            counted = omega (arith, length-append t.done (p.span ∷ []), t.counted);
+            in_front = put_first;
             not_past = omega (arith, t.not_past);
             few = omega (arith, t.not_past);
-            completes = turned {p = Field s false next} (rw (← l) (sym b ∙ e)) ∙ prefixed-push t.done s (record_at text next);
+            completes = turned ∙ rw (b, l) (prefixed-push t.done p.span (record_at text p.next));
           }

@@ -1,4 +1,3 @@
-pub mod Text
 pub mod Scan
 pub mod Pieces
 pub mod Turns

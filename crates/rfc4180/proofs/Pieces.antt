@@ -1,6 +1,7 @@
 -- A field that is read from a text is a field of the grammar, with what may follow it. Assumes nothing.
 use mathlib.Core.Path.{◌≡◌, refl, sym, ap, ◌∙◌}
 use mathlib.Core.Logic.{◌⊎◌, inl, inr, ⊎_elim}
+use Rattle.std.specs.Prelude.{Option, Some, None}
 use mathlib.Core.Bool.{Bool, true, false, ◌&&◌, and-eq-true_iff, false≢true}
 use mathlib.Core.List.{List, [], ◌∷◌, ◌++◌, append_assoc}
 use Prim.Native.Nat.{ℕ, ◌+◌, ◌-◌, ◌≤◌, ◌<◌}
@@ -14,10 +15,7 @@ use Rattle.rfc4180.specs.Grammar.{is_text, is_quotable, TextRun, no_text, text_d
 use Rattle.rfc4180.specs.Grammar as G
 use Rattle.rfc4180.specs.Reading.{span, part, text_from, text_end, close_from, close_at, followed_by, followed, begins, opens, enclosed, field_at}
 use Rattle.rfc4180.specs.declared.Span.{Span}
-use Rattle.rfc4180.specs.declared.Found.{Found}
-use Rattle.rfc4180.specs.declared.Found.TheVariants.{At, Nothing}
 use Rattle.rfc4180.specs.declared.Piece.{Piece}
-use Rattle.rfc4180.specs.declared.Piece.TheVariants.{Field, Broken}
 
 -- a list from place i to place e, where the rest of it stands
 record Run (P : List ℕ → List ℕ → Type 0) (i e : ℕ) (s : List ℕ) : Type 0 where
@@ -55,16 +53,16 @@ text-run i (c ∷ s) =
 abbrev Quoted : List ℕ → List ℕ → Type 0
 Quoted t r = QuotedRun t × (r ≡ 0x22 ∷ drop 1 r)
 
-abbrev Closed : ℕ → List ℕ → Found → Type 0
-Closed i s (At e) = Run Quoted i e s
-Closed i s Nothing = Unit {0}
+abbrev Closed : ℕ → List ℕ → Option ℕ → Type 0
+Closed i s (Some e) = Run Quoted i e s
+Closed i s None = Unit {0}
 
 closed_here : (i c : ℕ) (s : List ℕ) → eqb c 0x22 ≡ true → Run Quoted i i (c ∷ s)
 closed_here i c s p = nothing_yet i (c ∷ s) (no_quoted, rw (eqb-true c 0x22 p))
 
-closed_on : (p : List ℕ) → ((t : List ℕ) → QuotedRun t → QuotedRun (p ++ t)) → (i : ℕ) (s : List ℕ) (f : Found) → Closed (i + length p) s f → Closed i (p ++ s) f
-closed_on p q i s (At e) r = longer p (λ t l h. (q t h.0, h.1)) i e s r
-closed_on p q i s Nothing r = tt
+closed_on : (p : List ℕ) → ((t : List ℕ) → QuotedRun t → QuotedRun (p ++ t)) → (i : ℕ) (s : List ℕ) (f : Option ℕ) → Closed (i + length p) s f → Closed i (p ++ s) f
+closed_on p q i s (Some e) r = longer p (λ t l h. (q t h.0, h.1)) i e s r
+closed_on p q i s None r = tt
 
 -- up to the quote that is found
 closed : (i : ℕ) (s : List ℕ) → Closed i s (close_from i s)
@@ -83,7 +81,7 @@ closed i (c ∷ d ∷ s) =
     (λ q. tt))
 
 -- a quote that closes stands in the text
-pub close_in_text : (text : List ℕ) (i e : ℕ) (f : Found) → f ≡ close_at text i → f ≡ At e → e < length text
+pub close_in_text : (text : List ℕ) (i e : ℕ) (f : Option ℕ) → f ≡ close_at text i → f ≡ Some e → e < length text
 unfolding close_at
 close_in_text text i e f g h =
     let r : Run Quoted i e (drop i text) = rw (sym g ∙ h) at (closed i (drop i text)) in
@@ -112,9 +110,9 @@ pub record FieldRead (text : List ℕ) (i : ℕ) (s : Span) (last : Bool) (next 
   pub here : drop i text ≡ whole ++ (mark ++ drop next text)
   pub on : next ≡ i + length whole + length mark
 
-abbrev pub PieceRead : List ℕ → ℕ → Piece → Type 0
-PieceRead text i (Field s last next) = FieldRead text i s last next
-PieceRead text i Broken = Unit {0}
+abbrev pub PieceRead : List ℕ → ℕ → Option Piece → Type 0
+PieceRead text i (Some p) = FieldRead text i p.span p.last p.next
+PieceRead text i None = Unit {0}
 
 -- a text that stands at a place: what comes after it, and the part that it is
 module _ (text : List ℕ) (i : ℕ) (t r : List ℕ) (here : drop i text ≡ t ++ r) where
@@ -168,16 +166,16 @@ module _ (text : List ℕ) (i : ℕ) where
       let r = text-run i (drop i text) in
       piece text i _ r.inner r.inner (non_escaped r.run) (part_of text i r.inner r.rest r.there _ r.to) _ r.to r.rest r.there
 
-  quoted-read : (f : Found) → drop i text ≡ 0x22 ∷ drop (i + 1) text → Closed (i + 1) (drop (i + 1) text) f → PieceRead text i (enclosed text (i + 1) f)
+  quoted-read : (f : Option ℕ) → drop i text ≡ 0x22 ∷ drop (i + 1) text → Closed (i + 1) (drop (i + 1) text) f → PieceRead text i (enclosed text (i + 1) f)
   unfolding enclosed
-  quoted-read (At e) o r =
+  quoted-read (Some e) o r =
       let rest = drop 1 r.rest in
       let there : drop (i + 1) text ≡ r.inner ++ 0x22 ∷ rest = rw (← r.run.1) r.there in
       piece text i _ (0x22 ∷ (r.inner ++ 0x22 ∷ [])) r.inner (escaped r.run.0)
       (part_of text (i + 1) r.inner r.rest r.there e r.to)
       (e + 1) (omega (arith, r.to, length-append r.inner (0x22 ∷ []))) rest
       (rw (o, there) (ap (λ l. 0x22 ∷ l) (sym (append_assoc r.inner (0x22 ∷ []) rest))))
-  quoted-read Nothing o r = tt
+  quoted-read None o r = tt
 
   -- what is read at a place is a field of the grammar
   pub field_read : PieceRead text i (field_at text i)

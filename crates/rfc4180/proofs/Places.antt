@@ -1,28 +1,23 @@
 -- Records at places of a text: one turn after another, and what the code hands back of one. Assumes nothing.
 use mathlib.Core.Path.{◌≡◌, refl, sym, ap, ◌∙◌}
+use Rattle.std.specs.Prelude.{Option, Some, None}
 use mathlib.Core.Bool.{Bool, true, false, cond, false≢true}
 use mathlib.Core.List.{List, [], ◌∷◌, map}
 use Prim.Native.Nat.{ℕ, ◌≤◌, ◌<◌, min}
 use native.Mathlib.Omega.{arith}
 use borrow.Author.Tests.{lt-ltb, le-ltb, ltb-true}
 use lib.Dec.{ltb}
-use lib.ListN.{length, get_or, take, length-take, length-map, get_or-eq_default}
+use lib.ListN.{length, get_or, take, length-take, length-map, get_or-eq_default, get_or-append}
 use lib.Seq.{take_all, get_or-take, ext_get_or}
 use Rattle.lists.specs.Tables.{list_to, front}
-use Rattle.lists.proofs.Tables.{length_to, get_or-to, get_or-map_in, front_at}
-use Rattle.rfc4180.specs.Reading.{span, part, field_at, Split, fields, malformed, push, on_piece, fields_from, record_at, Read, formed, broken, on_split, records_from, records_at}
+use Rattle.lists.proofs.Tables.{length_to, get_or-to, get_or-map_in}
+use Rattle.rfc4180.specs.Reading.{span, scanned, part, field_at, Split, fields, malformed, push, on_piece, fields_from, record_at, Read, formed, broken, on_split, records_from, records_at}
 use Rattle.rfc4180.specs.Reading.{field_count, Scans, texts_of, texts_in, HandsBack}
 use Rattle.rfc4180.specs.declared.Span.{Span}
 use Rattle.rfc4180.specs.declared.Piece.{Piece}
-use Rattle.rfc4180.specs.declared.Piece.TheVariants.{Field, Broken}
 use Rattle.rfc4180.specs.declared.Scanned.{Scanned}
-use Rattle.rfc4180.specs.declared.Scanned.TheVariants.{Fields, Malformed}
 use Rattle.rfc4180.proofs.Turns.{unbounded}
 use Rattle.rfc4180.proofs.Pieces.{FieldRead, PieceRead, field_read, reach, ahead}
-
--- two constructors are never equal: `clash cc`
-pub clash : {A : Type 0} → ◌≡◌ {A = ℕ} 0 1 → A
-clash z = absurd (omega arith)
 
 -- a field that is not the last
 pub not_last : {A : Type 0} → false ≡ true → A
@@ -31,14 +26,19 @@ not_last e = absurd (false≢true e)
 -- a record that begins with a field
 pushed : (s : Span) (p : Split) {l : List Span} {next : ℕ} → push s p ≡ fields l next → (ss : List Span) × (l ≡ s ∷ ss) × (p ≡ fields ss next)
 pushed s (fields ss next) e = (ss, cc, cc)
-pushed s malformed e = clash cc
+pushed s malformed e = absurd cc
 
 module _ (text : List ℕ) where
   -- reading on from a field asks only of places further on, and in the text
-  onward : (g h : ℕ → Split) (i : ℕ) → ((j : ℕ) → i < j → j ≤ length text → g j ≡ h j) → (p : Piece) → PieceRead text i p → on_piece p g ≡ on_piece p h
-  onward g h i e (Field s true next) r = refl
-  onward g h i e (Field s false next) r = ap (push s) (e next (ahead r not_last) (reach r not_last).1)
-  onward g h i e Broken r = refl
+  onward : (g h : ℕ → Split) (i : ℕ) → ((j : ℕ) → i < j → j ≤ length text → g j ≡ h j) → (p : Option Piece) → PieceRead text i p → on_piece p g ≡ on_piece p h
+  onward g h i e (Some p) r = by p.last refl
+    where
+      by : (b : Bool) → p.last ≡ b → cond b (fields (p.span ∷ []) p.next) (push p.span (g p.next)) ≡ cond b (fields (p.span ∷ []) p.next) (push p.span (h p.next))
+      by true l = refl
+      by false l =
+          let t : FieldRead text i p.span false p.next = rw l at r in
+          ap (push p.span) (e p.next (ahead t not_last) (reach t not_last).1)
+  onward g h i e None r = refl
 
   -- a record is a field, alone or before those that are read from the next place
   pub record_turn : (i : ℕ) → record_at text i ≡ on_piece (field_at text i) (record_at text)
@@ -55,26 +55,33 @@ module _ (text : List ℕ) where
   pub record_reads : (ss : List Span) (i next : ℕ) → record_at text i ≡ fields ss next → Reads i ss next
   record_reads [] i next e = go (field_at text i) (sym (record_turn i) ∙ e)
     where
-      go : (p : Piece) → on_piece p (record_at text) ≡ fields [] next → Reads i [] next
-      go (Field s true n) e = clash cc
-      go (Field s false n) e =
-          let (ss, a, b) = pushed s (record_at text n) e in
-          clash cc
-      go Broken e = clash cc
+      by : (p : Piece) (b : Bool) → cond b (fields (p.span ∷ []) p.next) (push p.span (record_at text p.next)) ≡ fields [] next → Reads i [] next
+      by p true e = absurd cc
+      by p false e =
+          let (ss, a, b) = pushed p.span (record_at text p.next) e in
+          absurd cc
+
+      go : (p : Option Piece) → on_piece p (record_at text) ≡ fields [] next → Reads i [] next
+      go (Some p) e = by p p.last e
+      go None e = absurd cc
   record_reads (x ∷ ss) i next e = go (field_at text i) (field_read text i) (sym (record_turn i) ∙ e) (λ n. record_reads ss n next)
     where
-      go : (p : Piece) → PieceRead text i p → on_piece p (record_at text) ≡ fields (x ∷ ss) next
+      by : (p : Piece) (b : Bool) → FieldRead text i p.span b p.next → cond b (fields (p.span ∷ []) p.next) (push p.span (record_at text p.next)) ≡ fields (x ∷ ss) next
           → ((n : ℕ) → record_at text n ≡ fields ss next → Reads n ss next) → Reads i (x ∷ ss) next
-      go (Field s true n) r e f =
-          let a : x ∷ ss ≡ s ∷ [] = cc in
-          let b : next ≡ n = cc in
+      by p true r e f =
+          let a : x ∷ ss ≡ p.span ∷ [] = cc in
+          let b : next ≡ p.next = cc in
           rw (a, b) (final r)
-      go (Field s false n) r e f =
-          let (ts, a, b) = pushed s (record_at text n) e in
-          let c : x ≡ s = cc in
+      by p false r e f =
+          let (ts, a, b) = pushed p.span (record_at text p.next) e in
+          let c : x ≡ p.span = cc in
           let d : ts ≡ ss = cc in
-          rw c (another r (f n (b ∙ rw d)))
-      go Broken r e f = clash cc
+          rw c (another r (f p.next (b ∙ rw d)))
+
+      go : (p : Option Piece) → PieceRead text i p → on_piece p (record_at text) ≡ fields (x ∷ ss) next
+          → ((n : ℕ) → record_at text n ≡ fields ss next → Reads n ss next) → Reads i (x ∷ ss) next
+      go (Some p) r e f = by p p.last r e f
+      go None r e f = absurd cc
 
   reads_reach : {i next : ℕ} {ss : List Span} → Reads i ss next → i ≤ length text → (i ≤ next) × (next ≤ length text)
   reads_reach (final r) h = reach r (λ e. h)
@@ -132,62 +139,61 @@ take-listed d n f xs h =
     let b : k < length xs = omega arith in
     get_or-take (length xs) (list_to n f) k d b ∙ get_or-to n f k d a ∙ h k a b ∙ sym (get_or-take n xs k d a))
 
--- where a field starts, or ends, by a list that has these places at its front
-place_in : (f : Span → ℕ) (n : ℕ) (ss : List Span) (old : List ℕ) (k : ℕ) (s : Span) → k < n → k < length ss
-    → get_or (front (map f (take n ss)) old) k 0 ≡ f (get_or ss k s)
-place_in f n ss old k s a b =
-    let c : k < length (take n ss) = simp length-take (omega arith) in
-    front_at (map f (take n ss)) old k (simp length-map c) ∙ get_or-map_in f (take n ss) k s 0 c ∙ ap f (get_or-take n ss k s a)
+-- where a field stands, by a list that has the places of the first n at its front
+placed : (n : ℕ) (ss old : List Span) (k : ℕ) (s : Span) → k < n → k < length ss → get_or (front (take n ss) old) k s ≡ get_or ss k s
+unfolding front
+placed n ss old k s a b =
+    get_or-append (take n ss) _ s k (simp length-take (omega arith)) ∙ get_or-take n ss k s a
 
 -- a record that was counted is in the grammar, with as many fields
-pub scanned_fields : (p : Split) (old old' starts ends : List ℕ) {r : Scanned} {count next : ℕ} → Scans p old old' starts ends r → r ≡ Fields count next
-    → (ss : List Span) × (p ≡ fields ss next) × (length ss ≡ count)
-scanned_fields (fields ss next) old old' starts ends s e = (ss, ap (fields ss) (cc s.0), cc s.0)
-scanned_fields malformed old old' starts ends s e = clash cc
+pub scanned_fields : (p : Split) (old now : List Span) {r : Option Scanned} {t : Scanned} → Scans p old now r → r ≡ Some t
+    → (ss : List Span) × (p ≡ fields ss t.next) × (length ss ≡ t.count)
+scanned_fields (fields ss next) old now {t = t} s e =
+    let same : scanned (length ss) next ≡ t = cc in
+    (ss, rw (← same), rw (← same))
+scanned_fields malformed old now s e = absurd cc
 
 -- one that was found malformed is outside it
-pub scanned_malformed : (p : Split) (old old' starts ends : List ℕ) {r : Scanned} → Scans p old old' starts ends r → r ≡ Malformed → p ≡ malformed
-scanned_malformed (fields ss next) old old' starts ends s e = clash (cc s.0)
-scanned_malformed malformed old old' starts ends s e = refl
+pub scanned_malformed : (p : Split) (old now : List Span) {r : Option Scanned} → Scans p old now r → r ≡ None → p ≡ malformed
+scanned_malformed (fields ss next) old now s e = absurd cc
+scanned_malformed malformed old now s e = refl
 
 module _ (text : List ℕ) where
   -- the texts by the places of a record that was counted are those of its first fields
-  pub scanned_texts : (p : Split) (old old' starts ends : List ℕ) {r : Scanned} {count next : ℕ} → Scans p old old' starts ends r → r ≡ Fields count next
-      → texts_in text count starts ends ≡ take field_count (texts_of text p)
+  pub scanned_texts : (p : Split) (old spans : List Span) {r : Option Scanned} {count next : ℕ} → Scans p old spans r → r ≡ Some (scanned count next)
+      → texts_in text count spans ≡ take field_count (texts_of text p)
   unfolding texts_in
-  scanned_texts (fields ss n) old old' starts ends {count = count} (r, a, b) e =
-      let long : count ≡ length (map (part text) ss) = simp length-map (cc) in
+  scanned_texts (fields ss n) old spans {count = count} {next = next} (r, a) e =
+      let same : scanned (length ss) n ≡ scanned count next = cc in
+      let long : count ≡ length (map (part text) ss) = simp length-map (ap (λ (s : Scanned). s.count) (sym same)) in
       rw long
-      (take-listed [] field_count (λ k. part text (span (get_or starts k 0) (get_or ends k 0))) (map (part text) ss)
+      (take-listed [] field_count (λ k. part text (get_or spans k (span 0 0))) (map (part text) ss)
       (λ k h q.
       let m : k < length ss = simp length-map at q in
-      rw (a, b, place_in (λ s. s.start) field_count ss old k (span 0 0) h m, place_in (λ s. s.end) field_count ss old' k (span 0 0) h m)
+      rw (a, placed field_count ss old k (span 0 0) h m)
       (sym (get_or-map_in (part text) ss k (span 0 0) [] m))))
-  scanned_texts malformed old old' starts ends s e = clash cc
+  scanned_texts malformed old spans s e = absurd cc
 
-  -- field_count fields are all in the lists
-  module _ (p : Split) (old old' starts ends : List ℕ) (r : Scanned) {ss : List Span} {next : ℕ} (s : Scans p old old' starts ends r) (is : p ≡ fields ss next) where
-    pub counted-texts : {count : ℕ} → length ss ≡ count → count ≡ field_count → texts_in text count starts ends ≡ map (part text) ss
+  -- field_count fields are all in the list
+  module _ (p : Split) (old spans : List Span) (r : Option Scanned) {ss : List Span} {next : ℕ} (s : Scans p old spans r) (is : p ≡ fields ss next) where
+    pub counted-texts : {count : ℕ} → length ss ≡ count → count ≡ field_count → texts_in text count spans ≡ map (part text) ss
     counted-texts counted whole =
         let t = rw is at s in
-        rw counted at (scanned_texts (fields ss next) old old' starts ends t t.0)
+        rw counted at (scanned_texts (fields ss next) old spans t t.0)
         ∙ take_all field_count (map (part text) ss) (simp length-map (omega arith))
 
-    pub all-texts : length ss ≡ field_count → texts_in text field_count starts ends ≡ map (part text) ss
-    all-texts long = counted-texts long refl
-
 -- the text of a field by its number
-module _ (text : List ℕ) (count : ℕ) (starts ends : List ℕ) (k : ℕ) where
-  hands_back : {r : List ℕ} → r ≡ get_or (texts_in text count starts ends) k [] → HandsBack text count starts ends k r
+module _ (text : List ℕ) (count : ℕ) (spans : List Span) (k : ℕ) where
+  hands_back : {r : List ℕ} → r ≡ get_or (texts_in text count spans) k [] → HandsBack text count spans k r
   hands_back e = record {
     by_places = e;
-    of_record = λ at next old old' s. e ∙ ap (λ l. get_or l k []) (scanned_texts text (record_at text at) old old' starts ends s refl);
+    of_record = λ at next old s. e ∙ ap (λ l. get_or l k []) (scanned_texts text (record_at text at) old spans s refl);
   }
 
-  pub hands_part : {r : List ℕ} → k < count → k < field_count → r ≡ part text (span (get_or starts k 0) (get_or ends k 0)) → HandsBack text count starts ends k r
+  pub hands_part : {r : List ℕ} → k < min count field_count → r ≡ part text (get_or spans k (span 0 0)) → HandsBack text count spans k r
   unfolding texts_in
-  hands_part h m e = hands_back (e ∙ sym (get_or-take count (list_to field_count _) k [] h ∙ get_or-to field_count _ k [] m))
+  hands_part h e = hands_back (e ∙ sym (get_or-take count (list_to field_count _) k [] (omega arith) ∙ get_or-to field_count _ k [] (omega arith)))
 
-  pub hands_none : min count field_count ≤ k → HandsBack text count starts ends k []
+  pub hands_none : min count field_count ≤ k → HandsBack text count spans k []
   unfolding texts_in
-  hands_none h = hands_back (sym (get_or-eq_default (texts_in text count starts ends) [] (simp (length-take, length_to) (omega arith))))
+  hands_none h = hands_back (sym (get_or-eq_default (texts_in text count spans) [] (simp (length-take, length_to) (omega arith))))

@@ -1,161 +1,93 @@
 -- What is read at a place of a text, by the bytes that stand there: one law for each way through the code. Assumes nothing.
-use mathlib.Core.Path.{◌≡◌, refl, sym, ◌∙◌}
-use mathlib.Core.Bool.{Bool, true, false, not, false≢true}
+use mathlib.Core.Path.{◌≡◌, refl, sym}
+use Rattle.std.specs.Prelude.{Option, Some, None}
+use mathlib.Core.Bool.{true, false, cond, ◌&&◌}
 use mathlib.Core.List.{List, [], ◌∷◌}
-use Prim.Native.Nat.{ℕ, suc, ◌+◌, ◌-◌, ◌≤◌, ◌<◌}
+use Prim.Native.Nat.{ℕ, ◌+◌, ◌-◌, ◌≤◌, ◌<◌, min}
 use native.Mathlib.Numerals.{add-one}
 use native.Mathlib.Omega.{arith}
-use borrow.Author.Tests.{ne_eqb, not-true, not-false}
-use lib.Dec.{eqb}
+use borrow.Author.Tests.{leb-true, leb-false}
+use lib.Dec.{eqb, leb}
+use Rattle.std.proofs.lemmas.List.{take_min}
+use Rattle.std.specs.List.{prefix_len}
 use lib.ListN.{length, get_or, take, drop, length-drop, drop_of_length-le}
-use lib.Seq.{drop-cons, take_all, take-nil}
-use Rattle.lists.proofs.Tests.{by_end}
+use lib.Seq.{drop-cons, drop-drop}
+use Rattle.lists.proofs.Tests.{by-test, either_way}
 use Rattle.rfc4180.specs.Grammar.{is_text, is_quotable}
-use Rattle.rfc4180.specs.Reading.{span, part, text_from, text_end, close_from, close_at, followed_by, followed, begins, opens, enclosed, field_at}
+use Rattle.rfc4180.specs.Reading.{piece, part, text_from, text_end, close_from, close_at, followed_by, followed, begins}
 use Rattle.rfc4180.specs.declared.Span.{Span}
-use Rattle.rfc4180.specs.declared.Found.{Found}
-use Rattle.rfc4180.specs.declared.Found.TheVariants.{At, Nothing}
-use Rattle.rfc4180.specs.declared.Piece.{Piece}
-use Rattle.rfc4180.specs.declared.Piece.TheVariants.{Field, Broken}
 
--- a byte that is no quote, before a list
-pub close_in : (i c : ℕ) (s : List ℕ) → eqb c 0x22 ≡ false → is_quotable c ≡ true → close_from i (c ∷ s) ≡ close_from (i + 1) s
-unfolding close_from
-close_in i c [] p q = rw p
-close_in i c (d ∷ s) p q = rw (p, q)
+-- TEXTDATA ends as many bytes further on as pass
+text_from-prefix : (i : ℕ) (s : List ℕ) → i + prefix_len is_text s ≡ text_from i s
+unfolding text_from
+text_from-prefix i [] = omega arith
+text_from-prefix i (c ∷ s) =
+    by-test (λ (n : ℕ). i + n ≡ text_from i (c ∷ s)) (is_text c)
+    (λ e. rw e (omega (arith, text_from-prefix (i + 1) s)))
+    (λ e. rw e (omega arith))
 
-close_out : (i c : ℕ) (s : List ℕ) → eqb c 0x22 ≡ false → is_quotable c ≡ false → close_from i (c ∷ s) ≡ Nothing
-unfolding close_from
-close_out i c [] p q = rw p
-close_out i c (d ∷ s) p q = rw (p, q)
-
-pub opens_past : (text : List ℕ) (i : ℕ) → length text ≤ i → false ≡ opens text i
-unfolding opens begins
-opens_past text i h = rw (drop_of_length-le text h)
+-- a quote that closes, by the first byte of a list and whether another quote stands next
+pub close_cons : (i c : ℕ) (s : List ℕ)
+    → close_from i (c ∷ s) ≡ cond (eqb c 0x22) (cond (begins 0x22 s) (close_from (i + 2) (drop 1 s)) (Some i)) (cond (is_quotable c) (close_from (i + 1) s) None)
+unfolding close_from begins
+close_cons i c [] = by-test (λ (r : Option ℕ). cond (eqb c 0x22) (Some i) None ≡ cond (eqb c 0x22) (Some i) r) (is_quotable c) (λ e. refl) (λ e. refl)
+close_cons i c (d ∷ s) = refl
 
 module _ (text : List ℕ) (i : ℕ) where
+  pub text_end-prefix : i + prefix_len is_text (drop i text) ≡ text_end text i
+  unfolding text_end
+  text_end-prefix = text_from-prefix i (drop i text)
+
   here : i < length text → drop i text ≡ get_or text i 0 ∷ drop (i + 1) text
   here h = rw add-one (drop-cons text i 0 h)
 
-  two : i < length text → i + 1 < length text → drop i text ≡ get_or text i 0 ∷ get_or text (i + 1) 0 ∷ drop (i + 2) text
-  two h k =
-      let e : i + 2 ≡ suc (i + 1) = omega arith in
-      here h ∙ rw (drop-cons text (i + 1) 0 k, e)
+  -- whether a byte stands at i
+  pub begins_at : (b : ℕ) → i < length text → begins b (drop i text) ≡ eqb (get_or text i 0) b
+  unfolding begins
+  begins_at b h = rw (here h)
 
-  -- TEXTDATA that ends at r
-  module _ (r : ℕ) (inv : text_end text i ≡ r) where
-    pub text-more : (t : Bool) → i < length text → t ≡ is_text (get_or text i 0) → not t ≡ false → text_end text (i + 1) ≡ r
-    unfolding text_end text_from
-    text-more t h e n = sym (rw (here h, ← e, not-false t n)) ∙ inv
+  pub begins_past : (b : ℕ) → length text ≤ i → begins b (drop i text) ≡ false
+  unfolding begins
+  begins_past b h = rw (drop_of_length-le text h)
 
-    pub text_stop : (t : Bool) → i < length text → t ≡ is_text (get_or text i 0) → not t ≡ true → i ≡ r
-    unfolding text_end text_from
-    text_stop t h e n = sym (rw (here h, ← e, not-true t n)) ∙ inv
+  -- the quote that closes from i on
+  pub close_turn : i < length text
+      → close_at text i ≡ cond (eqb (get_or text i 0) 0x22) (cond (begins 0x22 (drop (i + 1) text)) (close_at text (i + 2)) (Some i))
+      (cond (is_quotable (get_or text i 0)) (close_at text (i + 1)) None)
+  unfolding close_at
+  close_turn h =
+      let e : i + 1 + 1 ≡ i + 2 = omega arith in
+      rw (here h, ← e, ← drop-drop 1 (i + 1) text, e) (close_cons i _ _)
 
-    pub text_past : length text ≤ i → i ≡ r
-    unfolding text_end text_from
-    text_past h = sym (rw (drop_of_length-le text h)) ∙ inv
-
-  -- a quote that closes, at r
-  module _ (r : Found) (inv : close_at text i ≡ r) where
-    pub close_past : length text ≤ i → Nothing ≡ r
-    unfolding close_at close_from
-    close_past h = sym (rw (drop_of_length-le text h)) ∙ inv
-
-    pub close_more : (q : Bool) → i < length text → (get_or text i 0 ≡ 0x22 → ⊥) → q ≡ is_quotable (get_or text i 0) → q ≡ true → close_at text (i + 1) ≡ r
-    unfolding close_at
-    close_more q h p e t = sym (rw (here h) (close_in i _ _ (ne_eqb _ _ p) (sym e ∙ t))) ∙ inv
-
-    pub close_stop : (q : Bool) → i < length text → (get_or text i 0 ≡ 0x22 → ⊥) → q ≡ is_quotable (get_or text i 0) → q ≡ false → Nothing ≡ r
-    unfolding close_at
-    close_stop q h p e f = sym (rw (here h) (close_out i _ _ (ne_eqb _ _ p) (sym e ∙ f))) ∙ inv
-
-    pub close_last : i < length text → get_or text i 0 ≡ 0x22 → length text ≤ i + 1 → At i ≡ r
-    unfolding close_at close_from
-    close_last h p k = sym (rw (here h, drop_of_length-le text k, p)) ∙ inv
-
-    pub close_found : i < length text → get_or text i 0 ≡ 0x22 → i + 1 < length text → (get_or text (i + 1) 0 ≡ 0x22 → ⊥) → At i ≡ r
-    unfolding close_at close_from
-    close_found h p k q = sym (rw (two h k, p, ne_eqb _ _ q)) ∙ inv
-
-    pub close_pair : i < length text → get_or text i 0 ≡ 0x22 → i + 1 < length text → get_or text (i + 1) 0 ≡ 0x22 → close_at text (i + 1 + 1) ≡ r
-    unfolding close_at close_from
-    close_pair h p k q =
-        let e : i + 1 + 1 ≡ i + 2 = omega arith in
-        rw e (sym (rw (two h k, p, q)) ∙ inv)
+  pub close_past : length text ≤ i → close_at text i ≡ None
+  unfolding close_at close_from
+  close_past h = rw (drop_of_length-le text h)
 
   -- what follows a field that ended at i
-  module _ (s : Span) where
-    pub ends_past : length text ≤ i → Field s true i ≡ followed text s i
-    unfolding followed followed_by
-    ends_past h = rw (drop_of_length-le text h)
+  pub followed_past : (s : Span) → length text ≤ i → followed text s i ≡ Some (piece s true i)
+  unfolding followed followed_by
+  followed_past s h = rw (drop_of_length-le text h)
 
-    pub ends-comma : i < length text → get_or text i 0 ≡ 0x2C → Field s false (i + 1) ≡ followed text s i
-    unfolding followed followed_by
-    ends-comma h p = rw (here h, p)
+  pub followed_turn : (s : Span) → i < length text
+      → followed text s i ≡ cond (begins 0x2C (drop i text)) (Some (piece s false (i + 1))) (cond (begins 0x0D (drop i text) && begins 0x0A (drop (i + 1) text)) (Some (piece s true (i + 2))) None)
+  unfolding followed followed_by begins
+  followed_turn s h = rw (here h)
 
-    pub ends-line : i < length text → get_or text i 0 ≡ 0x0D → i + 1 < length text → get_or text (i + 1) 0 ≡ 0x0A → Field s true (i + 1 + 1) ≡ followed text s i
-    unfolding followed followed_by begins
-    ends-line h p k q =
-        let e : i + 1 + 1 ≡ i + 2 = omega arith in
-        rw (two h k, p, q, e)
+pub ruleset closings = (close_turn, close_past)
 
-    pub ends_half : i < length text → get_or text i 0 ≡ 0x0D → i + 1 < length text → (get_or text (i + 1) 0 ≡ 0x0A → ⊥) → Broken ≡ followed text s i
-    unfolding followed followed_by begins
-    ends_half h p k q = rw (two h k, p, ne_eqb _ _ q)
+pub ruleset followings = (followed_turn, followed_past)
 
-    pub ends-alone : i < length text → get_or text i 0 ≡ 0x0D → length text ≤ i + 1 → Broken ≡ followed text s i
-    unfolding followed followed_by begins
-    ends-alone h p k = rw (here h, drop_of_length-le text k, p)
-
-    pub ends-other : i < length text → (get_or text i 0 ≡ 0x2C → ⊥) → (get_or text i 0 ≡ 0x0D → ⊥) → Broken ≡ followed text s i
-    unfolding followed followed_by
-    ends-other h p q = rw (here h, ne_eqb _ _ p, ne_eqb _ _ q)
-
-  -- a quote that opens
-  pub opens-here : i < length text → eqb (get_or text i 0) 0x22 ≡ opens text i
-  unfolding opens begins
-  opens-here h = rw (here h)
-
-  pub opens_in : (o : Bool) → o ≡ opens text i → not o ≡ false → i < length text
-  opens_in o e p =
-      by_end (λ (k : ℕ). opens text k ≡ true → k < length text) (length text)
-      (λ k h t. h)
-      (λ k h t. absurd (false≢true (opens_past text k h ∙ t))) i
-      (sym e ∙ not-false o p)
-
-  -- the field at i, plain or in quotes
-  pub field_plain : (o : Bool) (e : ℕ) (r : Piece) → o ≡ opens text i → not o ≡ true → e ≡ text_end text i → r ≡ followed text (span i e) e → r ≡ field_at text i
-  unfolding field_at
-  field_plain o e r p q f g = g ∙ rw (f, sym p ∙ not-true o q)
-
-  module _ (o : Bool) (f : Found) (p : o ≡ opens text i) (q : not o ≡ false) (g : f ≡ close_at text (i + 1)) where
-    pub field_open : f ≡ Nothing → Broken ≡ field_at text i
-    unfolding field_at enclosed
-    field_open n = rw (← g, n, sym p ∙ not-false o q)
-
-    pub field_shut : (e : ℕ) (r : Piece) → f ≡ At e → r ≡ followed text (span (i + 1) e) (e + 1) → r ≡ field_at text i
-    unfolding field_at enclosed
-    field_shut e r n h = h ∙ rw (← g, n, sym p ∙ not-false o q)
-
--- a part that reaches past the end, and one with nothing in it
-module _ (text : List ℕ) (start end : ℕ) where
-  pub part-whole : take (end - start) (drop start text) ≡ part text (span start end)
-  unfolding part
-  part-whole = refl
-
-  pub part-rest : length text ≤ end → take (length text - start) (drop start text) ≡ part text (span start end)
-  unfolding part
-  part-rest h =
-      take_all (length text - start) (drop start text) (omega (arith, length-drop start text))
-      ∙ sym (take_all (end - start) (drop start text) (omega (arith, length-drop start text)))
-
-  pub part-empty : end ≤ start → ◌≡◌ {A = List ℕ} [] (part text (span start end))
-  unfolding part
-  part-empty h =
-      let z : end - start ≡ 0 = omega arith in
-      rw z
-
-  pub part_past : length text ≤ start → ◌≡◌ {A = List ℕ} [] (part text (span start end))
-  unfolding part
-  part_past h = rw (drop_of_length-le text h, take-nil)
+-- a part, cut off at the text's end
+pub part_cut : (text : List ℕ) (s : Span) (e : ℕ) → e ≡ min s.end (length text) → take (e - min s.start e) (drop (min s.start e) text) ≡ part text s
+unfolding part
+part_cut text s e cut =
+    let whole : part text s ≡ take (min (s.end - s.start) (length (drop s.start text))) (drop s.start text) = sym (take_min (s.end - s.start) (drop s.start text)) in
+    either_way (leb s.start e)
+    (λ t.
+    let a : min s.start e ≡ s.start = omega (arith, leb-true s.start e t) in
+    let b : min (s.end - s.start) (length (drop s.start text)) ≡ e - s.start = omega (arith, leb-true s.start e t, length-drop s.start text) in
+    rw a (sym (rw b at whole)))
+    (λ t.
+    let a : e - min s.start e ≡ 0 = omega (arith, leb-false s.start e t) in
+    let b : min (s.end - s.start) (length (drop s.start text)) ≡ 0 = omega (arith, leb-false s.start e t, length-drop s.start text) in
+    rw a (sym (rw b at whole)))

@@ -1,15 +1,22 @@
 -- Records read from a text by places, which the code promises; the crate `grammar` shows that they are those of `Grammar`. Assumes nothing.
 use mathlib.Core.{Path.◌≡◌, Bool.Bool, Bool.true, Bool.false, Bool.cond, Bool.◌&&◌, List.List, List.[], List.◌∷◌, List.map}
-use Rattle.std.specs.Prelude.{ℕ, zero, suc, ◌+◌, ◌-◌}
+use Rattle.std.specs.Prelude.{ℕ, zero, suc, ◌+◌, ◌-◌, Option, Some, None}
 use lib.{Dec.ltb, Dec.eqb, ListN.length, ListN.get_or, ListN.take, ListN.drop}
 use Rattle.lists.specs.Tables.{list_to, front}
 use Rattle.rfc4180.specs.Grammar.{is_text, is_quotable}
-use Rattle.rfc4180.specs.declared.{Span.Span, Found.Found, Found.TheVariants.At, Found.TheVariants.Nothing, Piece.Piece, Piece.TheVariants.Field, Piece.TheVariants.Broken, Scanned.Scanned}
-use Rattle.rfc4180.specs.declared.Scanned.{TheVariants.Fields, TheVariants.Malformed}
+use Rattle.rfc4180.specs.declared.{Span.Span, Piece.Piece, Scanned.Scanned}
 
 -- from a place to another
 abbrev pub span : ℕ → ℕ → Span
 span start end = record { start = start; end = end }
+
+-- a field at a span with what follows it: whether it is its record's last, and where the next field or record starts
+abbrev pub piece : Span → Bool → ℕ → Piece
+piece s last next = record { span = s; last = last; next = next }
+
+-- a record that was counted, and where the next one starts
+abbrev pub scanned : ℕ → ℕ → Scanned
+scanned count next = record { count = count; next = next }
 
 -- the bytes of a text from one place to another
 unfoldable pub part : List ℕ → Span → List ℕ
@@ -25,16 +32,16 @@ unfoldable pub text_end : List ℕ → ℕ → ℕ
 text_end text i = text_from i (drop i text)
 
 -- the first DQUOTE that no DQUOTE follows, in a list that stands at place i; before it, pairs of them and what may be quoted
-unfoldable pub close_from : ℕ → List ℕ → Found
-close_from i [] = Nothing
-close_from i (c ∷ []) = cond (eqb c 0x22) (At i) Nothing
+unfoldable pub close_from : ℕ → List ℕ → Option ℕ
+close_from i [] = None
+close_from i (c ∷ []) = cond (eqb c 0x22) (Some i) None
 close_from i (c ∷ d ∷ s) =
     let pair = close_from (i + 2) s in
     let on = close_from (i + 1) (d ∷ s) in
-    cond (eqb c 0x22) (cond (eqb d 0x22) pair (At i)) (cond (is_quotable c) on Nothing)
+    cond (eqb c 0x22) (cond (eqb d 0x22) pair (Some i)) (cond (is_quotable c) on None)
 
 -- the DQUOTE that closes a field whose text starts at place i
-unfoldable pub close_at : List ℕ → ℕ → Found
+unfoldable pub close_at : List ℕ → ℕ → Option ℕ
 close_at text i = close_from i (drop i text)
 
 -- whether a list begins with a byte
@@ -43,12 +50,12 @@ begins b [] = false
 begins b (c ∷ s) = eqb c b
 
 -- a field that ended at place i, where a list stands: a comma and another field, a line end, the text's end; nothing else may follow
-unfoldable pub followed_by : Span → ℕ → List ℕ → Piece
-followed_by s i [] = Field s true i
-followed_by s i (c ∷ l) = cond (eqb c 0x2C) (Field s false (i + 1)) (cond (eqb c 0x0D && begins 0x0A l) (Field s true (i + 2)) Broken)
+unfoldable pub followed_by : Span → ℕ → List ℕ → Option Piece
+followed_by s i [] = Some (piece s true i)
+followed_by s i (c ∷ l) = cond (eqb c 0x2C) (Some (piece s false (i + 1))) (cond (eqb c 0x0D && begins 0x0A l) (Some (piece s true (i + 2))) None)
 
 -- a field that ended at place i of a text, with what follows it there
-unfoldable pub followed : List ℕ → Span → ℕ → Piece
+unfoldable pub followed : List ℕ → Span → ℕ → Option Piece
 followed text s i = followed_by s i (drop i text)
 
 -- whether a DQUOTE stands at place i
@@ -56,12 +63,12 @@ unfoldable pub opens : List ℕ → ℕ → Bool
 opens text i = begins 0x22 (drop i text)
 
 -- the field whose text starts at place i, up to the quote that closes it
-unfoldable pub enclosed : List ℕ → ℕ → Found → Piece
-enclosed text i (At e) = followed text (span i e) (e + 1)
-enclosed text i Nothing = Broken
+unfoldable pub enclosed : List ℕ → ℕ → Option ℕ → Option Piece
+enclosed text i (Some e) = followed text (span i e) (e + 1)
+enclosed text i None = None
 
 -- the field at place i, in quotes or not, with what follows it
-unfoldable pub field_at : List ℕ → ℕ → Piece
+unfoldable pub field_at : List ℕ → ℕ → Option Piece
 field_at text i =
     let inQuotes = enclosed text (i + 1) (close_at text (i + 1)) in
     let plain = followed text (span i (text_end text i)) (text_end text i) in
@@ -78,10 +85,9 @@ push s (fields ss next) = fields (s ∷ ss) next
 push s malformed = malformed
 
 -- a field alone, or before those that are read from the next place
-abbrev pub on_piece : Piece → (ℕ → Split) → Split
-on_piece (Field s true next) more = fields (s ∷ []) next
-on_piece (Field s false next) more = push s (more next)
-on_piece Broken more = malformed
+abbrev pub on_piece : Option Piece → (ℕ → Split) → Split
+on_piece (Some p) more = cond p.last (fields (p.span ∷ []) p.next) (push p.span (more p.next))
+on_piece None more = malformed
 
 -- the record at place i, of at most k fields
 unfoldable pub fields_from : List ℕ → ℕ → ℕ → Split
@@ -96,29 +102,26 @@ record_at text i = fields_from text (suc (length text)) i
 abbrev pub field_count : ℕ
 field_count = 9
 
--- a record that was looked at: counted, with the places of its first fields at the front of two lists; outside the grammar, what they hold is free
-abbrev pub Scans : Split → List ℕ → List ℕ → List ℕ → List ℕ → Scanned → Type 0
-Scans (fields ss next) starts ends starts' ends' r =
-    (r ≡ Fields (length ss) next)
-    × (starts' ≡ front (map (λ s. s.start) (take field_count ss)) starts)
-    × (ends' ≡ front (map (λ s. s.end) (take field_count ss)) ends)
-Scans malformed starts ends starts' ends' r = r ≡ Malformed
+-- a record that was looked at: counted, with the places of its first fields at the front of a list; outside the grammar, what it holds is free
+abbrev pub Scans : Split → List Span → List Span → Option Scanned → Type 0
+Scans (fields ss next) old now r = (r ≡ Some (scanned (length ss) next)) × (now ≡ front (take field_count ss) old)
+Scans malformed old now r = r ≡ None
 
 -- the texts of a record's fields
 abbrev pub texts_of : List ℕ → Split → List (List ℕ)
 texts_of text (fields ss next) = map (part text) ss
 texts_of text malformed = []
 
--- the texts of the fields whose places are in two lists, as many as are counted
-unfoldable pub texts_in : List ℕ → ℕ → List ℕ → List ℕ → List (List ℕ)
-texts_in text count starts ends = take count (list_to field_count (λ k. part text (span (get_or starts k 0) (get_or ends k 0))))
+-- the texts of the fields whose places are in a list, as many as are counted
+unfoldable pub texts_in : List ℕ → ℕ → List Span → List (List ℕ)
+texts_in text count spans = take count (list_to field_count (λ k. part text (get_or spans k (span 0 0))))
 
 -- field k of a record that was read, of its first field_count: the part of the text between its separators, enclosing quotes dropped; else empty
-pub record HandsBack (text : List ℕ) (count : ℕ) (starts ends : List ℕ) (k : ℕ) (r : List ℕ) : Type 0 where
-  -- by the places in the lists
-  pub by_places : r ≡ get_or (texts_in text count starts ends) k []
-  -- of the record at any place that was looked at with these lists
-  pub of_record : (at next : ℕ) (old old' : List ℕ) → Scans (record_at text at) old old' starts ends (Fields count next)
+pub record HandsBack (text : List ℕ) (count : ℕ) (spans : List Span) (k : ℕ) (r : List ℕ) : Type 0 where
+  -- by the places in the list
+  pub by_places : r ≡ get_or (texts_in text count spans) k []
+  -- of the record at any place that was looked at with this list
+  pub of_record : (at next : ℕ) (old : List Span) → Scans (record_at text at) old spans (Some (scanned count next))
       → r ≡ get_or (take field_count (texts_of text (record_at text at))) k []
 
 -- a record of a file: the texts of its fields, or outside the grammar

@@ -1,9 +1,9 @@
-// RFC 4180 in one pass: a field, what follows it, a record. A byte is written as its number: 10 LF, 13 CR, 34 the quote, 44 the comma.
+// RFC 4180 in one pass: a field, what follows it, a record.
 #![tactic(auto)]
 
-ghost use Rattle.std.specs.Prelude.{◌≡◌, set};
+ghost use Rattle.std.specs.Prelude.{◌≡◌, ◌<◌, IsTrue, length, drop};
 ghost use Rattle.rfc4180.specs.Grammar.{is_text, is_quotable};
-ghost use Rattle.rfc4180.specs.Reading.{span, part, text_end, close_at, followed, opens, field_at, record_at, Scans, HandsBack};
+ghost use Rattle.rfc4180.specs.Reading.{part, text_end, close_at, begins, followed, field_at, record_at, Scans, HandsBack};
 
 // The number of fields that a record of the file has.
 pub const FIELDS: usize = 9;
@@ -15,216 +15,156 @@ pub struct Span {
     pub end: usize,
 }
 
-// A place, or none.
-#[derive(Clone, Copy)]
-pub enum Found {
-    At(usize),
-    Nothing,
-}
-
 // A field with what follows it: where it stands, whether it is its record's last, and where the next field or record starts.
 #[derive(Clone, Copy)]
-pub enum Piece {
-    Field(Span, bool, usize),
-    Broken,
+pub struct Piece {
+    pub span: Span,
+    pub last: bool,
+    pub next: usize,
 }
 
-// A record that was looked at: how many fields it has and where the next record starts; or one outside the grammar.
+// A record of the grammar that was looked at: how many fields it has and where the next record starts.
 #[derive(Clone, Copy)]
-pub enum Scanned {
-    Fields { count: usize, next: usize },
-    Malformed,
+pub struct Scanned {
+    pub count: usize,
+    pub next: usize,
 }
 
 // TEXTDATA: what is printable, but for the quote and the comma.
+#[tactic(auto, using(std::proofs::lemmas::Bool::Decides::nat_tests), unfolding(crate::specs::Grammar::is_text, lists::specs::Choice::within))]
 fn text_data(c: u8) -> bool
     ensures { result ≡ is_text c }
 {
-    match c {
-        34 => false,
-        44 => false,
-        32..=126 => true,
-        _ => false,
-    }
+    matches!(c, b' '..=b'!' | b'#'..=b'+' | b'-'..=b'~')
 }
 
 // TEXTDATA / COMMA / CR / LF
+#[tactic(auto, using(std::proofs::lemmas::Bool::Decides::nat_tests), unfolding(crate::specs::Grammar::is_quotable))]
 fn quotable(c: u8) -> bool
     ensures { result ≡ is_quotable c }
 {
-    if c == 44 {
-        return true;
-    }
-    if c == 13 {
-        return true;
-    }
-    if c == 10 {
-        return true;
-    }
-    text_data(c)
+    matches!(c, b',' | b'\r' | b'\n') || text_data(c)
 }
 
 // Where TEXTDATA from a place on ends.
 fn text_end(text: &[u8], at: usize) -> usize
     ensures { result ≡ text_end text.now at }
 {
-    let mut i = at;
-    while i < text.len() {
-        if !text_data(text[i]) {
-            return i;
-        }
-        i += 1;
-    }
-    i
+    let rest = &text[at.min(text.len())..];
+    at + rest.iter().take_while(|c| text_data(**c)).count()
+}
+
+// Whether a byte stands at a place.
+fn stands(text: &[u8], at: usize, byte: u8) -> bool
+    ensures there { result ≡ begins byte (drop at text.now) }
+    ensures inside { IsTrue result → at < length text.now }
+{
+    text.get(at) == Some(&byte)
 }
 
 // The quote that closes a field whose text starts at a place.
-fn close(text: &[u8], at: usize) -> Found
+#[tactic(auto, using(crate::proofs::Scan::closings))]
+fn close(text: &[u8], at: usize) -> Option<usize>
     ensures { result ≡ close_at text.now at }
 {
     let mut i = at;
+    // By one byte, or two where they are doubled quotes: no iterator steps so.
     while i < text.len() {
-        let c = text[i];
-        if c == 34 {
-            let j = i + 1;
-            if j < text.len() {
-                if text[j] == 34 {
-                    i = j + 1;
-                } else {
-                    return Found::At(i);
-                }
-            } else {
-                return Found::At(i);
+        if text[i] == b'"' {
+            if !stands(text, i + 1, b'"') {
+                return Some(i);
             }
+            i += 2;
         } else {
-            if quotable(c) {
-                i = i + 1;
-            } else {
-                return Found::Nothing;
+            if !quotable(text[i]) {
+                return None;
             }
+            i += 1;
         }
     }
-    Found::Nothing
+    None
 }
 
 // A field that ended, with what stands there: a comma, a line end, the text's end, or what no field may have after it.
-fn ended(text: &[u8], start: usize, end: usize, at: usize) -> Piece
-    ensures { result ≡ followed text.now (span start end) at }
+#[tactic(auto, using(crate::proofs::Scan::followings))]
+fn ended(text: &[u8], span: Span, at: usize) -> Option<Piece>
+    ensures { result ≡ followed text.now span at }
 {
-    let span = Span { start, end };
     if at >= text.len() {
-        return Piece::Field(span, true, at);
+        Some(Piece {
+            span,
+            last: true,
+            next: at,
+        })
+    } else if stands(text, at, b',') {
+        Some(Piece {
+            span,
+            last: false,
+            next: at + 1,
+        })
+    } else if stands(text, at, b'\r') && stands(text, at + 1, b'\n') {
+        Some(Piece {
+            span,
+            last: true,
+            next: at + 2,
+        })
+    } else {
+        None
     }
-    let mark = text[at];
-    let j = at + 1;
-    if mark == 44 {
-        return Piece::Field(span, false, j);
-    }
-    if mark == 13 {
-        if j < text.len() {
-            if text[j] == 10 {
-                return Piece::Field(span, true, j + 1);
-            }
-        }
-    }
-    Piece::Broken
-}
-
-// Whether a quote opens the field at a place.
-fn opens(text: &[u8], at: usize) -> bool
-    ensures { result ≡ opens text.now at }
-{
-    if at < text.len() {
-        return text[at] == 34;
-    }
-    false
 }
 
 // The field at a place, in quotes or not.
-fn field_at(text: &[u8], at: usize) -> Piece
+#[tactic(auto, using(crate::proofs::Pieces::close_in_text), unfolding(crate::specs::Reading::field_at, crate::specs::Reading::opens, crate::specs::Reading::enclosed))]
+fn field_at(text: &[u8], at: usize) -> Option<Piece>
     ensures { result ≡ field_at text.now at }
 {
-    if !opens(text, at) {
+    if stands(text, at, b'"') {
+        let start = at + 1;
+        let end = close(text, start)?;
+        ended(text, Span { start, end }, end + 1)
+    } else {
         let end = text_end(text, at);
-        return ended(text, at, end, end);
-    }
-    let start = at + 1;
-    let found = close(text, start);
-    let Found::At(end) = found else {
-        return Piece::Broken;
-    };
-    ended(text, start, end, end + 1)
-}
-
-// Puts a number at place k of a list. A list that has no such place is left as it is.
-fn put(list: &mut [usize], k: usize, number: usize)
-    ensures { list.new ≡ set list.old k number }
-{
-    if k < list.len() {
-        list[k] = number;
+        ended(text, Span { start: at, end }, end)
     }
 }
 
-// The record at a place. Where its first FIELDS fields start and end goes into the lent lists; the count goes on past FIELDS.
-pub fn record(
-    text: &[u8],
-    at: usize,
-    starts: &mut [usize; FIELDS],
-    ends: &mut [usize; FIELDS],
-) -> Scanned
-    ensures { Scans (record_at text.now at) starts.old ends.old
-        starts.new ends.new result }
+// The record at a place. Where its first FIELDS fields stand goes into the lent list; the count goes on past FIELDS.
+pub fn record(text: &[u8], at: usize, spans: &mut [Span; FIELDS]) -> Option<Scanned>
+    ensures { Scans (record_at text.now at) spans.old spans.new result }
 {
-    let mut count: usize = 0;
-    let mut i = at;
+    let mut count = 0;
+    let mut next = at;
     loop {
-        let piece = field_at(text, i);
-        let Piece::Field(span, last, next) = piece else {
-            return Scanned::Malformed;
-        };
-        put(starts, count, span.start);
-        put(ends, count, span.end);
-        count += 1;
-        if last {
-            return Scanned::Fields { count, next };
+        let piece = field_at(text, next)?;
+        if count < FIELDS {
+            spans[count] = piece.span;
         }
-        i = next;
+        count += 1;
+        next = piece.next;
+        if piece.last {
+            return Some(Scanned { count, next });
+        }
     }
 }
 
 // The bytes of a text from one place to another.
-fn part(text: &[u8], start: usize, end: usize) -> &[u8]
-    ensures { result.now ≡ part text.now (span start end) }
+#[tactic(auto, using(crate::proofs::Scan::part_cut))]
+fn part(text: &[u8], span: Span) -> &[u8]
+    ensures { result.now ≡ part text.now span }
 {
-    let n = text.len();
-    if n <= start {
-        return &text[..0];
-    }
-    if end <= start {
-        return &text[..0];
-    }
-    if end < n {
-        return &text[start..end];
-    }
-    &text[start..]
+    let end = span.end.min(text.len());
+    &text[span.start.min(end)..end]
 }
 
 // Field k of a record that was read, from the count and the places that `record` gave: the part of the text between its separators, enclosing
 // quotes dropped. A k that the record does not have, or from FIELDS on, gives the empty part.
-pub fn field<'a, 'b>(
-    text: &'a [u8],
-    count: usize,
-    starts: &'b [usize; FIELDS],
-    ends: &'b [usize; FIELDS],
-    k: usize,
-) -> &'a [u8]
-    ensures { HandsBack text.now count starts.now ends.now k result.now }
+// The count stands beside the places: it goes on past FIELDS, and field k of a record that has none is the empty part.
+pub fn field<'a, 'b>(text: &'a [u8], count: usize, spans: &'b [Span; FIELDS], k: usize) -> &'a [u8]
+    ensures { HandsBack text.now count spans.now k result.now }
 {
-    if k >= count {
-        return &text[..0];
+    if k < count.min(FIELDS) {
+        part(text, spans[k])
+    } else {
+        &text[..0]
     }
-    if k >= FIELDS {
-        return &text[..0];
-    }
-    part(text, starts[k], ends[k])
 }

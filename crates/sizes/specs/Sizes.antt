@@ -3,11 +3,17 @@ use mathlib.Core.{Path.◌≡◌, Bool.Bool, Bool.not, Bool.◌||◌, List.List}
 use Rattle.std.specs.Prelude.{ℕ, ◌*◌, ◌/◌, ◌≤◌}
 use lib.{Dec.ltb, Dec.eqb, ListN.get_or}
 use Rattle.lists.specs.{Choice.first_of, Choice.some, Tables.Each}
+use Rattle.columns.specs.Columns.{Columns, count_in, holding_sizes, line_sizes}
 use Rattle.proposal.specs.Outcome.{size_faults}
 
 -- as many entries as the first of several columns has whole eight bytes
 unfoldable pub entries_of : List ℕ → ℕ
 entries_of columns = get_or columns 0 0 / 8
+
+-- holdings and lines are counted by the sizes as by the columns
+pub record Counted (c : Columns) : Type 0 where
+  pub holdings : entries_of (holding_sizes c) ≡ count_in c.holdings
+  pub lines : entries_of (line_sizes c) ≡ count_in c.lines
 
 -- each has eight bytes for each of them, and none besides
 abbrev pub Equal : List ℕ → Type 0

@@ -20,8 +20,9 @@ use Rattle.proposal.specs.Outcome.{pair_faults}
 use Rattle.proposal.proofs.Places.{pair-listed}
 use Rattle.tally.specs.Lines.{refusals, taken, applied_of, Ready}
 use Rattle.tally.specs.declared.Tally.{Tally}
-use Rattle.tally.specs.declared.Applied.{Applied}
-use Rattle.tally.specs.declared.Applied.TheVariants.{Taken, Refused}
+use Rattle.std.specs.Prelude.{Result, Ok, Err}
+use Rattle.refusals.specs.Refusals.{number_of, numbered}
+use Rattle.refusals.specs.declared.Refusal.{Refusal}
 
 -- one line adds no more units and no more saving than the highest rates times the highest value
 pub record High (amount rate save : ℕ) : Type 0 where
@@ -32,7 +33,7 @@ pub high : {amount rate save : ℕ} → amount ≤ value_limit → rate ≤ rate
 high amount rate save = record { units = mul-le-mul rate amount; saving = mul-le-mul save amount }
 
 -- what is answered by a number is the first refusal, whatever follows; what is answered by a tally, no refusal
-first-refused : (fs : List (Bool × ℕ)) (t : Tally) (n : ℕ) → Refused n ≡ first_of (refusals fs) (Taken t) → Listed fs → (n ≡ first_of fs 0) × (1 ≤ n)
+first-refused : (fs : List (Bool × ℕ)) (t : Tally) (n : ℕ) → Err n ≡ first_of (refusals fs) (Ok t) → Listed fs → (n ≡ first_of fs 0) × (1 ≤ n)
 unfolding refusals first_of
 first-refused [] t n e h =
     let z : ◌≡◌ {A = ℕ} 0 1 = cc in
@@ -42,7 +43,7 @@ first-refused ((true, m) ∷ fs) t n e h =
     (z, rw z h.0)
 first-refused ((false, m) ∷ fs) t n e h = first-refused fs t n e h.1
 
-first_taken : (fs : List (Bool × ℕ)) (t t' : Tally) → Taken t' ≡ first_of (refusals fs) (Taken t) → None fs × (t' ≡ t)
+first_taken : (fs : List (Bool × ℕ)) (t t' : Tally) → Ok t' ≡ first_of (refusals fs) (Ok t) → None fs × (t' ≡ t)
 unfolding refusals first_of
 first_taken [] t t' e = (tt, cc)
 first_taken ((true, m) ∷ fs) t t' e =
@@ -65,12 +66,12 @@ pub record Took (t : Tally) (amount : ℕ) (long short : Leg) (after : Tally) : 
   pub apart : long ≡ short → ⊥
   pub high : High amount (pair_rate_of long short) (saving_rate_of long short)
 
-module _ (t : Tally) (amount : ℕ) (long short : Leg) {r : Applied} (applies : r ≡ applied_of t amount long short) where
-  pub refused : {n : ℕ} → r ≡ Refused n → (n ≡ first_of (pair_faults long short amount t.long t.short) 0) × (1 ≤ n)
+module _ (t : Tally) (amount : ℕ) (long short : Leg) {r : Result Tally Refusal} (applies : numbered r ≡ applied_of t amount long short) where
+  pub refused : {x : Refusal} → r ≡ Err x → (number_of x ≡ first_of (pair_faults long short amount t.long t.short) 0)
   unfolding applied_of
-  refused {n} e = first-refused _ (taken t amount long short) n (rw e at applies) (pair-listed _ _ _ _ _)
+  refused {x} e = (first-refused _ (taken t amount long short) (number_of x) (rw e at applies) (pair-listed _ _ _ _ _)).0
 
-  pub took : {after : Tally} → Ready t long short → r ≡ Taken after → Took t amount long short after
+  pub took : {after : Tally} → Ready t long short → r ≡ Ok after → Took t amount long short after
   unfolding applied_of
   took {after} ready e =
       let (none, is) = first_taken (pair_faults long short amount t.long t.short) (taken t amount long short) after (rw e at applies) in
@@ -86,10 +87,10 @@ module _ (t : Tally) (amount : ℕ) (long short : Leg) {r : Applied} (applies : 
 
 -- what refuses a line on its two legs, each where those before it do not
 module _ (t : Tally) (amount : ℕ) (long short : Leg) where
-  pub not_long : (long.side ≡ 0 → ⊥) → Refused 12 ≡ applied_of t amount long short
+  pub not_long : (long.side ≡ 0 → ⊥) → Err 12 ≡ applied_of t amount long short
   unfolding applied_of refusals pair_faults first_of is_long is_short
   not_long n = search tests
 
-  pub not_short : long.side ≡ 0 → (short.side ≡ 1 → ⊥) → Refused 12 ≡ applied_of t amount long short
+  pub not_short : long.side ≡ 0 → (short.side ≡ 1 → ⊥) → Err 12 ≡ applied_of t amount long short
   unfolding applied_of refusals pair_faults first_of is_long is_short
   not_short l n = search tests

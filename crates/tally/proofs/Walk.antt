@@ -6,7 +6,7 @@ use native.Mathlib.Nat.{le_trans, sub-le}
 use native.Mathlib.Numerals.{add-one}
 use native.Mathlib.Omega.{arith}
 use lib.ListN.{length, get_or, set}
-use borrow.Author.Tests.{lt-ltb, ne_eqb}
+use borrow.Author.Tests.{lt-ltb}
 use Rattle.lists.specs.Choice.{first_of}
 use Rattle.lists.specs.Tables.{sum_of, list_to, front}
 use Rattle.lists.proofs.Tests.{tests}
@@ -25,11 +25,14 @@ use Rattle.proposal.specs.Outcome.{fault_answer, at_place, pair_faults, line_fau
 use Rattle.proposal.proofs.Places.{zero_at, first-at, line-listed}
 use Rattle.proposal.proofs.PricedBooks.{saving_rate_lem}
 use Rattle.packed.specs.Packed.{Legs, LegsOf, Same, AtMost, entry, leg_at}
-use Rattle.tally.specs.Lines.{taken, applied_of, Ready, stopped_at, taken_lines, Takes}
+use Rattle.tally.specs.Lines.{taken, applied_of, Ready, taken_lines, Takes}
 use Rattle.tally.specs.declared.Tally.{Tally}
-use Rattle.tally.specs.declared.Applied.{Applied}
-use Rattle.tally.specs.declared.Applied.TheVariants.{Taken, Refused}
-use Rattle.tally.specs.declared.Walked.{Walked}
+use Rattle.std.specs.Prelude.{Result, Ok, Err}
+use Rattle.refusals.specs.Refusals.{number_of, numbered}
+use Rattle.refusals.specs.declared.Refusal.{Refusal, TheVariants.NotInBook}
+use Rattle.refusals.proofs.Refusals.{number-from_1}
+use Rattle.proposal.specs.Outcome.{make_fault}
+use Rattle.proposal.specs.declared.Fault.{Fault}
 use Rattle.tally.proofs.OneLine.{refused, took}
 use Rattle.tally.proofs.Left.{length-written, written_at, written_past}
 
@@ -89,11 +92,11 @@ module _ {n : ℕ} {legs before : List ℕ} {line : ℕ → Line} {m : ℕ} {lef
       (λ k q. walk.going.kept k (omega (arith, h.0.count)))
 
   -- after m lines without fault
-  pub ends : {r : Walked} → m ≤ i → m ≤ 512 → r ≡ stopped_at 0 0 u s → Takes n legs before (list_to m line) left r
-  unfolding stopped_at fault_answer lines_faults taken_lines
-  ends h few e =
+  pub ends : m ≤ i → m ≤ 512 → Takes n legs before (list_to m line) left (record { units = u; saving = s }) (Ok tt)
+  unfolding fault_answer lines_faults taken_lines
+  ends h few =
       let all : i ≡ m = omega (arith, walk.few) in
-      rw e (record {
+      record {
         walks = λ b legs values.
             let w = walk.walking b (legs, values) in
             record {
@@ -104,7 +107,7 @@ module _ {n : ℕ} {legs before : List ℕ} {line : ℕ → Line} {m : ℕ} {lef
             };
         units-high = omega (arith, walk.going.units);
         left_high = walk.going.high;
-      })
+      }
 
 -- a turn of the walk
 pub record Turn (n : ℕ) (legs before : List ℕ) (line : ℕ → Line) (m : ℕ) (left : List ℕ) (u s i : ℕ) : Type 0 where
@@ -128,31 +131,33 @@ tally_at left l u s = record { long = get_or left l.long 0; short = get_or left 
 
 module _ {n : ℕ} {legs before : List ℕ} {line : ℕ → Line} {m : ℕ} {left : List ℕ} {u s i : ℕ} (turn : Turn n legs before line m left u s i) where
   -- at a line with a fault
-  pub stops : {number : ℕ} {r : Walked} → ((b : PricedBook) → Holds n legs before b → number ≡ first_of (line_faults b (list_to i line) (line i)) 0)
-      → (number ≡ 0 → ⊥) → r ≡ stopped_at number i u s → Takes n legs before (list_to m line) left r
-  unfolding stopped_at fault_answer lines_faults taken_lines
-  stops {number} first some e = rw e (record {
+  pub stops : {x : Refusal} {f : Fault} → ((b : PricedBook) → Holds n legs before b → number_of x ≡ first_of (line_faults b (list_to i line) (line i)) 0)
+      → f ≡ make_fault x i 0 → Takes n legs before (list_to m line) left (record { units = u; saving = s }) (Err f)
+  unfolding fault_answer lines_faults taken_lines
+  stops {x} first e = rw e (record {
     walks = λ b legs values.
         let w = turn.walk.walking b (legs, values) in
+        let some : number_of x ≡ 0 → ⊥ = λ z. omega (arith, number-from_1 x) in
         record {
           fault = rw (length_to m line)
-              (sym (passed_first w.passed (make_answer 0 0 0) turn.more (λ z. rw (at_line_lem b line m i turn.more) (first-at i _ number (first b (legs, values)) some z))));
-          units = rw (ne_eqb number 0 some, take-to m i line (omega (arith, turn.more))) w.units;
-          saving = rw (ne_eqb number 0 some, take-to m i line (omega (arith, turn.more))) w.saving;
-          left = rw (ne_eqb number 0 some, take-to m i line (omega (arith, turn.more))) (left-list turn.room turn.walk b (legs, values));
+              (sym (passed_first w.passed (make_answer 0 0 0) turn.more (λ z. rw (at_line_lem b line m i turn.more) (first-at i _ (number_of x) (first b (legs, values)) some z))));
+          units = rw (take-to m i line (omega (arith, turn.more))) w.units;
+          saving = rw (take-to m i line (omega (arith, turn.more))) w.saving;
+          left = rw (take-to m i line (omega (arith, turn.more))) (left-list turn.room turn.walk b (legs, values));
         };
     units-high = omega (arith, turn.walk.going.units, turn.more, turn.few);
     left_high = turn.walk.going.high;
   })
 
   -- a number that is not in the book
-  pub no_long : {r : Walked} → n ≤ (line i).long → r ≡ stopped_at 11 i u s → Takes n legs before (list_to m line) left r
+  pub no_long : {f : Fault} → n ≤ (line i).long → f ≡ make_fault NotInBook i 0 → Takes n legs before (list_to m line) left (record { units = u; saving = s }) (Err f)
   unfolding line_faults first_of
-  no_long h = stops (λ b holds. rw holds.0.count (search tests)) (λ z. omega arith)
+  no_long h = stops (λ b holds. rw holds.0.count (search tests))
 
-  pub no_short : {r : Walked} → (line i).long < n → n ≤ (line i).short → r ≡ stopped_at 11 i u s → Takes n legs before (list_to m line) left r
+  pub no_short : {f : Fault} → (line i).long < n → n ≤ (line i).short → f ≡ make_fault NotInBook i 0
+      → Takes n legs before (list_to m line) left (record { units = u; saving = s }) (Err f)
   unfolding line_faults first_of
-  no_short p h = stops (λ b holds. rw holds.0.count (search tests)) (λ z. omega arith)
+  no_short p h = stops (λ b holds. rw holds.0.count (search tests))
 
   module _ {l : Line} {long short : Leg} (read : Read n legs (line i) l long short) where
     pub ready : Ready (tally_at left l u s) long short
@@ -181,15 +186,13 @@ module _ {n : ℕ} {legs before : List ℕ} {line : ℕ → Line} {m : ℕ} {lef
           let q : l.short < b.count = omega (arith, holds.0.count, read.second) in
           rw (read.is, lt-ltb l.long b.count p, lt-ltb l.short b.count q, first_leg, second_leg, ← remains l.long p, ← remains l.short q)
 
-    module _ {r : Applied} (applies : r ≡ applied_of (tally_at left l u s) l.amount long short) where
+    module _ {r : Result Tally Refusal} (applies : numbered r ≡ applied_of (tally_at left l u s) l.amount long short) where
       -- the line is refused
-      pub refuses : {number : ℕ} {w : Walked} → r ≡ Refused number → w ≡ stopped_at number i u s → Takes n legs before (list_to m line) left w
-      refuses e f =
-          let (first, some) = refused (tally_at left l u s) l.amount long short applies e in
-          stops (λ b holds. first ∙ sym (line_faults_lem b holds)) (λ z. omega (arith, some)) f
+      pub refuses : {x : Refusal} {f : Fault} → r ≡ Err x → f ≡ make_fault x i 0 → Takes n legs before (list_to m line) left (record { units = u; saving = s }) (Err f)
+      refuses e f = stops (λ b holds. refused (tally_at left l u s) l.amount long short applies e ∙ sym (line_faults_lem b holds)) f
 
       -- the line is taken off
-      pub goes : {after : Tally} → r ≡ Taken after
+      pub goes : {after : Tally} → r ≡ Ok after
           → Walk n legs before line m (set (set left l.long after.long) l.short after.short) after.units after.saving (i + 1)
       unfolding taken list_to
       goes e =

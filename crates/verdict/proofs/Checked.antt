@@ -1,11 +1,10 @@
 -- The check phase by phase: what each phase found decides, or hands on to the next. Assumes nothing.
-use mathlib.Core.Path.{◌≡◌, sym, ap, subst, ◌∙◌}
+use mathlib.Core.Path.{◌≡◌, refl, sym, ap, subst, ◌∙◌}
 use mathlib.Core.Bool.{Bool, true}
 use mathlib.Core.List.{List, [], ◌∷◌, ◌++◌, map}
 use Prim.Native.Nat.{ℕ, ◌+◌, ◌*◌, ◌/◌, ◌≤◌, ◌<◌}
 use native.Mathlib.Omega.{arith}
 use lib.ListN.{length, get_or, length-map}
-use borrow.Author.Tests.{eq-eqb}
 use Rattle.lists.specs.Choice.{first_of}
 use Rattle.lists.specs.Tables.{Each, list_to, front, sum_to}
 use Rattle.lists.proofs.Entries.{each_so, each-parts, each_back}
@@ -18,19 +17,22 @@ use Rattle.holding.specs.Holding.{head_fault, account_of, headed_of}
 use Rattle.holding.specs.declared.Row.{Row}
 use Rattle.holding.specs.declared.Head.{Head}
 use Rattle.holding.specs.declared.Account.{Account}
-use Rattle.holding.specs.declared.Headed.{Headed}
-use Rattle.holding.specs.declared.Headed.TheVariants.{For, NoAccount}
-use Rattle.holding.proofs.Heads.{head-valued, head-account, account-head, no_account}
+use Rattle.std.specs.Prelude.{Result, Ok, Err}
+use Rattle.std.proofs.lemmas.Result.{IfOk-at_ok}
+use Rattle.refusals.specs.Refusals.{number_of, refused_by, numbered}
+use Rattle.refusals.specs.declared.Refusal.{Refusal, TheVariants.Totals as Seventeen}
+use Rattle.refusals.proofs.Refusals.{refused, number-from_1}
+use Rattle.holding.proofs.Heads.{head-valued, account-head}
 use Rattle.pairing.specs.Pairing.{pair_units, saving, priced_total}
 use Rattle.ranking.specs.Ranking.{ranking_of}
 use Rattle.ranking.proofs.Ranking.{ranking-same}
 use Rattle.words.specs.Words.{word_at, entries, decode}
-use Rattle.columns.specs.Columns.{Columns, make_columns, column_at, count_in, rows_in, lines_in, submission, holding_sizes, line_sizes}
-use Rattle.columns.proofs.Columns.{column-entries}
-use Rattle.sizes.specs.Sizes.{entries_of, differ, length_fault}
+use Rattle.columns.specs.Columns.{Columns, column_at, count_in, rows_in, lines_in, submission, holding_sizes, line_sizes}
+use Rattle.columns.proofs.Submitted.{column-entries}
+use Rattle.sizes.specs.Sizes.{Counted, differ, length_fault}
 use Rattle.sizes.proofs.Sizes as sizes
 use Rattle.packed.specs.Packed.{Legs, LegsOf, Same, entry}
-use Rattle.proposal.specs.Submission.{Submission, account_in, PricedBook, book_of, terms_of, priced, remainder, margin, remainders_of, margins_of, units_of, ranked, RoundedUp}
+use Rattle.proposal.specs.Submission.{Submission, account_in, PricedBook, book_of, terms_of, priced, remainder, margin, remainders_of, margins_of, units_of, ranked}
 use Rattle.proposal.specs.Outcome.{make_fault, fault_answer, book_faults, lines_faults, uncovered_pairs, totals_faults, from_pairs, from_lines, from_book, from_head, first_fault, accepted}
 use Rattle.proposal.specs.declared.Fault.{Fault}
 use Rattle.proposal.proofs.PricedBooks.{value-at}
@@ -38,23 +40,20 @@ use Rattle.proposal.proofs.Clear.{book_numbered, lines_numbered, uncovered_numbe
 use Rattle.proposal.proofs.Stages.{refuses, passes, from-lengths, unvalued, valued, totals_differ_lem, totals-equal}
 use Rattle.positions.specs.Opens.{Opened, Opens}
 use Rattle.tally.specs.Lines.{LinesLent, taken_lines, Walks, Takes}
-use Rattle.tally.specs.declared.Walked.{Walked}
+use Rattle.tally.specs.declared.Sums.{Sums}
 use Rattle.cover.specs.Cover.{Priced, Finds, Valued, Totals}
 use Rattle.figures.specs.Margins.{MarginsLent, left_margin, Margins}
-use Rattle.verdict.specs.Judges.{refusal_of, outcome_in, Scratch, make_scratch, Judges}
-use Rattle.verdict.specs.declared.Verdict.{Verdict}
-use Rattle.verdict.specs.declared.Verdict.TheVariants.{Accepted}
-use Rattle.verdict.proofs.Judged.{refusal-judged, figures-judged}
+use Rattle.verdict.specs.Judges.{outcome_in, Scratch, make_scratch, Found}
+
+-- what is refused has a number
+some_number : {A : Type 0} {r : Result A Fault} {f : Fault} → r ≡ Err f → number_of f.refusal ≡ 0 → ⊥
+some_number {f = f} e z = omega (arith, number-from_1 f.refusal)
 
 -- columns of as many bytes each have an entry for each number below n
 long-enough : (n : ℕ) (columns : List (List ℕ)) → Each (λ c. length c ≡ 8 * n) columns → Each (λ c. 8 * n ≤ length c) columns
 long-enough n columns h = each_so (λ c. length c ≡ 8 * n) (λ c. 8 * n ≤ length c) (λ c e. omega arith) columns h
 
--- columns of holdings and of lines, the first of each by name
-module _ (two : Bool) (head : Head) (side : List ℕ) (rest : List (List ℕ)) (price long : List ℕ) (more : List (List ℕ)) where
-  abbrev c : Columns
-  c = make_columns (side ∷ rest) price (long ∷ more)
-
+module _ (two : Bool) (head : Head) (c : Columns) where
   abbrev s : Submission
   s = submission head c
 
@@ -62,56 +61,56 @@ module _ (two : Bool) (head : Head) (side : List ℕ) (rest : List (List ℕ)) (
   b = priced s
 
   abbrev n : ℕ
-  n = length side / 8
+  n = count_in c.holdings
 
   abbrev figures : Answer
   figures = accepted b s.lines
 
   rows_are : length s.rows ≡ n
-  unfolding submission rows_in count_in entries
+  unfolding submission rows_in
   rows_are = length_to n _
 
-  lines_are : length s.lines ≡ length long / 8
-  unfolding submission lines_in count_in entries
-  lines_are = length_to (length long / 8) _
+  lines_are : length s.lines ≡ count_in c.lines
+  unfolding submission lines_in
+  lines_are = length_to (count_in c.lines) _
 
   count-is : b.count ≡ n
   unfolding priced book_of
   count-is = rows_are
 
-  -- a fault that is the outcome
-  refused-by : (f : Fault) {before after : Scratch} {r : Verdict} → (f.number ≡ 0 → ⊥) → outcome_in two head c ≡ fault_answer f → r ≡ refusal_of f → Judges two head c before after r
-  refused-by f h e g = rw g (refusal-judged two head c _ _ f h e)
-
   -- lengths that fit: the head decides
   pub record Sized : Type 0 where
     pub few : n ≤ 256
-    pub few-lines : length long / 8 ≤ 512
-    pub each : Each (λ column. 8 * n ≤ length column) (side ∷ rest)
-    pub prices : length price ≡ 8 * n
-    pub each_line : Each (λ column. 8 * (length long / 8) ≤ length column) (long ∷ more)
+    pub few-lines : count_in c.lines ≤ 512
+    pub each : Each (λ column. 8 * n ≤ length column) c.holdings
+    pub prices : length c.price ≡ 8 * n
+    pub each_line : Each (λ column. 8 * count_in c.lines ≤ length column) c.lines
     pub next : outcome_in two head c ≡ first_of (from_head s) figures
 
-  module _ {number : ℕ} (found : number ≡ length_fault (holding_sizes c) (line_sizes c) two) where
-    pub lengths_refused : {before after : Scratch} {r : Verdict} → (number ≡ 0 → ⊥) → r ≡ refusal_of (make_fault number 0 0) → Judges two head c before after r
-    unfolding fault_answer outcome_in
-    lengths_refused h =
-        refused-by (make_fault number 0 0) h
-        (sizes.refused (holding_sizes c) (line_sizes c) two s number (unfold holding_sizes entries_of in rows_are) (unfold line_sizes entries_of in lines_are) found h)
+  module _ {r : Result (Unit {0}) Refusal} (counted : Counted c) (found : refused_by r ≡ length_fault (holding_sizes c) (line_sizes c) two) where
+    pub lengths_refused : {x : Refusal} (before after : Scratch) {f : Fault} → r ≡ Err x → f ≡ make_fault x 0 0 → Found two head c before after (Err f)
+    unfolding fault_answer outcome_in Found
+    lengths_refused {x} before after e g =
+        let number : number_of x ≡ length_fault (holding_sizes c) (line_sizes c) two = ap refused_by (sym e) ∙ found in
+        rw g
+        (sizes.refused (holding_sizes c) (line_sizes c) two s (number_of x) (rows_are ∙ sym counted.holdings) (lines_are ∙ sym counted.lines) number
+        (λ z. omega (arith, number-from_1 x)))
 
-    pub lengths_fit : number ≡ 0 → Sized
-    unfolding outcome_in holding_sizes line_sizes entries_of
+    pub lengths_fit : {x : Unit {0}} → r ≡ Ok x → Sized
+    unfolding outcome_in holding_sizes line_sizes
     lengths_fit e =
-        let fit = sizes.fits {holdings = holding_sizes c} {lines = line_sizes c} {two = two} (sym found ∙ e) in
-        let (columns, last) = each-parts (λ c. length c ≡ 8 * n) (side ∷ rest) (price ∷ [])
-        (each_back (λ size. size ≡ 8 * n) length ((side ∷ rest) ++ (price ∷ [])) fit.equal_holdings) in
+        let fit = sizes.fits {holdings = holding_sizes c} {lines = line_sizes c} {two = two} (sym found ∙ ap refused_by e) in
+        let (columns, last) = each-parts (λ column. length column ≡ 8 * n) c.holdings (c.price ∷ [])
+        (each_back (λ size. size ≡ 8 * n) length (c.holdings ++ (c.price ∷ [])) (rw counted.holdings at fit.equal_holdings)) in
         record {
-          few = fit.few-holdings;
-          few-lines = fit.few-lines;
-          each = long-enough n (side ∷ rest) columns;
+          few = rw counted.holdings at fit.few-holdings;
+          few-lines = rw counted.lines at fit.few-lines;
+          each = long-enough n c.holdings columns;
           prices = last.0;
-          each_line = long-enough (length long / 8) (long ∷ more) (each_back (λ size. size ≡ 8 * (length long / 8)) length (long ∷ more) fit.equal_lines);
-          next = from-lengths (differ (holding_sizes c) (line_sizes c)) two s fit.alike fit.room (omega (arith, rows_are, fit.few-holdings)) (omega (arith, lines_are, fit.few-lines));
+          each_line = long-enough (count_in c.lines) c.lines (each_back (λ size. size ≡ 8 * count_in c.lines) length c.lines (rw counted.lines at fit.equal_lines));
+          next =
+              from-lengths (differ (holding_sizes c) (line_sizes c)) two s fit.alike fit.room (omega (arith, rows_are, counted.holdings, fit.few-holdings))
+              (omega (arith, lines_are, counted.lines, fit.few-lines));
         }
 
   -- the account of a head: the holdings decide
@@ -121,18 +120,17 @@ module _ (two : Bool) (head : Head) (side : List ℕ) (rest : List (List ℕ)) (
     pub valued : is_date a.date ≡ true
     pub next : outcome_in two head c ≡ first_of (from_book s) figures
 
-  module _ (z : Sized) {headed : Headed} (found : headed ≡ headed_of head) where
-    pub head_refused : {number : ℕ} {before after : Scratch} {r : Verdict} → headed ≡ NoAccount → number ≡ head_fault head → r ≡ refusal_of (make_fault number 0 0)
-        → Judges two head c before after r
-    unfolding fault_answer submission
-    head_refused {number} none e =
-        let fault : number ≡ 0 → ⊥ = λ n. no_account (sym none ∙ found ∙ head-account head (sym e ∙ n)) in
-        refused-by (make_fault number 0 0) fault (unvalued s _ figures z.next (λ n. fault (e ∙ n)) ∙ ap (λ (n : ℕ). make_answer n 0 0) (sym e))
+  module _ (z : Sized) {headed : Result Account Refusal} (number : refused_by headed ≡ head_fault head) (found : numbered headed ≡ headed_of head) where
+    pub head_refused : {x : Refusal} (before after : Scratch) {f : Fault} → headed ≡ Err x → f ≡ make_fault x 0 0 → Found two head c before after (Err f)
+    unfolding fault_answer submission Found
+    head_refused {x} before after e g =
+        let fault : number_of x ≡ head_fault head = ap refused_by (sym e) ∙ number in
+        rw g (unvalued s _ figures z.next (λ n. refused e (number ∙ n)) ∙ ap (λ (n : ℕ). make_answer n 0 0) (sym fault))
 
-    pub head_dated : {a : Account} → headed ≡ For a → Dated a
+    pub head_dated : {a : Account} → headed ≡ Ok a → Dated a
     unfolding submission account_of
     head_dated {a} e =
-        let (none, account) = account-head head (sym found ∙ e) in
+        let (none, account) = account-head head found e in
         record { sized = z; account = account; valued = rw account (head-valued head none); next = valued s _ figures z.next none }
 
   -- a book without fault: the lines decide
@@ -142,27 +140,31 @@ module _ (two : Bool) (head : Head) (side : List ℕ) (rest : List (List ℕ)) (
     pub opened : Opened (account_in s) s.rows s.prices left₀ legs left
     pub next : outcome_in two head c ≡ first_of (from_lines s) figures
 
-  module _ {a : Account} (z : Dated a) {left₀ legs left : List ℕ} (room : n ≤ length left₀) {f : Fault} (opens : Opens a (side ∷ rest) price left₀ legs left f) where
+  module _ {a : Account} (z : Dated a) {left₀ legs left : List ℕ} (room : n ≤ length left₀) {r : Result (Unit {0}) Fault} (opens : Opens a c.holdings c.price left₀ legs left r) where
     -- the account that was opened is the submission's
-    opens_it : Opens (account_in s) (side ∷ rest) price left₀ legs left f
-    opens_it = subst (λ (x : Account). Opens x (side ∷ rest) price left₀ legs left f) z.account opens
+    opens_it : Opens (account_in s) c.holdings c.price left₀ legs left r
+    opens_it = subst (λ (x : Account). Opens x c.holdings c.price left₀ legs left r) z.account opens
 
-    book_found : fault_answer f ≡ first_fault (book_faults (account_in s) s.rows s.prices)
+    book_found : fault_answer r ≡ first_fault (book_faults (account_in s) s.rows s.prices)
     unfolding submission
     book_found = opens_it.fault
 
-    pub book_refused : {before after : Scratch} {r : Verdict} → (f.number ≡ 0 → ⊥) → r ≡ refusal_of f → Judges two head c before after r
-    unfolding fault_answer
-    book_refused h = refused-by f h (refuses _ (book_faults (account_in s) s.rows s.prices) (from_lines s) figures z.next _ book_found h)
+    pub book_refused : (before after : Scratch) {f : Fault} → r ≡ Err f → Found two head c before after (Err f)
+    unfolding fault_answer Found
+    book_refused before after e =
+        let found = rw e at book_found in
+        refuses _ (book_faults (account_in s) s.rows s.prices) (from_lines s) figures z.next _ found (some_number e)
 
-    pub book_held : f.number ≡ 0 → Held left₀ legs left
+    pub book_held : {x : Unit {0}} → r ≡ Ok x → Held left₀ legs left
     unfolding fault_answer submission
-    book_held e = record {
-      sized = z.sized;
-      room = room;
-      opened = opens_it.opened e;
-      next = passes _ (book_faults (account_in s) s.rows s.prices) (from_lines s) figures z.next _ book_found (book_numbered two two s) e;
-    }
+    book_held e =
+        let found = rw e at book_found in
+        record {
+          sized = z.sized;
+          room = room;
+          opened = IfOk-at_ok _ e opens_it.opened;
+          next = passes _ (book_faults (account_in s) s.rows s.prices) (from_lines s) figures z.next _ found (book_numbered two two s) refl;
+        }
 
   -- what is lent of such a book
   module _ {left₀ legs left : List ℕ} (h : Held left₀ legs left) where
@@ -191,12 +193,12 @@ module _ (two : Bool) (head : Head) (side : List ℕ) (rest : List (List ℕ)) (
     left_long : length left ≡ length left₀
     left_long = ap (λ (xs : List ℕ). length xs) values_are ∙ front_long values left₀ (omega (arith, values_length, h.room))
 
-    price_is : Same n (word_at price) b.price
+    price_is : Same n (word_at c.price) b.price
     unfolding priced book_of submission decode entries
-    price_is k q = sym (get_or-to (length price / 8) (word_at price) k 0 (omega (arith, h.sized.prices)))
+    price_is k q = sym (get_or-to (length c.price / 8) (word_at c.price) k 0 (omega (arith, h.sized.prices)))
 
-    pub lines_lent : LinesLent n legs left (long ∷ more)
-    unfolding count_in entries priced
+    pub lines_lent : LinesLent n legs left c.lines
+    unfolding priced
     lines_lent = record {
       bounded = bounded;
       held = omega (arith, left_long, h.room);
@@ -205,7 +207,7 @@ module _ (two : Bool) (head : Head) (side : List ℕ) (rest : List (List ℕ)) (
       each = h.sized.each_line;
     }
 
-    pub prices_lent : Priced n legs price
+    pub prices_lent : Priced n legs c.price
     unfolding priced
     prices_lent = record {
       bounded = bounded;
@@ -215,17 +217,17 @@ module _ (two : Bool) (head : Head) (side : List ℕ) (rest : List (List ℕ)) (
 
     -- a holding's value is in the fifth column
     abbrev fifth : List ℕ
-    fifth = column_at (side ∷ rest) 4
+    fifth = column_at c.holdings 4
 
     value_in : Same n (word_at fifth) b.value
-    unfolding entries
+    unfolding count_in entries
     value_in k q = sym (value-at s k ∙ ((column-entries head c).holding k q).value)
 
-    entries_are : entries price ≡ n
+    entries_are : entries c.price ≡ n
     unfolding entries
     entries_are = omega (arith, h.sized.prices)
 
-    pub values_lent : 8 * n ≤ length fifth → Valued price fifth
+    pub values_lent : 8 * n ≤ length fifth → Valued c.price fifth
     unfolding priced
     values_lent long = record {
       count = omega (arith, entries_are, h.sized.few);
@@ -235,23 +237,27 @@ module _ (two : Bool) (head : Head) (side : List ℕ) (rest : List (List ℕ)) (
     }
 
     -- the lines, whose remainders go over the values
-    module _ {left' : List ℕ} {w : Walked} (takes : Takes n legs left (lines_in (long ∷ more)) left' w) where
-      walks : Walks b s.lines left left' w
+    module _ {left' : List ℕ} {w : Sums} {r : Result (Unit {0}) Fault} (takes : Takes n legs left (lines_in c.lines) left' w r) where
+      walks : Walks b s.lines left left' w r
       unfolding submission
       walks = takes.walks b legs_of value_is
 
-      pub line_refused : {before after : Scratch} {r : Verdict} → (w.fault.number ≡ 0 → ⊥) → r ≡ refusal_of w.fault → Judges two head c before after r
-      unfolding fault_answer
-      line_refused g = refused-by w.fault g (refuses _ (lines_faults b s.lines) (from_pairs s) figures h.next _ walks.fault g)
+      pub line_refused : (before after : Scratch) {f : Fault} → r ≡ Err f → Found two head c before after (Err f)
+      unfolding fault_answer Found
+      line_refused before after e =
+          let found = rw e at walks.fault in
+          refuses _ (lines_faults b s.lines) (from_pairs s) figures h.next _ found (some_number e)
 
-      module _ (e : w.fault.number ≡ 0) where
-        all_taken : taken_lines w s.lines ≡ s.lines
+      module _ {x : Unit {0}} (e : r ≡ Ok x) where
+        all_taken : taken_lines r s.lines ≡ s.lines
         unfolding taken_lines
-        all_taken = rw (eq-eqb _ _ e)
+        all_taken = rw e refl
 
         pub lines_next : outcome_in two head c ≡ first_of (from_pairs s) figures
         unfolding fault_answer
-        lines_next = passes _ (lines_faults b s.lines) (from_pairs s) figures h.next _ walks.fault (lines_numbered two two s) e
+        lines_next =
+            let found = rw e at walks.fault in
+            passes _ (lines_faults b s.lines) (from_pairs s) figures h.next _ found (lines_numbered two two s) refl
 
         remainders-length : length (remainders_of b s.lines) ≡ n
         unfolding remainders_of
@@ -270,19 +276,23 @@ module _ (two : Bool) (head : Head) (side : List ℕ) (rest : List (List ℕ)) (
         }
 
         -- the pairs
-        module _ (g : Fault) (finds : Finds n legs price g) where
+        module _ {g : Result (Unit {0}) Fault} (finds : Finds n legs c.price g) where
           pair_found : fault_answer g ≡ first_fault (uncovered_pairs b)
           pair_found = finds.found b legs_of price_is
 
-          pub pair_refused : {before after : Scratch} {r : Verdict} → (g.number ≡ 0 → ⊥) → r ≡ refusal_of g → Judges two head c before after r
-          unfolding fault_answer
-          pair_refused q = refused-by g q (refuses _ (uncovered_pairs b) (totals_faults b s.lines) figures lines_next _ pair_found q)
+          pub pair_refused : (before after : Scratch) {f : Fault} → g ≡ Err f → Found two head c before after (Err f)
+          unfolding fault_answer Found
+          pair_refused before after q =
+              let found = rw q at pair_found in
+              refuses _ (uncovered_pairs b) (totals_faults b s.lines) figures lines_next _ found (some_number q)
 
           -- the totals
-          module _ (none : g.number ≡ 0) {total : ℕ} (totals : Totals price fifth total) where
+          module _ {y : Unit {0}} (none : g ≡ Ok y) {total : ℕ} (totals : Totals c.price fifth total) where
             next : outcome_in two head c ≡ first_of (totals_faults b s.lines) figures
             unfolding fault_answer
-            next = passes _ (uncovered_pairs b) (totals_faults b s.lines) figures lines_next _ pair_found (uncovered_numbered two two s) none
+            next =
+                let found = rw none at pair_found in
+                passes _ (uncovered_pairs b) (totals_faults b s.lines) figures lines_next _ found (uncovered_numbered two two s) refl
 
             total_found : total ≡ priced_total (terms_of b) b.price
             total_found = totals.total b (count-is ∙ sym entries_are) (rw entries_are price_is) (rw entries_are value_in)
@@ -290,10 +300,9 @@ module _ (two : Bool) (head : Head) (side : List ℕ) (rest : List (List ℕ)) (
             saving_found : w.saving ≡ saving (terms_of b) s.lines
             saving_found = walks.saving ∙ rw all_taken
 
-            pub totals_refused : {before after : Scratch} {r : Verdict} → (total ≡ w.saving → ⊥) → r ≡ refusal_of (make_fault 17 0 0) → Judges two head c before after r
-            unfolding fault_answer
-            totals_refused q =
-                refused-by (make_fault 17 0 0) (λ z. omega arith) (totals_differ_lem b s.lines _ figures next (λ z. q (total_found ∙ z ∙ sym saving_found)))
+            pub totals_refused : (before after : Scratch) {f : Fault} → (total ≡ w.saving → ⊥) → f ≡ make_fault Seventeen 0 0 → Found two head c before after (Err f)
+            unfolding fault_answer Found
+            totals_refused before after q g = rw g (totals_differ_lem b s.lines _ figures next (λ z. q (total_found ∙ z ∙ sym saving_found)))
 
             -- the figures
             module _ {margins₀ margins : List ℕ} {sum : ℕ} (found : Margins n legs left' margins₀ margins sum) where
@@ -336,13 +345,15 @@ module _ (two : Bool) (head : Head) (side : List ℕ) (rest : List (List ℕ)) (
                   let long = length_to n (left_margin legs left') in
                   omega (arith, ap (λ (xs : List ℕ). length xs) found.each, front_long (list_to n (left_margin legs left')) margins₀ (omega (arith, long)), q)
 
-              pub all_judged : {ranks₀ ranks : List ℕ} {units cents : ℕ} → ranks ≡ front (ranking_of (entry margins) n) ranks₀ → total ≡ w.saving
-                  → units ≡ w.units + sum → RoundedUp units cents
-                  → Judges two head c (make_scratch left₀ margins₀ ranks₀) (make_scratch left' margins ranks) (Accepted units cents)
-              all_judged {ranks₀} {units = units} {cents} p q u r =
-                  figures-judged two head c _ _ units cents (totals-equal b s.lines _ figures next (sym total_found ∙ q ∙ saving_found)) (u ∙ units_are) r
-                  record {
-                    remainders = remainders_are;
-                    margins = found.each ∙ ap (λ (xs : List ℕ). front xs margins₀) listed;
-                    ranking = p ∙ ap (λ (xs : List ℕ). front xs ranks₀) ranking_is;
-                  }
+              pub all_found : (ranks₀ : List ℕ) {ranks : List ℕ} {units : ℕ} → ranks ≡ front (ranking_of (entry margins) n) ranks₀ → total ≡ w.saving
+                  → units ≡ w.units + sum → Found two head c (make_scratch left₀ margins₀ ranks₀) (make_scratch left' margins ranks) (Ok units)
+              unfolding Found
+              all_found ranks₀ p q u = (
+                totals-equal b s.lines _ figures next (sym total_found ∙ q ∙ saving_found),
+                u ∙ units_are,
+                record {
+                  remainders = remainders_are;
+                  margins = found.each ∙ ap (λ (xs : List ℕ). front xs margins₀) listed;
+                  ranking = p ∙ ap (λ (xs : List ℕ). front xs ranks₀) ranking_is;
+                },
+              )

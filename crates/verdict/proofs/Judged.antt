@@ -3,6 +3,10 @@ use mathlib.Core.Path.{◌≡◌, sym}
 use mathlib.Core.Bool.{Bool}
 use mathlib.Core.List.{List, []}
 use Prim.Native.Nat.{ℕ}
+use native.Mathlib.Omega.{arith}
+use Rattle.std.specs.Prelude.{Err}
+use Rattle.refusals.specs.Refusals.{number_of}
+use Rattle.refusals.proofs.Refusals.{number-from_1}
 use lib.ListN.{length}
 use borrow.Author.Tests.{ne_eqb}
 use Rattle.ranking.proofs.Ranking.{ranking, ranking-length}
@@ -34,15 +38,17 @@ module _ (s : Submission) where
   all-ranked = (ranking (margin (priced s) s.lines) (priced s).count).order
 
 module _ (two : Bool) (h : Head) (c : Columns) (before after : Scratch) where
-  pub refusal-judged : (f : Fault) → (f.number ≡ 0 → ⊥) → outcome_in two h c ≡ fault_answer f → Judges two h c before after (refusal_of f)
+  pub refusal-judged : (f : Fault) → outcome_in two h c ≡ fault_answer {A = ℕ} (Err f) → Judges two h c before after (refusal_of f)
   unfolding fault_answer verdict_of outcome_in
-  refusal-judged f n e = record {
-    answer = sym e;
-    verdict = rw (e, ne_eqb f.number 0 n);
-    worked = λ z. absurd (n z);
-    order = all-ranked (submission h c);
-    keeps = rw (← e) (demands (differ (holding_sizes c) (line_sizes c)) two (submission h c));
-  }
+  refusal-judged f e =
+      let n : number_of f.refusal ≡ 0 → ⊥ = λ z. omega (arith, number-from_1 f.refusal) in
+      record {
+        answer = sym e;
+        verdict = rw (e, ne_eqb (number_of f.refusal) 0 n);
+        worked = λ z. absurd (n z);
+        order = all-ranked (submission h c);
+        keeps = rw (← e) (demands (differ (holding_sizes c) (line_sizes c)) two (submission h c));
+      }
 
   pub figures-judged : (units cents : ℕ) → outcome_in two h c ≡ accepted (priced (submission h c)) (submission h c).lines → units ≡ units_of (priced (submission h c)) (submission h c).lines
       → RoundedUp units cents → Worked h c before after → Judges two h c before after (Accepted units cents)

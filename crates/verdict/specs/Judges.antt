@@ -1,13 +1,15 @@
 -- Document 01, "An answer is either accepted with its figures or refused with number and places": what the check promises of columns. Assumes nothing.
 use mathlib.Core.{Path.◌≡◌, Bool.Bool, Bool.cond, List.List, List.[]}
-use Rattle.std.specs.Prelude.{ℕ, ◌≤◌}
+use Rattle.std.specs.Prelude.{ℕ, ◌≤◌, Result, Ok, Err}
 use lib.{Dec.eqb, ListN.length}
 use Rattle.lists.specs.Tables.{front}
 use Rattle.article.specs.Answer.{Answer, make_answer}
 use Rattle.holding.specs.declared.Head.{Head}
+use Rattle.refusals.specs.Refusals.{number_of}
 use Rattle.columns.specs.Columns.{Columns, submission, holding_sizes, line_sizes}
 use Rattle.sizes.specs.Sizes.{differ}
 use Rattle.proposal.specs.{Submission.priced, Submission.remainders_of, Submission.margins_of, Submission.ranked, Submission.InRankingOrder, Outcome.outcome, Demands.Demands}
+use Rattle.proposal.specs.{Submission.units_of, Outcome.fault_answer, Outcome.accepted}
 use Rattle.proposal.specs.declared.Fault.{Fault}
 use Rattle.verdict.specs.declared.Verdict.{Verdict, TheVariants.Accepted, TheVariants.Refused}
 
@@ -26,7 +28,7 @@ written a xs = cond (eqb a.number 0) xs []
 
 -- a refusal: its number and places
 abbrev pub refusal_of : Fault → Verdict
-refusal_of f = Refused f.number f.place f.second
+refusal_of f = Refused (number_of f.refusal) f.place f.second
 
 -- whether 1 holds of the columns, and the outcome of what they hold with a head; `two` says whether 2 holds of what is lent
 abbrev pub columns_differ : Columns → Bool
@@ -56,6 +58,12 @@ pub record Worked (h : Head) (c : Columns) (before after : Scratch) : Type 0 whe
   pub remainders : after.left ≡ front (remainders_of (priced (submission h c)) (submission h c).lines) before.left
   pub margins : after.margins ≡ front (margins_of (priced (submission h c)) (submission h c).lines) before.margins
   pub ranking : after.ranks ≡ front (ranked (priced (submission h c)) (submission h c).lines) before.ranks
+
+-- what it finds: the first fault is the outcome; where there is none the figures are, and total units are at hand
+unfoldable pub Found : Bool → Head → Columns → Scratch → Scratch → Result ℕ Fault → Type 0
+Found two h c before after (Ok units) =
+    (outcome_in two h c ≡ accepted (priced (submission h c)) (submission h c).lines) × (units ≡ units_of (priced (submission h c)) (submission h c).lines) × Worked h c before after
+Found two h c before after (Err f) = outcome_in two h c ≡ fault_answer {A = ℕ} (Err f)
 
 -- what the check promises
 pub record Judges (two : Bool) (h : Head) (c : Columns) (before after : Scratch) (r : Verdict) : Type 0 where

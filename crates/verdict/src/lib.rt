@@ -1,15 +1,18 @@
 // The check: columns in, the answer out. Nothing is presumed of the columns; what it works on are lists that are lent to it.
 #![tactic(auto)]
 
-ghost use Rattle.std.specs.Prelude.{◌≡◌, [], ◌∷◌};
-ghost use Rattle.words.specs.Words.{entries};
-ghost use Rattle.columns.specs.Columns.{make_columns};
-ghost use Rattle.verdict.specs.Judges.{refusal_of, ScratchRoom, make_scratch, Judges};
+ghost use Rattle.std.specs.Prelude.{◌≡◌};
+ghost use Rattle.columns.specs.Columns.{count_in};
+ghost use Rattle.verdict.specs.Judges.{refusal_of, ScratchRoom, make_scratch, Judges, Found};
+ghost use Rattle.verdict.specs.Scratch.{scratch_in, HasRoom, SameLists};
 
-use holding::{Head, Headed};
+use columns::Columns;
+use holding::Head;
 use proposal::Fault;
+use refusals::Refusal;
+use tally::Sums;
 
-// Accepted with its figures, or refused with number and places.
+// Accepted with its figures, or refused with number and places: document 01 has it so.
 #[derive(Clone, Copy)]
 pub enum Verdict {
     Accepted {
@@ -23,89 +26,78 @@ pub enum Verdict {
     },
 }
 
+// The lists that the check works on, with an entry in each for each holding.
+#[derive(Drop)]
+pub struct Scratch<'a> {
+    pub legs: &'a mut [u64],
+    pub left: &'a mut [u64],
+    pub margins: &'a mut [u64],
+    pub ranks: &'a mut [u64],
+}
+
 fn refused(fault: Fault) -> Verdict
     ensures { result ≡ refusal_of fault }
 {
     Verdict::Refused {
-        number: fault.number,
+        number: fault.refusal.number(),
         place: fault.place,
         second: fault.second,
     }
 }
 
-// The check, in the documents' order: 1, 3, 9, 2; 24 on the valuation date, 26 on the letter; each holding in turn; each line in turn; 16; 17; else the figures. `two`
-// says whether 2 holds of what is lent. Where it accepts, `left` has each holding's remainder, `margins` the margin of that, and `ranks` the ranking.
-pub fn check(
+// The first fault, in the documents' order: 1, 3, 9, 2; 24 on the valuation date, 26 on the letter; each holding in turn; each line in turn; 16; 17; else total units.
+// The lists of the scratch come one by one: of a struct of them, one is not read while another is lent to be written.
+fn total_units(
     two: bool,
     head: Head,
-    side: &[u8],
-    kind: &[u8],
-    issuer: &[u8],
-    maturity: &[u8],
-    value: &[u8],
-    price: &[u8],
-    currency: &[u8],
-    rating: &[u8],
-    long: &[u8],
-    short: &[u8],
-    amount: &[u8],
+    columns: &Columns<'_>,
     legs: &mut [u64],
     left: &mut [u64],
     margins: &mut [u64],
     ranks: &mut [u64],
-) -> Verdict
-    requires { ScratchRoom (entries side.now) legs.old left.old margins.old ranks.old }
-    ensures { Judges two head (make_columns
-        (side.now ∷ kind.now ∷ issuer.now ∷ maturity.now ∷ value.now ∷ currency.now ∷ rating.now ∷ [])
-        price.now
-        (long.now ∷ short.now ∷ amount.now ∷ []))
-        (make_scratch left.old margins.old ranks.old)
-        (make_scratch left.new margins.new ranks.new) result }
+) -> Result<u64, Fault>
+    requires { ScratchRoom (count_in columns.now.holdings) legs.old left.old margins.old ranks.old }
+    ensures { Found two head columns.now (make_scratch left.old margins.old ranks.old) (make_scratch left.new margins.new ranks.new) result }
 {
-    let number = sizes::lengths(
-        side.len(),
-        kind.len(),
-        issuer.len(),
-        maturity.len(),
-        value.len(),
-        price.len(),
-        currency.len(),
-        rating.len(),
-        long.len(),
-        short.len(),
-        amount.len(),
-        two,
-    );
-    if number != 0 {
-        return refused(proposal::fault_at(number, 0, 0));
-    }
-    let headed = holding::account_of(head);
-    let Headed::For(account) = headed else {
-        return refused(proposal::fault_at(holding::head_fault(head), 0, 0));
+    sizes::lengths(columns, two)?;
+    let account = holding::account_of(head)?;
+    let n = columns.holdings();
+    let mut sums = Sums {
+        units: 0,
+        saving: 0,
     };
-    let n = side.len() / 8;
-    let fault = positions::open(
-        account, side, kind, issuer, maturity, value, price, currency, rating, legs, left,
-    );
-    if fault.number != 0 {
-        return refused(fault);
+    positions::open(account, columns, legs, left)?;
+    tally::take_lines(n, legs, left, columns, &mut sums)?;
+    cover::first_uncovered(n, legs, columns.price)?;
+    if cover::priced_total(columns.price, columns.value) != sums.saving {
+        return Err(proposal::fault_at(Refusal::Totals, 0, 0));
     }
-    let walked = tally::take_lines(n, legs, left, long, short, amount);
-    let fault = walked.fault;
-    if fault.number != 0 {
-        return refused(fault);
-    }
-    let pair = cover::first_uncovered(n, legs, price);
-    if pair.number != 0 {
-        return refused(pair);
-    }
-    if cover::priced_total(price, value) != walked.saving {
-        return refused(proposal::fault_at(17, 0, 0));
-    }
-    let units = walked.units + figures::margins_of(n, legs, left, margins);
+    let units = sums.units + figures::margins_of(n, legs, left, margins);
     ranking::rank(n, margins, ranks);
-    Verdict::Accepted {
-        units,
-        cents: figures::cents_of(units),
+    Ok(units)
+}
+
+// The check's answer; `two` says whether 2 holds of what is lent. Where it accepts, `left` has each holding's remainder, `margins` the margin of that, and `ranks`
+// the ranking.
+pub fn check(two: bool, head: Head, columns: &Columns<'_>, scratch: &mut Scratch<'_>) -> Verdict
+    requires { HasRoom (count_in columns.now.holdings) scratch.old }
+    ensures judges { Judges two head columns.now (scratch_in scratch.old) (scratch_in scratch.new) result }
+    ensures same { SameLists scratch.old scratch.new }
+{
+    let found = total_units(
+        two,
+        head,
+        columns,
+        scratch.legs,
+        scratch.left,
+        scratch.margins,
+        scratch.ranks,
+    );
+    match found {
+        Ok(units) => Verdict::Accepted {
+            units,
+            cents: figures::cents_of(units),
+        },
+        Err(fault) => refused(fault),
     }
 }

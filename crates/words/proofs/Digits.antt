@@ -1,70 +1,62 @@
--- Numbers by their digits, one digit at a time, as they are read and written. Assumes nothing.
-use mathlib.Core.Path.{◌≡◌, refl, sym, ap, ◌∙◌}
-use mathlib.Core.List.{List, [], ◌∷◌}
-use Prim.Native.Nat.{ℕ, zero, suc, ◌+◌, ◌*◌, ◌/◌, ◌%◌, ◌≤◌}
-use native.Mathlib.Numerals.{add-one}
-use native.Mathlib.Omega.{arith}
-use lib.ListN.{length, get_or, set, take, drop, get_or-eq_default, drop_of_length-le}
-use lib.Seq.{sets, sets-eq, drop-cons, take-nil}
-use Rattle.lists.proofs.Tests.{by_end}
-use Rattle.words.specs.Words.{number, little_endian, word_at, with_word}
+-- Numbers by their digits to the base 256, as the library's conversions read and write them. Assumes nothing.
+use Rattle.std.proofs.Common.{◌≡◌, ℕ, zero, suc, ◌+◌, ◌*◌, ◌/◌, ◌%◌, ◌^◌, ◌≤◌, ◌<◌, List, ◌∷◌, length, get_or, take, drop, add-one, refl, sym, ap, ◌∙◌, arith}
+use Rattle.std.proofs.Math.ListN.{set}
+use Rattle.std.proofs.Math.Seq.{sets-eq, drop-cons}
+use Rattle.std.proofs.Math.Nat.{div-div-eq-div-mul, pow-suc, div-one}
+use Rattle.std.specs.Int.{w64, byte_at, bytes_low_first, to_le_bytes}
+use Rattle.words.specs.Words.{number, little_endian, with_word}
 
--- the number of k digits from place o on, digit by digit
-unfoldable pub digits_at : ℕ → ℕ → List ℕ → ℕ
-digits_at zero o bytes = 0
-digits_at (suc k) o bytes = get_or bytes o 0 + 256 * digits_at k (o + 1) bytes
+-- a lowest digit, and the number above it
+number-digit : (bytes : List ℕ) (k o p : ℕ) → o < length bytes → p ≡ o + 1
+    → number (take (suc k) (drop o bytes)) ≡ get_or bytes o 0 + 256 * number (take k (drop p bytes))
+unfolding number
+number-digit bytes k o p h e = rw (drop-cons bytes o 0, e, add-one) refl
 
--- bytes written one after another from place o on
-unfoldable pub over : List ℕ → ℕ → List ℕ → List ℕ
-over bytes o [] = bytes
-over bytes o (v ∷ vs) = over (set bytes o v) (o + 1) vs
+-- the number of eight digits
+pub number-eight : (bytes : List ℕ) (o : ℕ) → o + 8 ≤ length bytes
+    → number (take 8 (drop o bytes)) ≡ get_or bytes o 0 + 256 * (get_or bytes (o + 1) 0 + 256 * (get_or bytes (o + 2) 0
+    + 256 * (get_or bytes (o + 3) 0 + 256 * (get_or bytes (o + 4) 0 + 256 * (get_or bytes (o + 5) 0 + 256 * (get_or bytes (o + 6) 0 + 256 * get_or bytes (o + 7) 0))))))
+unfolding number
+number-eight bytes o h =
+    let a = number-digit bytes 7 o (o + 1) (omega arith) refl in
+    let b = number-digit bytes 6 (o + 1) (o + 2) (omega arith) (omega arith) in
+    let c = number-digit bytes 5 (o + 2) (o + 3) (omega arith) (omega arith) in
+    let d = number-digit bytes 4 (o + 3) (o + 4) (omega arith) (omega arith) in
+    let e = number-digit bytes 3 (o + 4) (o + 5) (omega arith) (omega arith) in
+    let f = number-digit bytes 2 (o + 5) (o + 6) (omega arith) (omega arith) in
+    let g = number-digit bytes 1 (o + 6) (o + 7) (omega arith) (omega arith) in
+    let i = number-digit bytes 0 (o + 7) (o + 8) (omega arith) (omega arith) in
+    let end : number (take 0 (drop (o + 8) bytes)) ≡ 0 = refl in
+    omega (arith, a, b, c, d, e, f, g, i, end)
 
--- past the end every digit is 0
-number_at_lem : (k o : ℕ) (bytes : List ℕ) → number (take k (drop o bytes)) ≡ digits_at k o bytes
-unfolding number digits_at
-number_at_lem zero o bytes = refl
-number_at_lem (suc k) o bytes =
-    by_end (λ (n : ℕ). number (take (suc k) (drop n bytes)) ≡ get_or bytes n 0 + 256 * digits_at k (n + 1) bytes) (length bytes)
-    (λ n l. rw (drop-cons bytes n 0 l, add-one n) (rw (← number_at_lem k (suc n) bytes)))
-    (λ n l.
-    let m : length bytes ≤ n + 1 = omega arith in
-    rw (drop_of_length-le bytes l, get_or-eq_default bytes 0 l, ← number_at_lem k (n + 1) bytes, drop_of_length-le bytes m, take-nil))
-    o
+-- its k bytes of a number from digit i up are those of the number above the i digits below
+low_first : (k i v : ℕ) → bytes_low_first i k v ≡ little_endian k (v / 256 ^ i)
+unfolding little_endian
+low_first zero i v = refl
+low_first (suc k) i v =
+    let above : v / 256 ^ i / 256 ≡ v / 256 ^ suc i = div-div-eq-div-mul v (256 ^ i) 256 ∙ ap (λ (n : ℕ). v / n) (sym (pow-suc 256 i)) in
+    rw (low_first k (suc i) v, ← above) (ap (λ (d : ℕ). d ∷ little_endian k (v / 256 ^ i / 256)) (digit i))
+  where
+    digit : (i : ℕ) → byte_at i v ≡ v / 256 ^ i % 256
+    digit zero = rw (div-one v) refl
+    digit (suc i) = refl
 
--- no digits make 0
-pub digit-none : (bytes : List ℕ) (o : ℕ) → 0 ≡ digits_at 0 o bytes
-unfolding digits_at
-digit-none bytes o = refl
+pub to_eight : (v : ℕ) → to_le_bytes w64 v ≡ little_endian 8 v
+to_eight v = low_first 8 0 v ∙ ap (little_endian 8) (div-one v)
 
--- one digit more below the digits from the next place on
-pub digit-more : (bytes : List ℕ) (k o r high : ℕ) → r ≡ get_or bytes o 0 + 256 * high → high ≡ digits_at k (o + 1) bytes
-    → r ≡ digits_at (suc k) o bytes
-unfolding digits_at
-digit-more bytes k o r high l e = l ∙ ap (λ (h : ℕ). get_or bytes o 0 + 256 * h) e
-
--- the i-th number, digit by digit
-pub word_at_lem : (bytes : List ℕ) (i r : ℕ) → r ≡ digits_at 8 (8 * i) bytes → r ≡ word_at bytes i
-unfolding word_at
-word_at_lem bytes i r e = e ∙ sym (number_at_lem 8 (8 * i) bytes)
-
-over_sets : (bytes : List ℕ) (o : ℕ) (vs : List ℕ) → over bytes o vs ≡ sets bytes o vs
-unfolding over
-over_sets bytes o [] = refl
-over_sets bytes o (v ∷ vs) = rw add-one (over_sets (set bytes o v) (suc o) vs)
-
--- no digit written
-pub over_none : (bytes : List ℕ) (o v : ℕ) → bytes ≡ over bytes o (little_endian 0 v)
-unfolding over little_endian
-over_none bytes o v = refl
-
--- the lowest digit of a number written, and then those of the number above it
-pub over-more : (bytes next after : List ℕ) (k o v high : ℕ) → (high ≡ v / 256) × (next ≡ set bytes o (v % 256))
-    → after ≡ over next (o + 1) (little_endian k high) → after ≡ over bytes o (little_endian (suc k) v)
-unfolding over little_endian
-over-more bytes next after k o v high (e, w) l = l ∙ rw (e, w) refl
-
--- the i-th number written digit by digit
-pub put-at : (bytes after : List ℕ) (i v : ℕ) → 8 * i + 8 ≤ length bytes
-    → after ≡ over bytes (8 * i) (little_endian 8 v) → after ≡ with_word bytes i v
+-- eight bytes that were replaced one after another
+pub with_eight : (bytes eight : List ℕ) (i v : ℕ) → 8 * i + 8 ≤ length bytes → eight ≡ to_le_bytes w64 v
+    → set (set (set (set (set (set (set (set bytes (8 * i) (get_or eight 0 0)) (8 * i + 1) (get_or eight 1 0)) (8 * i + 2) (get_or eight 2 0)) (8 * i + 3) (get_or eight 3 0))
+    (8 * i + 4) (get_or eight 4 0)) (8 * i + 5) (get_or eight 5 0)) (8 * i + 6) (get_or eight 6 0)) (8 * i + 7) (get_or eight 7 0) ≡ with_word bytes i v
 unfolding with_word little_endian
-put-at bytes after i v h e = e ∙ over_sets bytes (8 * i) (little_endian 8 v) ∙ sets-eq (little_endian 8 v) bytes (8 * i) h
+with_eight bytes eight i v h e =
+    let o = 8 * i in
+    let digits : eight ≡ little_endian 8 v = e ∙ to_eight v in
+    let one : o + 1 ≡ suc o = omega arith in
+    let two : o + 2 ≡ suc (suc o) = omega arith in
+    let three : o + 3 ≡ suc (suc (suc o)) = omega arith in
+    let four : o + 4 ≡ suc (suc (suc (suc o))) = omega arith in
+    let five : o + 5 ≡ suc (suc (suc (suc (suc o)))) = omega arith in
+    let six : o + 6 ≡ suc (suc (suc (suc (suc (suc o))))) = omega arith in
+    let seven : o + 7 ≡ suc (suc (suc (suc (suc (suc (suc o)))))) = omega arith in
+    rw (digits, one, two, three, four, five, six, seven) (sets-eq (little_endian 8 v) bytes o h)

@@ -3,4 +3,5 @@ use Rattle.desk.proofs.Booked.{books}
 use Rattle.desk.proofs.book.Goals as goal
 
 pub returns : goal.returns
-returns c = books c.args.list.now c.args.day c.args.order c.examine-out.result c.write.new.list c.examine-out.ensures c.write.ensures
+returns c =
+    books c.args.list.now c.args.day c.args.order c.examine-outcome.result c.examine-outcome.ensures.concluded c.write.new.list c.write.ensures

@@ -8,7 +8,7 @@ pub returns-then-short-cross : goal.returns-then-short-cross
 returns-then-short-cross c = other-mark (rw c.if-short-cross.true c.other_class-cross.ensures)
 
 pub returns-then-short-long : goal.returns-then-short-long
-returns-then-short-long c = rw c.twice_lesser.ensures
+returns-then-short-long c = rw c.min.ensures
     (suited_mark (elim c.then-short-long.branch [
       | then-short-long-via-then-short-long w ↦ inl w.if-short-long.true
       | then-short-long-via-else-short-long+then-short-long-2 w ↦ inr w.if-short-long-2.true

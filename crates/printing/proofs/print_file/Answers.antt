@@ -3,11 +3,11 @@ use Rattle.std.proofs.Common.{refl}
 use Rattle.printing.proofs.Whole.{refused_printed, tables_hold, checked_printed}
 use Rattle.printing.proofs.print_file.Goals as goal
 
-pub returns-in-Refused : goal.returns-in-Refused
-returns-in-Refused c = refused_printed _ c.read-contents.ensures c.in-Refused.is (c.refusal.ensures.prints, c.refusal.ensures.second_len_bound)
+pub returns-in-Err : goal.returns-in-Err
+returns-in-Err c = refused_printed _ c.read.ensures c.in-Err.is (rw c.number.ensures at c.refusal.ensures.prints, rw c.number.ensures at c.refusal.ensures.second_len_bound)
 
 pub print_tables-requires : goal.print_tables-requires
-print_tables-requires c = tables_hold _ c.read-contents.ensures c.in-Read.is refl refl
+print_tables-requires c = tables_hold _ c.read.ensures c.in-Ok.is refl refl
 
-pub returns-in-Read : goal.returns-in-Read
-returns-in-Read c = checked_printed _ c.read-contents.ensures c.in-Read.is refl refl c.print_tables.ensures
+pub returns-in-Ok : goal.returns-in-Ok
+returns-in-Ok c = checked_printed _ c.read.ensures c.in-Ok.is refl refl c.print_tables.ensures

@@ -1,9 +1,17 @@
 -- `put_leis` writes the LEIs in turn. Assumes nothing.
-use Rattle.received.proofs.Written.{written_none, written-more}
+use Rattle.std.proofs.Common.{arith, refl}
+use lib.Seq.{take_all}
+use Rattle.lists.specs.Tables.{front}
+use Rattle.received.specs.Naming.{lei_texts}
+use Rattle.received.proofs.Written.{written-more}
 use Rattle.received.proofs.put_leis.Goals as goal
 
 pub loop-i-init : goal.loop-i-init
-loop-i-init c = written_none _ _ _ _ c.requires.2
+unfolding front lei_texts
+loop-i-init c = refl
 
 pub loop-i-preserved : goal.loop-i-preserved
-loop-i-preserved c = written-more _ _ _ _ c.requires.2 c.loop-i.invariant c.loop-i-test.true c.put_lei.ensures
+loop-i-preserved c = written-more _ c.loop-i.i _ (omega arith) c.requires c.loop-i.invariant c.put_lei.ensures
+
+pub returns : goal.returns
+returns c = rw (take_all _ _ c.loop-i-test.false) at c.loop-i.invariant

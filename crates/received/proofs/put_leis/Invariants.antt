@@ -1,10 +1,8 @@
--- The LEIs before the i-th are written. Assumes nothing.
-use Rattle.std.proofs.Common.{◌-◌}
-use Rattle.received.proofs.Written.{Written}
+-- The LEIs so far are written. Assumes nothing.
+use Rattle.std.proofs.Common.{◌≡◌, take}
+use Rattle.lists.specs.Tables.{front}
+use Rattle.received.specs.Naming.{lei_texts}
 use Rattle.received.proofs.put_leis.Given as goal
 
 abbrev pub invariant-loop-i : goal.invariant-loop-i
-invariant-loop-i l = Written l.high l.low l.initial.out l.i l.count l.out
-
-abbrev pub decreases-loop-i : goal.decreases-loop-i
-decreases-loop-i l = l.count - l.i
+invariant-loop-i l = l.out ≡ front (lei_texts (take l.i l.leis)) l.initial.out

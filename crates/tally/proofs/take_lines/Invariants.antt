@@ -1,5 +1,5 @@
 -- The lines before i are taken off what is left. Assumes nothing.
-use Rattle.std.proofs.Common.{List, ℕ, [], ◌∷◌, ◌-◌}
+use Rattle.std.proofs.Common.{List, ℕ}
 use Rattle.pairing.specs.declared.Line.{Line}
 use Rattle.proposal.specs.Submission.{line_by}
 use Rattle.columns.specs.Columns.{numbers_at}
@@ -11,7 +11,4 @@ abbrev pub line_in : List (List ℕ) → ℕ → Line
 line_in columns k = line_by (numbers_at columns k)
 
 abbrev pub invariant-loop-i : goal.invariant-loop-i
-invariant-loop-i l = Walk l.n l.legs l.initial.left (line_in (l.long ∷ l.short ∷ l.amount ∷ [])) l.m l.left l.units l.saving l.i
-
-abbrev pub decreases-loop-i : goal.decreases-loop-i
-decreases-loop-i l = l.m - l.i
+invariant-loop-i l = Walk l.n l.legs l.initial.left (line_in l.columns.lines) l.m l.left l.sums.units l.sums.saving l.i

@@ -13,40 +13,40 @@ use Rattle.tally.specs.Lines.{refusals, taken, applied_of}
 use Rattle.tally.proofs.OneLine.{High, high}
 use Rattle.tally.proofs.Tally.apply.Goals as goal
 
-pub returns-in-NotAllowed : goal.returns-in-NotAllowed
+pub returns-in_default : goal.returns-in_default
 unfolding applied_of refusals pair_faults first_of is_long is_short
-returns-in-NotAllowed c = search (tests, answered-refused c.pair_legs-pair.ensures c.in-NotAllowed.is)
+returns-in_default c = search (tests, answered-refused c.pair_legs.ensures c.in_default.is)
 
 pub returns-then-amount-eq0 : goal.returns-then-amount-eq0
 unfolding applied_of refusals pair_faults first_of is_long is_short
-returns-then-amount-eq0 c = search (tests, (answered-allowed c.pair_legs-pair.ensures c.in-Allowed.is).may)
+returns-then-amount-eq0 c = search (tests, (answered-allowed c.pair_legs.ensures c.in-Some.is).may)
 
 pub returns-then-self-amount : goal.returns-then-self-amount
 unfolding applied_of refusals pair_faults first_of is_long is_short
-returns-then-self-amount c = search (tests, (answered-allowed c.pair_legs-pair.ensures c.in-Allowed.is).may)
+returns-then-self-amount c = search (tests, (answered-allowed c.pair_legs.ensures c.in-Some.is).may)
 
 pub returns-then-self-amount-2 : goal.returns-then-self-amount-2
 unfolding applied_of refusals pair_faults first_of is_long is_short
-returns-then-self-amount-2 c = search (tests, (answered-allowed c.pair_legs-pair.ensures c.in-Allowed.is).may)
+returns-then-self-amount-2 c = search (tests, (answered-allowed c.pair_legs.ensures c.in-Some.is).may)
 
 -- an amount that a leg has, at the rates of its pair, is within the limits
 adds : {long short : Leg} {rate saving amount value : ℕ} → Answered long short rate saving → amount ≤ value → value ≤ value_limit → High amount rate saving
 adds found some most = high (le_trans some most) found.rate-high found.saving-high
 
 pub overflow_mul-result : goal.overflow_mul-result
-overflow_mul-result c = record { fits = omega (arith, adds (answered-allowed c.pair_legs-pair.ensures c.in-Allowed.is) c.if-self-amount.false c.requires.left) }
+overflow_mul-result c = record { fits = omega (arith, adds (answered-allowed c.pair_legs.ensures c.in-Some.is) c.if-self-amount.false c.requires.left) }
 
 pub overflow_add-result : goal.overflow_add-result
-overflow_add-result c = record { fits = omega (arith, adds (answered-allowed c.pair_legs-pair.ensures c.in-Allowed.is) c.if-self-amount.false c.requires.left) }
+overflow_add-result c = record { fits = omega (arith, adds (answered-allowed c.pair_legs.ensures c.in-Some.is) c.if-self-amount.false c.requires.left) }
 
-pub overflow_mul-result-in-Allowed : goal.overflow_mul-result-in-Allowed
-overflow_mul-result-in-Allowed c = record { fits = omega (arith, adds (answered-allowed c.pair_legs-pair.ensures c.in-Allowed.is) c.if-self-amount.false c.requires.left) }
+pub overflow_mul-result-2 : goal.overflow_mul-result-2
+overflow_mul-result-2 c = record { fits = omega (arith, adds (answered-allowed c.pair_legs.ensures c.in-Some.is) c.if-self-amount.false c.requires.left) }
 
-pub overflow_add-result-in-Allowed : goal.overflow_add-result-in-Allowed
-overflow_add-result-in-Allowed c = record { fits = omega (arith, adds (answered-allowed c.pair_legs-pair.ensures c.in-Allowed.is) c.if-self-amount.false c.requires.left) }
+pub overflow_add-result-2 : goal.overflow_add-result-2
+overflow_add-result-2 c = record { fits = omega (arith, adds (answered-allowed c.pair_legs.ensures c.in-Some.is) c.if-self-amount.false c.requires.left) }
 
-pub returns-in-Allowed : goal.returns-in-Allowed
+pub returns : goal.returns
 unfolding applied_of refusals pair_faults first_of is_long is_short taken
-returns-in-Allowed c =
-    let found = answered-allowed c.pair_legs-pair.ensures c.in-Allowed.is in
+returns c =
+    let found = answered-allowed c.pair_legs.ensures c.in-Some.is in
     rw (← found.pair_rate_lem, ← found.saving_rate_lem) (search (tests, found.may))

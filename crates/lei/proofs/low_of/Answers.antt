@@ -1,9 +1,0 @@
--- `low_of` takes the rest of a text of 20 bytes. Assumes nothing.
-use Rattle.lei.proofs.Judging.{lei-none, low-is}
-use Rattle.lei.proofs.low_of.Goals as goal
-
-pub returns-then-text-ne20 : goal.returns-then-text-ne20
-returns-then-text-ne20 c = rw (lei-none _ c.if-text-ne20.true)
-
-pub returns : goal.returns
-returns c = low-is _ c.if-text-ne20.false _ c.half.ensures
