@@ -15,8 +15,8 @@ use daybook::{Day, Order, Refused, Reply};
 use holding::{Account, Head, Holding, Row};
 use refusals::Refusal;
 
-// What was seen of holdings without fault: the place of the first one equal to the trade, or how many were seen where none is; what that one holds; and the
-// five totals.
+// What was seen of holdings without fault: the place of the first one equal to the trade, or how many were seen where none is, which is where the trade joins;
+// what that one holds; and the five totals.
 #[derive(Clone, Copy)]
 struct Scan {
     pub at: usize,
@@ -89,7 +89,7 @@ fn later(day: Day, account: Account, to: u64) -> Result<Account, Refusal>
     })
 }
 
-// The row that a move has for its trade.
+// The row that a move has for its trade, as the definition has it: what is seen is compared with a row in any case.
 const NO_ROW: Row = Row {
     side: 0,
     kind: 0,

@@ -15,7 +15,7 @@ struct Book {
     day: Day,
 }
 
-// What every place has before anything is written to it.
+// What every place has before anything is written to it: a bond of Canada, which has no rating.
 fn blank() -> Holding {
     Holding {
         side: Side::Long,

@@ -94,7 +94,7 @@ pub fn put_entry(values: &[u64], rows: usize, k: usize, table: &mut [u8])
     }
 }
 
-// The first n entries of column j of a table.
+// The first n entries of column j of a table, which is longer than what was put in it, so that n and `rows` stand beside it.
 pub fn column(table: &[u8], rows: usize, n: usize, j: usize) -> &[u8]
     requires { 8 * (rows * j + n) ≤ length table.now }
     ensures { result.now ≡ column_in rows n table.now j }

@@ -53,7 +53,7 @@ fn examine(list: &[Holding], day: Day, order: Order<Holding>) -> Outcome
     booking::judge(day, list.len(), false, order_of(order), &row)
 }
 
-// A change written into a list: nothing, the order's holding with a value at a place, or entries that move up by one place.
+// A change written into a list: nothing, the order's holding with a value at a place, or entries that move up by one place. Beside `records`, whose list is bytes.
 fn write(list: &mut [Holding], change: Change, order: Order<Holding>)
     requires { Fits (length list.old) change }
     ensures { list.new ≡ changed change (put_of order) list.old }

@@ -55,7 +55,7 @@ pub enum AccountKind {
     Client = 1,
 }
 
-// What is said once for all holdings, as it comes, of any size: the valuation date as a number YYYYMMDD, and the number of the account's letter.
+// What is said once for all holdings, as the C interface hands it over, in numbers of any size: the valuation date as a number YYYYMMDD, and the number of the account's letter.
 #[derive(Clone, Copy)]
 pub struct Head {
     pub date: u64,
@@ -80,7 +80,7 @@ pub struct Holding {
     pub rating: Rating,
 }
 
-// A holding's numbers as they come, of any size.
+// A holding's numbers as they come, of any size: the C interface hands numbers over.
 #[derive(Clone, Copy)]
 pub struct Row {
     pub side: u64,

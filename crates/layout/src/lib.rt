@@ -45,7 +45,7 @@ pub struct Record {
     pub lei: Lei,
 }
 
-// A record as parsed, and where the next one starts.
+// A record as parsed, and where the next one starts: of a broken one 0, as the definition has it.
 #[derive(Clone, Copy)]
 pub struct Entry {
     pub parsed: Result<Letter, Refusal>,
@@ -203,7 +203,7 @@ fn letter_in(text: &[u8]) -> Option<Letter>
     }
 }
 
-// A record of so many fields, parsed. What a good one has after its letter goes into the lent record.
+// A record of so many fields, which may be more than the spans, parsed. What a good one has after its letter goes into the lent record.
 fn parsed_in(
     text: &[u8],
     count: usize,

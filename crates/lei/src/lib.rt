@@ -139,7 +139,7 @@ fn put_characters(k: usize, v: u64, at: usize, out: &mut [u8])
     out[at + before] = character(v % 36);
 }
 
-// Writes the 20 bytes of an LEI into out from `at` on; all other bytes are kept.
+// Writes the 20 bytes of an LEI into out from `at` on; all other bytes are kept. List and place go one by one, as in `numerals`.
 #[tactic(auto, using(crate::proofs::Written::writes))]
 pub fn put_lei(lei: Lei, at: usize, out: &mut [u8])
     requires { at + 20 ≤ length out.old }

@@ -50,6 +50,7 @@ fn put_digit(x: u64, at: usize, out: &mut [u8]) -> usize
 }
 
 // Writes the numeral of x into out from `at` on, and returns the place after it. By hand: what `write!` leaves in a slice no contract of the library says.
+// List and place go one by one: a struct that lends the list would have to say that it is the same list afterwards.
 #[tactic(auto, using(crate::proofs::Written::room_after))]
 pub fn put_digits(x: u64, at: usize, out: &mut [u8]) -> usize
     requires { at + length (digits x) ≤ length out.old }

@@ -23,7 +23,7 @@ pub struct Contents {
     pub corporations: usize,
 }
 
-// Numbers the issuer of an H, of a corporation by the place of its LEI among the first `count` of a list, where a new one joins at the end. Returns
+// Numbers the issuer of an H, of a corporation by the place of its LEI among the first `count` of a list, which has room for more, where a new one joins. Returns
 // how many are known then.
 fn number_issuer(record: &mut Record, known: &mut [Lei], count: usize) -> usize
     requires { count < length known.old }

@@ -57,7 +57,7 @@ fn judge(list: &[u8], day: Day, order: Order<Row>, short: bool) -> Outcome
     booking::judge(day, list.len() / 56, short, order, &row)
 }
 
-// Changes the list: nothing, the trade's record with a value is written, or records move up by one place.
+// Changes the list: nothing, the trade's record with a value is written, or records move up by one place. Beside `desk`, whose list is of holdings.
 fn write(list: &mut [u8], change: Change, trade: Row)
     requires { Fits (records_in list.old) change }
     ensures { Rewritten (changed change (valued trade) (rows_in list.old)) list.old list.new }

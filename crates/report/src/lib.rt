@@ -23,7 +23,7 @@ pub struct Lists<'a> {
 }
 
 // Writes a byte into out at `at`, and returns the place after it.
-// By hand, as numbers and lines are: what `write!` leaves in a slice no contract of the library says.
+// By hand, as numbers and lines are: what `write!` leaves in a slice no contract of the library says. List and place go one by one, as in `numerals`.
 fn put_byte(byte: u8, at: usize, out: &mut [u8]) -> usize
     requires { at < length out.old }
     ensures { Written (byte ∷ []) at result out.old out.new }
@@ -119,7 +119,7 @@ fn print(text: &[u8], out: &mut [u8]) -> Result<usize, Refusal>
     Ok(bytes)
 }
 
-// Prints the lines of a verdict on `count` holdings.
+// Prints the lines of a verdict on `count` holdings; the lists may be longer.
 pub fn report(
     verdict: Verdict,
     count: usize,

@@ -134,6 +134,7 @@ pub fn record(text: &[u8], at: usize, spans: &mut [Span; FIELDS]) -> Option<Scan
 {
     let mut count = 0;
     let mut next = at;
+    // One field after another, each as long as it is: no iterator has them.
     loop {
         let piece = field_at(text, next)?;
         if count < FIELDS {
