@@ -200,6 +200,8 @@ fn outside_rule(long: Leg, short: Leg) -> Rule
 }
 
 // The rule: paragraph 2 for Canada and the provinces in CAD, of clients too, paragraphs 3 and 4 for any other. Two currencies have none.
+// In place: two legs through memory at each line and each pair would cost more than the rule.
+#[inline(always)]
 #[tactic(auto, using(crate::proofs::Outside::two_currencies_rows, crate::proofs::Outside::domestic))]
 pub fn rule_of(long: Leg, short: Leg) -> Rule
     ensures { result ≡ rule_of long short }

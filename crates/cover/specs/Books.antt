@@ -1,6 +1,7 @@
 -- What is found of a book that is lent as packed legs and a column of prices. Assumes nothing.
 use mathlib.Core.List.{List}
 use Rattle.std.specs.Prelude.{ℕ, length, Result}
+use Rattle.refusals.specs.declared.Refusal.{Refusal}
 use Rattle.proposal.specs.declared.Fault.{Fault}
 use Rattle.cover.specs.Cover.{ShortsByPart, LongCovered, FirstOpen, Finds}
 use Rattle.cover.specs.declared.{Shorts.Shorts, book.Book.Book}
@@ -20,5 +21,5 @@ abbrev pub OpenIn : Book → ℕ → ℕ → Type 0
 OpenIn b i j = FirstOpen (count_of b) b.legs.now b.price.now i j
 
 -- r is the first uncovered pair of the book
-abbrev pub FindsIn : {A : Type 0} → Book → Result A Fault → Type 0
+abbrev pub FindsIn : {A : Type 0} → Book → Result A (Fault Refusal) → Type 0
 FindsIn b r = Finds (count_of b) b.legs.now b.price.now r

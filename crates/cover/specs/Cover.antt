@@ -10,6 +10,7 @@ use Rattle.packed.specs.Packed.{leg_at, AtMost, entry, Legs, LegsOf, Same}
 use Rattle.holding.specs.Holding.{value_limit}
 use Rattle.pairing.specs.Pairing.{priced_total}
 use Rattle.proposal.specs.{Submission.PricedBook, Submission.terms_of, Submission.price_limit, Outcome.fault_answer, Outcome.uncovered_pairs, Outcome.first_fault}
+use Rattle.refusals.specs.declared.Refusal.{Refusal}
 use Rattle.proposal.specs.declared.Fault.{Fault}
 use Rattle.cover.specs.declared.Shorts.{Shorts}
 
@@ -83,7 +84,7 @@ pub record FirstOpen (n : ℕ) (legs price : List ℕ) (i j : ℕ) : Type 0 wher
   pub short : word_at price i + word_at price j < saving_of (leg_at legs i) (leg_at legs j)
 
 -- r is the first uncovered pair of the book that the lists hold
-pub record Finds {A : Type 0} (n : ℕ) (legs price : List ℕ) (r : Result A Fault) : Type 0 where
+pub record Finds {A : Type 0} (n : ℕ) (legs price : List ℕ) (r : Result A (Fault Refusal)) : Type 0 where
   pub found : (b : PricedBook) → LegsOf b n legs → Same n (word_at price) b.price → fault_answer r ≡ first_fault (uncovered_pairs b)
 
 -- as many values as prices, of at most 256 holdings, none too high

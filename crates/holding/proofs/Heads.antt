@@ -61,6 +61,10 @@ module _ (h : Head) where
       (leb-true h.letter 1)
       (λ f. let never : 26 ≡ 0 = sym (unlettered-head (head-valued e) (leb-false h.letter 1 f)) ∙ e in absurd (omega arith))
 
+  -- its date is small
+  pub head-fits : head_fault h ≡ 0 → h.date < 4294967296
+  head-fits e = omega (arith, date-high h.date (head-valued e))
+
   pub head-account : head_fault h ≡ 0 → headed_of h ≡ Ok (account_of h)
   unfolding headed_of
   head-account e = rw (eq-eqb (head_fault h) 0 e)

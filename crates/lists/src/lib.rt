@@ -11,11 +11,12 @@ pub fn zeros() -> [u64; 256]
     [0; 256]
 }
 
-// Writes bytes over the first of a list; the others are kept.
-#[tactic(auto, unfolding(crate::specs::Tables::front))]
+// Writes bytes over the first of a list; the others are kept. Byte by byte: copy_from_slice would have an archive of these crates need memmove from outside.
 pub fn copy(from: &[u8], to: &mut [u8])
     requires { length from.now ≤ length to.old }
     ensures { to.new ≡ front from.now to.old }
 {
-    to[..from.len()].copy_from_slice(from);
+    for i in 0..from.len() {
+        to[i] = from[i];
+    }
 }

@@ -87,7 +87,7 @@ module _ {a : Account} {columns : List (List ℕ)} {price legs₀ left₀ : List
       price_is = get_or-to _ (word_at price) i 0 (omega (arith, o.room.prices))
 
       -- its first fault is the book's
-      refused_here : {x : Refusal} {f : Fault} → number_of x ≡ first_of (holding_faults a (row columns i) (get_or (decode price) i 0)) 0 → f ≡ make_fault x i 0
+      refused_here : {x : Refusal} {f : Fault Refusal} → number_of x ≡ first_of (holding_faults a (row columns i) (get_or (decode price) i 0)) 0 → f ≡ make_fault x i 0
           → Opens a columns price left₀ legs left (Err f)
       unfolding book_faults at_holding fault_answer
       refused_here {x} first s =
@@ -95,12 +95,12 @@ module _ {a : Account} {columns : List (List ℕ)} {price legs₀ left₀ : List
           rw s (record { fault = sym (passed_first o.passed (make_answer 0 0 0) here (λ w. first-at i _ (number_of x) first other w)); opened = tt })
 
       -- a row that is refused, and a price above the highest
-      pub opens_row : {x : Refusal} {f : Fault} → b ≡ Err x → f ≡ make_fault x i 0 → Opens a columns price left₀ legs left (Err f)
+      pub opens_row : {x : Refusal} {f : Fault Refusal} → b ≡ Err x → f ≡ make_fault x i 0 → Opens a columns price left₀ legs left (Err f)
       opens_row s t =
           let (number, other) = refused-row builds s in
           refused_here (row_first _ _ _ _ number (λ z. other (sym number ∙ z))) t
 
-      pub opens-price : {m : Holding} {x : ℕ} {f : Fault} → b ≡ Ok m → x ≡ word_at price i → price_limit < x → f ≡ make_fault Price i 0
+      pub opens-price : {m : Holding} {x : ℕ} {f : Fault Refusal} → b ≡ Ok m → x ≡ word_at price i → price_limit < x → f ≡ make_fault Price i 0
           → Opens a columns price left₀ legs left (Err f)
       opens-price s w d t = refused_here (price-first _ _ _ (made_row builds s).1 (omega (arith, price_is))) t
 

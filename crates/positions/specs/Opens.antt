@@ -8,6 +8,7 @@ use Rattle.holding.specs.declared.{Account.Account, Row.Row}
 use Rattle.words.specs.Words.{decode}
 use Rattle.columns.specs.Columns.{count_in, rows_in}
 use Rattle.proposal.specs.{Submission.book_of, Submission.price_limit, Outcome.fault_answer, Outcome.book_faults, Outcome.first_fault}
+use Rattle.refusals.specs.declared.Refusal.{Refusal}
 use Rattle.proposal.specs.declared.Fault.{Fault}
 use Rattle.packed.specs.Packed.{Legs, LegsOf, AtMost}
 
@@ -29,6 +30,6 @@ pub record Opened (a : Account) (rows : List Row) (prices left legs' left' : Lis
   pub prices_high : AtMost price_limit (length rows) (book_of a rows prices).price
 
 -- the first fault of the book's holdings and prices, and where there is none the lists; after a fault what they hold is free
-pub record Opens (a : Account) (columns : List (List ℕ)) (price left legs' left' : List ℕ) (r : Result (Unit {0}) Fault) : Type 0 where
+pub record Opens (a : Account) (columns : List (List ℕ)) (price left legs' left' : List ℕ) (r : Result (Unit {0}) (Fault Refusal)) : Type 0 where
   pub fault : fault_answer r ≡ first_fault (book_faults a (rows_in columns) (decode price))
   pub opened : IfOk r (λ _. Opened a (rows_in columns) (decode price) left legs' left')

@@ -102,8 +102,8 @@ module _ (text : List ℕ) where
         only = (read-exactly text).only;
       }
 
-  module _ {book lines book' lines' : List ℕ} {known' : List Lei} {d : Result Contents Fault} (from-file : ReadsFile text 512 book lines book' lines' known' d) where
-    pub refused_printed : {f : Fault} {before after : List ℕ} {r : Result ℕ Refusal} → d ≡ Err f
+  module _ {book lines book' lines' : List ℕ} {known' : List Lei} {d : Result Contents (Fault Refusal)} (from-file : ReadsFile text 512 book lines book' lines' known' d) where
+    pub refused_printed : {f : Fault Refusal} {before after : List ℕ} {r : Result ℕ Refusal} → d ≡ Err f
         → (let line = refusal_line (make_answer (number_of f.refusal) f.place f.second) in Prints line before after r × (length line ≤ report_room)) → PrintsFile text before after r
     unfolding printed printed_of printed_lines
     refused_printed {f} e (p, few) =

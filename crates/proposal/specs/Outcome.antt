@@ -14,11 +14,11 @@ use Rattle.proposal.specs.Submission.{Submission, account_in, PricedBook, terms_
 use Rattle.proposal.specs.Submission.{remainder, units_of, cents_of}
 use Rattle.proposal.specs.declared.Fault.{Fault}
 
-abbrev pub make_fault : Refusal → ℕ → ℕ → Fault
+abbrev pub make_fault : {R : Type 0} → R → ℕ → ℕ → Fault R
 make_fault refusal place second = record { refusal = refusal; place = place; second = second }
 
 -- the paper's number and places of what is found: number 0 for no fault
-unfoldable pub fault_answer : {A : Type 0} → Result A Fault → Answer
+unfoldable pub fault_answer : {A : Type 0} → Result A (Fault Refusal) → Answer
 fault_answer (Ok _) = make_answer 0 0 0
 fault_answer (Err f) = make_answer (number_of f.refusal) f.place f.second
 

@@ -6,16 +6,16 @@ ghost use Rattle.proposal.specs.Outcome.{make_fault};
 
 use refusals::Refusal;
 
-// A refusal at two places.
+// A refusal at two places: by its name, or in another form, as by its number.
 #[derive(Clone, Copy)]
-pub struct Fault {
-    pub refusal: Refusal,
+pub struct Fault<R = Refusal> {
+    pub refusal: R,
     pub place: u64,
     pub second: u64,
 }
 
 // A refusal with its two places, as numbers of the answer.
-pub fn fault_at(refusal: Refusal, place: usize, second: usize) -> Fault
+pub fn fault_at<R>(refusal: R, place: usize, second: usize) -> Fault<R>
     ensures { result ≡ make_fault refusal place second }
 {
     Fault {

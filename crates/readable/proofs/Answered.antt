@@ -16,6 +16,7 @@ use Rattle.reader.specs.File.{parsed_in, values_by, holdings_of, leis_in, submis
 use Rattle.reader.specs.File.{contents_answer, make_contents, ReadsFile}
 use Rattle.reader.specs.declared.Contents.{Contents}
 use Rattle.refusals.specs.Refusals.{number_of}
+use Rattle.refusals.specs.declared.Refusal.{Refusal}
 use Rattle.proposal.specs.declared.Fault.{Fault}
 use Rattle.lei.specs.declared.Lei.{Lei}
 use Rattle.std.specs.Prelude.{Result, Ok, Err}
@@ -63,9 +64,9 @@ module _ (text : List ℕ) (two : Bool) where
   unfolding read_answer
   answer-exactly = to-exactly text two counts refl
 
-module _ {text : List ℕ} {rows : ℕ} {book lines book' lines' : List ℕ} {known' : List Lei} {d : Result Contents Fault} (from-file : ReadsFile text rows book lines book' lines' known' d) where
+module _ {text : List ℕ} {rows : ℕ} {book lines book' lines' : List ℕ} {known' : List Lei} {d : Result Contents (Fault Refusal)} (from-file : ReadsFile text rows book lines book' lines' known' d) where
   -- a refusal is the file's first
-  pub refusal-known : {f : Fault} → d ≡ Err f → (number_of f.refusal ≢ 0) × (file_fault text ≡ make_answer (number_of f.refusal) f.place f.second)
+  pub refusal-known : {f : Fault Refusal} → d ≡ Err f → (number_of f.refusal ≢ 0) × (file_fault text ≡ make_answer (number_of f.refusal) f.place f.second)
   refusal-known {f} e =
       let answer : make_answer (number_of f.refusal) f.place f.second ≡ read_answer false text = rw e at from-file.answer in
       let other : (read_answer false text).number ≢ 0 = rw e at from-file.contents in

@@ -36,7 +36,7 @@ unfolding file_faults first_of
 no_record text short none w = rw (le-ltb file_limit (length text) short, eq-eqb (length text) 0 none)
 
 pub contents-refused : (text : List ℕ) {rows : ℕ} {book lines book' lines' : List ℕ} {known' : List Lei} (refusal : Refusal) (place : ℕ) → Refuses text (make_answer (number_of refusal) place 0)
-    → {f : Fault} → f ≡ make_fault refusal place 0 → ReadsFile text rows book lines book' lines' known' (Err f)
+    → {f : Fault Refusal} → f ≡ make_fault refusal place 0 → ReadsFile text rows book lines book' lines' known' (Err f)
 unfolding read_answer answer_to
 contents-refused text refusal place r e =
     let found : read_answer false text ≡ make_answer (number_of refusal) place 0 = first-append (file_faults text) _ _ ∙ r _ in

@@ -9,6 +9,7 @@ use Rattle.holding.specs.declared.Head.{Head}
 use Rattle.article.specs.Answer.{Answer, make_answer}
 use Rattle.proposal.specs.Submission.{Submission, priced_row, row_price, line_by}
 use Rattle.refusals.specs.Refusals.{number_of}
+use Rattle.refusals.specs.declared.Refusal.{Refusal}
 use Rattle.proposal.specs.declared.Fault.{Fault}
 use Rattle.rfc4180.specs.Reading.{field_count, records_of}
 use Rattle.lei.specs.{Lei.make_lei, Numbering.first_place, Numbering.enter, declared.Lei.Lei}
@@ -119,7 +120,7 @@ unfoldable pub read_answer : Bool → List ℕ → Answer
 read_answer two text = answer_to two (make_answer 0 (length (submission_in text).rows) (length (submission_in text).lines)) text
 
 -- the paper's number and values of what is read: 0 with the number of holdings and of lines, or the refusal's number with its places
-abbrev pub contents_answer : Result Contents Fault → Answer
+abbrev pub contents_answer : Result Contents (Fault Refusal) → Answer
 contents_answer (Ok c) = make_answer 0 c.holdings c.lines
 contents_answer (Err f) = make_answer (number_of f.refusal) f.place f.second
 
@@ -127,7 +128,7 @@ abbrev pub make_contents : Head → ℕ → ℕ → ℕ → Contents
 make_contents head holdings lines corporations = record { head = head; holdings = holdings; lines = lines; corporations = corporations }
 
 -- a text is read for the number 0 of an answer and for no other, with the head and the count of corporations that were read
-abbrev pub IsContents : Answer → Head → ℕ → Result Contents Fault → Type 0
+abbrev pub IsContents : Answer → Head → ℕ → Result Contents (Fault Refusal) → Type 0
 IsContents a head corporations (Ok c) = (a.number ≡ 0) × (c ≡ make_contents head a.first a.second corporations)
 IsContents a head corporations (Err f) = a.number ≢ 0
 
@@ -145,7 +146,7 @@ pub record NumbersIssuer (known after : List Lei) (vs vs' : List ℕ) : Type 0 w
   pub entered : after ≡ known_after known vs
 
 -- what reading a file into two tables promises; after a refusal what they hold is free
-pub record ReadsFile (text : List ℕ) (rows : ℕ) (book lines book' lines' : List ℕ) (known' : List Lei) (r : Result Contents Fault) : Type 0 where
+pub record ReadsFile (text : List ℕ) (rows : ℕ) (book lines book' lines' : List ℕ) (known' : List Lei) (r : Result Contents (Fault Refusal)) : Type 0 where
   -- the first refusal in the reader's order, or the counts
   pub answer : contents_answer r ≡ read_answer false text
   -- read is a case of its own, and has the head of what is submitted

@@ -18,6 +18,7 @@ use Rattle.proposal.proofs.Clear.{number}
 use Rattle.lei.specs.declared.Lei.{Lei}
 use Rattle.lei.specs.Lei.{no_lei, lei_text}
 use Rattle.refusals.specs.Refusals.{number_of}
+use Rattle.refusals.specs.declared.Refusal.{Refusal}
 use Rattle.proposal.specs.declared.Fault.{Fault}
 use Rattle.lent.specs.Boundary.{Answers}
 use Rattle.reader.specs.File.{submission_in, leis_in, ReadsFile}
@@ -91,8 +92,8 @@ module _ (text leis slice : List ℕ) where
       rw e (text-read keys k _ inside)
       ∙ sym (named.here ∙ ap (λ (ts : List (List ℕ)). get_or ts k []) all ∙ get_or-map_in lei_text keys k no_lei [] inside)
 
-  module _ {rows : ℕ} {book lines book' lines' : List ℕ} {known' : List Lei} {d : Result Contents Fault} (from-file : ReadsFile text rows book lines book' lines' known' d) where
-    pub record_refused : {f : Fault} (slice' : List ℕ) (r : ℕ) → d ≡ Err f → Answers (make_answer (number_of f.refusal) f.place f.second) slice slice' r → Names text leis leis slice slice' r
+  module _ {rows : ℕ} {book lines book' lines' : List ℕ} {known' : List Lei} {d : Result Contents (Fault Refusal)} (from-file : ReadsFile text rows book lines book' lines' known' d) where
+    pub record_refused : {f : Fault Refusal} (slice' : List ℕ) (r : ℕ) → d ≡ Err f → Answers (make_answer (number_of f.refusal) f.place f.second) slice slice' r → Names text leis leis slice slice' r
     unfolding naming_answer
     record_refused {f} slice' r e t =
         let (other, fault) = refusal-known from-file e in

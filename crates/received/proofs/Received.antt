@@ -27,6 +27,7 @@ use Rattle.lent.specs.Boundary.{Answers}
 use Rattle.reader.specs.File.{parsed_in, values_by, holdings_of, submission_of, submission_in, TableRoom, ReadsFile}
 use Rattle.reader.specs.declared.Contents.{Contents}
 use Rattle.refusals.specs.Refusals.{number_of}
+use Rattle.refusals.specs.declared.Refusal.{Refusal}
 use Rattle.proposal.specs.declared.Fault.{Fault}
 use Rattle.lei.specs.declared.Lei.{Lei}
 use Rattle.readable.specs.Readable.{Submits}
@@ -118,8 +119,8 @@ module _ (text head : List ℕ) (table lined : List (List ℕ)) (out : List ℕ)
         only = (read-exactly text).only;
       }
 
-  module _ {rows : ℕ} {book lines book' lines' : List ℕ} {known' : List Lei} {d : Result Contents Fault} (from-file : ReadsFile text rows book lines book' lines' known' d) where
-    pub record_refused : {f : Fault} (out' : List ℕ) (r : ℕ) → d ≡ Err f → Answers (make_answer (number_of f.refusal) f.place f.second) out out' r
+  module _ {rows : ℕ} {book lines book' lines' : List ℕ} {known' : List Lei} {d : Result Contents (Fault Refusal)} (from-file : ReadsFile text rows book lines book' lines' known' d) where
+    pub record_refused : {f : Fault Refusal} (out' : List ℕ) (r : ℕ) → d ≡ Err f → Answers (make_answer (number_of f.refusal) f.place f.second) out out' r
         → Reads text head head before before out out' r
     unfolding reading_answer
     record_refused {f} out' r e t =

@@ -43,7 +43,7 @@ pub fn read_into(
         Ok(contents) => {
             let n = contents.holdings;
             let m = contents.lines;
-            if sizes::columns_too_short(n, m, head.len(), columns, answer.len()) {
+            if sizes::filled_too_short(n, m, head.len(), columns, answer.len()) {
                 return put_fault(proposal::fault_at(Refusal::NoRoom, 0, 0), answer);
             }
             words::put_word(head, 0, contents.head.date);

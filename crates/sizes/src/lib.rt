@@ -32,28 +32,60 @@ fn in_order(unequal: bool, two: bool, holdings: usize, lines: usize) -> Result<(
     Ok(())
 }
 
-// The refusal by the lengths of what is lent; `two` says whether 2 holds. Each column is named, so that none is left out unseen.
-pub fn lengths(columns: &Columns<'_>, two: bool) -> Result<(), Refusal>
+// The refusal by the lengths of what is lent; `two` says whether 2 holds. Of numbers alone, so that it can be asked before anything is lent.
+pub fn lengths(
+    side: usize,
+    kind: usize,
+    issuer: usize,
+    maturity: usize,
+    value: usize,
+    price: usize,
+    currency: usize,
+    rating: usize,
+    long: usize,
+    short: usize,
+    amount: usize,
+    two: bool,
+) -> Result<(), Refusal>
+    ensures { refused_by result ≡ length_fault (side ∷ kind ∷ issuer ∷ maturity ∷ value ∷ currency ∷ rating ∷ price ∷ []) (long ∷ short ∷ amount ∷ []) two }
+{
+    let n = side / 8;
+    let m = long / 8;
+    let book = 8 * n;
+    let lines = 8 * m;
+    let unequal = (side != book)
+        | (kind != book)
+        | (issuer != book)
+        | (maturity != book)
+        | (value != book)
+        | (currency != book)
+        | (rating != book)
+        | (price != book)
+        | (long != lines)
+        | (short != lines)
+        | (amount != lines);
+    in_order(unequal, two, n, m)
+}
+
+// The same of columns. Each is named, so that none is left out unseen.
+pub fn column_lengths(columns: &Columns<'_>, two: bool) -> Result<(), Refusal>
     ensures number { refused_by result ≡ length_fault (holding_sizes columns.now) (line_sizes columns.now) two }
     ensures counted { Counted columns.now }
 {
-    // By the lengths: of `holdings` and `lines` nothing says that eight times as many fit a usize.
-    let n = columns.side.len() / 8;
-    let m = columns.long.len() / 8;
-    let book = 8 * n;
-    let lines = 8 * m;
-    let unequal = (columns.side.len() != book)
-        | (columns.kind.len() != book)
-        | (columns.issuer.len() != book)
-        | (columns.maturity.len() != book)
-        | (columns.value.len() != book)
-        | (columns.currency.len() != book)
-        | (columns.rating.len() != book)
-        | (columns.price.len() != book)
-        | (columns.long.len() != lines)
-        | (columns.short.len() != lines)
-        | (columns.amount.len() != lines);
-    in_order(unequal, two, n, m)
+    lengths(
+        columns.side.len(),
+        columns.kind.len(),
+        columns.issuer.len(),
+        columns.maturity.len(),
+        columns.value.len(),
+        columns.price.len(),
+        columns.currency.len(),
+        columns.rating.len(),
+        columns.long.len(),
+        columns.short.len(),
+        columns.amount.len(),
+        two,
+    )
 }
 
 // Whether a list that the check writes is shorter than what must be written: an entry for each of n holdings, and the answer slice's 16 bytes.
@@ -63,8 +95,46 @@ pub fn lists_too_short(n: usize, remainder: usize, ranking: usize, answer: usize
     (remainder / 8 < n) | (ranking / 8 < n) | (answer < 16)
 }
 
-// The same of the lists that the reader fills, each by its name too: two entries for the head, and one for each holding, or each line.
+// The same of the lists that the reader fills: two entries for the head, and one for each holding, or each line. Of numbers alone too.
 pub fn columns_too_short(
+    holdings: usize,
+    lines: usize,
+    head: usize,
+    side: usize,
+    kind: usize,
+    issuer: usize,
+    maturity: usize,
+    value: usize,
+    price: usize,
+    currency: usize,
+    rating: usize,
+    long: usize,
+    short: usize,
+    amount: usize,
+    answer: usize,
+) -> bool
+    ensures { result ≡ too_short ((2, head)
+        ∷ (holdings, side) ∷ (holdings, kind) ∷ (holdings, issuer) ∷ (holdings, maturity)
+        ∷ (holdings, value) ∷ (holdings, currency) ∷ (holdings, rating) ∷ (holdings, price)
+        ∷ (lines, long) ∷ (lines, short) ∷ (lines, amount) ∷ []) answer }
+{
+    (head / 8 < 2)
+        | (side / 8 < holdings)
+        | (kind / 8 < holdings)
+        | (issuer / 8 < holdings)
+        | (maturity / 8 < holdings)
+        | (value / 8 < holdings)
+        | (currency / 8 < holdings)
+        | (rating / 8 < holdings)
+        | (price / 8 < holdings)
+        | (long / 8 < lines)
+        | (short / 8 < lines)
+        | (amount / 8 < lines)
+        | (answer < 16)
+}
+
+// The same of columns to be filled, each by its name.
+pub fn filled_too_short(
     holdings: usize,
     lines: usize,
     head: usize,
@@ -75,17 +145,21 @@ pub fn columns_too_short(
         ∷ (map (λ size. (holdings, size)) (holding_sizes (columns_in columns.now))
         ++ map (λ size. (lines, size)) (line_sizes (columns_in columns.now)))) answer }
 {
-    (head / 8 < 2)
-        | (columns.side.len() / 8 < holdings)
-        | (columns.kind.len() / 8 < holdings)
-        | (columns.issuer.len() / 8 < holdings)
-        | (columns.maturity.len() / 8 < holdings)
-        | (columns.value.len() / 8 < holdings)
-        | (columns.currency.len() / 8 < holdings)
-        | (columns.rating.len() / 8 < holdings)
-        | (columns.price.len() / 8 < holdings)
-        | (columns.long.len() / 8 < lines)
-        | (columns.short.len() / 8 < lines)
-        | (columns.amount.len() / 8 < lines)
-        | (answer < 16)
+    columns_too_short(
+        holdings,
+        lines,
+        head,
+        columns.side.len(),
+        columns.kind.len(),
+        columns.issuer.len(),
+        columns.maturity.len(),
+        columns.value.len(),
+        columns.price.len(),
+        columns.currency.len(),
+        columns.rating.len(),
+        columns.long.len(),
+        columns.short.len(),
+        columns.amount.len(),
+        answer,
+    )
 }

@@ -131,7 +131,7 @@ tally_at left l u s = record { long = get_or left l.long 0; short = get_or left 
 
 module _ {n : ℕ} {legs before : List ℕ} {line : ℕ → Line} {m : ℕ} {left : List ℕ} {u s i : ℕ} (turn : Turn n legs before line m left u s i) where
   -- at a line with a fault
-  pub stops : {x : Refusal} {f : Fault} → ((b : PricedBook) → Holds n legs before b → number_of x ≡ first_of (line_faults b (list_to i line) (line i)) 0)
+  pub stops : {x : Refusal} {f : Fault Refusal} → ((b : PricedBook) → Holds n legs before b → number_of x ≡ first_of (line_faults b (list_to i line) (line i)) 0)
       → f ≡ make_fault x i 0 → Takes n legs before (list_to m line) left (record { units = u; saving = s }) (Err f)
   unfolding fault_answer lines_faults taken_lines
   stops {x} first e = rw e (record {
@@ -150,11 +150,11 @@ module _ {n : ℕ} {legs before : List ℕ} {line : ℕ → Line} {m : ℕ} {lef
   })
 
   -- a number that is not in the book
-  pub no_long : {f : Fault} → n ≤ (line i).long → f ≡ make_fault NotInBook i 0 → Takes n legs before (list_to m line) left (record { units = u; saving = s }) (Err f)
+  pub no_long : {f : Fault Refusal} → n ≤ (line i).long → f ≡ make_fault NotInBook i 0 → Takes n legs before (list_to m line) left (record { units = u; saving = s }) (Err f)
   unfolding line_faults first_of
   no_long h = stops (λ b holds. rw holds.0.count (search tests))
 
-  pub no_short : {f : Fault} → (line i).long < n → n ≤ (line i).short → f ≡ make_fault NotInBook i 0
+  pub no_short : {f : Fault Refusal} → (line i).long < n → n ≤ (line i).short → f ≡ make_fault NotInBook i 0
       → Takes n legs before (list_to m line) left (record { units = u; saving = s }) (Err f)
   unfolding line_faults first_of
   no_short p h = stops (λ b holds. rw holds.0.count (search tests))
@@ -188,7 +188,7 @@ module _ {n : ℕ} {legs before : List ℕ} {line : ℕ → Line} {m : ℕ} {lef
 
     module _ {r : Result Tally Refusal} (applies : numbered r ≡ applied_of (tally_at left l u s) l.amount long short) where
       -- the line is refused
-      pub refuses : {x : Refusal} {f : Fault} → r ≡ Err x → f ≡ make_fault x i 0 → Takes n legs before (list_to m line) left (record { units = u; saving = s }) (Err f)
+      pub refuses : {x : Refusal} {f : Fault Refusal} → r ≡ Err x → f ≡ make_fault x i 0 → Takes n legs before (list_to m line) left (record { units = u; saving = s }) (Err f)
       refuses e f = stops (λ b holds. refused (tally_at left l u s) l.amount long short applies e ∙ sym (line_faults_lem b holds)) f
 
       -- the line is taken off

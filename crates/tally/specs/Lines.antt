@@ -7,6 +7,7 @@ use Rattle.article.specs.Pair.{pair_rate_of, saving_rate_of, RateInRange}
 use Rattle.article.specs.declared.pair.Leg.{Leg}
 use Rattle.proposal.specs.{Submission.margin_limit, Submission.saved_limit, Submission.remainders_of, Outcome.pair_faults, Outcome.fault_answer, Outcome.lines_faults}
 use Rattle.proposal.specs.{Outcome.first_fault, Submission.PricedBook, Submission.terms_of}
+use Rattle.refusals.specs.declared.Refusal.{Refusal}
 use Rattle.proposal.specs.declared.Fault.{Fault}
 use Rattle.tally.specs.declared.{Tally.Tally, Sums.Sums}
 use lib.{ListN.length, ListN.take}
@@ -49,19 +50,19 @@ pub record LinesLent (n : ℕ) (legs left : List ℕ) (columns : List (List ℕ)
   pub each : Each (λ c. 8 * count_in columns ≤ length c) columns
 
 -- the lines that were taken off: all, or those before the one at fault
-unfoldable pub taken_lines : Result (Unit {0}) Fault → List Line → List Line
+unfoldable pub taken_lines : Result (Unit {0}) (Fault Refusal) → List Line → List Line
 taken_lines (Ok _) lines = lines
 taken_lines (Err f) lines = take f.place lines
 
 -- what the walk over a book's lines finds: the first fault; units and saving of the lines taken off; and what they leave of each holding
-pub record Walks (b : PricedBook) (lines : List Line) (before after : List ℕ) (sums : Sums) (r : Result (Unit {0}) Fault) : Type 0 where
+pub record Walks (b : PricedBook) (lines : List Line) (before after : List ℕ) (sums : Sums) (r : Result (Unit {0}) (Fault Refusal)) : Type 0 where
   pub fault : fault_answer r ≡ first_fault (lines_faults b lines)
   pub units : sums.units ≡ pairing.pair_units (terms_of b) (taken_lines r lines)
   pub saving : sums.saving ≡ pairing.saving (terms_of b) (taken_lines r lines)
   pub left : after ≡ front (remainders_of b (taken_lines r lines)) before
 
 -- what taking the lines in turn promises, of whichever book the lent lists hold; and bounds
-pub record Takes (n : ℕ) (legs before : List ℕ) (lines : List Line) (after : List ℕ) (sums : Sums) (r : Result (Unit {0}) Fault) : Type 0 where
+pub record Takes (n : ℕ) (legs before : List ℕ) (lines : List Line) (after : List ℕ) (sums : Sums) (r : Result (Unit {0}) (Fault Refusal)) : Type 0 where
   pub walks : (b : PricedBook) → LegsOf b n legs → Same n (entry before) b.value → Walks b lines before after sums r
   pub units-high : sums.units ≤ 512 * margin_limit
   pub left_high : AtMost value_limit n (entry after)

@@ -46,7 +46,7 @@ use Rattle.figures.specs.Margins.{MarginsLent, left_margin, Margins}
 use Rattle.verdict.specs.Judges.{outcome_in, Scratch, make_scratch, Found}
 
 -- what is refused has a number
-some_number : {A : Type 0} {r : Result A Fault} {f : Fault} → r ≡ Err f → number_of f.refusal ≡ 0 → ⊥
+some_number : {A : Type 0} {r : Result A (Fault Refusal)} {f : Fault Refusal} → r ≡ Err f → number_of f.refusal ≡ 0 → ⊥
 some_number {f = f} e z = omega (arith, number-from_1 f.refusal)
 
 -- columns of as many bytes each have an entry for each number below n
@@ -88,7 +88,7 @@ module _ (two : Bool) (head : Head) (c : Columns) where
     pub next : outcome_in two head c ≡ first_of (from_head s) figures
 
   module _ {r : Result (Unit {0}) Refusal} (counted : Counted c) (found : refused_by r ≡ length_fault (holding_sizes c) (line_sizes c) two) where
-    pub lengths_refused : {x : Refusal} (before after : Scratch) {f : Fault} → r ≡ Err x → f ≡ make_fault x 0 0 → Found two head c before after (Err f)
+    pub lengths_refused : {x : Refusal} (before after : Scratch) {f : Fault Refusal} → r ≡ Err x → f ≡ make_fault x 0 0 → Found two head c before after (Err f)
     unfolding fault_answer outcome_in Found
     lengths_refused {x} before after e g =
         let number : number_of x ≡ length_fault (holding_sizes c) (line_sizes c) two = ap refused_by (sym e) ∙ found in
@@ -121,7 +121,7 @@ module _ (two : Bool) (head : Head) (c : Columns) where
     pub next : outcome_in two head c ≡ first_of (from_book s) figures
 
   module _ (z : Sized) {headed : Result Account Refusal} (number : refused_by headed ≡ head_fault head) (found : numbered headed ≡ headed_of head) where
-    pub head_refused : {x : Refusal} (before after : Scratch) {f : Fault} → headed ≡ Err x → f ≡ make_fault x 0 0 → Found two head c before after (Err f)
+    pub head_refused : {x : Refusal} (before after : Scratch) {f : Fault Refusal} → headed ≡ Err x → f ≡ make_fault x 0 0 → Found two head c before after (Err f)
     unfolding fault_answer submission Found
     head_refused {x} before after e g =
         let fault : number_of x ≡ head_fault head = ap refused_by (sym e) ∙ number in
@@ -140,7 +140,7 @@ module _ (two : Bool) (head : Head) (c : Columns) where
     pub opened : Opened (account_in s) s.rows s.prices left₀ legs left
     pub next : outcome_in two head c ≡ first_of (from_lines s) figures
 
-  module _ {a : Account} (z : Dated a) {left₀ legs left : List ℕ} (room : n ≤ length left₀) {r : Result (Unit {0}) Fault} (opens : Opens a c.holdings c.price left₀ legs left r) where
+  module _ {a : Account} (z : Dated a) {left₀ legs left : List ℕ} (room : n ≤ length left₀) {r : Result (Unit {0}) (Fault Refusal)} (opens : Opens a c.holdings c.price left₀ legs left r) where
     -- the account that was opened is the submission's
     opens_it : Opens (account_in s) c.holdings c.price left₀ legs left r
     opens_it = subst (λ (x : Account). Opens x c.holdings c.price left₀ legs left r) z.account opens
@@ -149,7 +149,7 @@ module _ (two : Bool) (head : Head) (c : Columns) where
     unfolding submission
     book_found = opens_it.fault
 
-    pub book_refused : (before after : Scratch) {f : Fault} → r ≡ Err f → Found two head c before after (Err f)
+    pub book_refused : (before after : Scratch) {f : Fault Refusal} → r ≡ Err f → Found two head c before after (Err f)
     unfolding fault_answer Found
     book_refused before after e =
         let found = rw e at book_found in
@@ -237,12 +237,12 @@ module _ (two : Bool) (head : Head) (c : Columns) where
     }
 
     -- the lines, whose remainders go over the values
-    module _ {left' : List ℕ} {w : Sums} {r : Result (Unit {0}) Fault} (takes : Takes n legs left (lines_in c.lines) left' w r) where
+    module _ {left' : List ℕ} {w : Sums} {r : Result (Unit {0}) (Fault Refusal)} (takes : Takes n legs left (lines_in c.lines) left' w r) where
       walks : Walks b s.lines left left' w r
       unfolding submission
       walks = takes.walks b legs_of value_is
 
-      pub line_refused : (before after : Scratch) {f : Fault} → r ≡ Err f → Found two head c before after (Err f)
+      pub line_refused : (before after : Scratch) {f : Fault Refusal} → r ≡ Err f → Found two head c before after (Err f)
       unfolding fault_answer Found
       line_refused before after e =
           let found = rw e at walks.fault in
@@ -276,11 +276,11 @@ module _ (two : Bool) (head : Head) (c : Columns) where
         }
 
         -- the pairs
-        module _ {g : Result (Unit {0}) Fault} (finds : Finds n legs c.price g) where
+        module _ {g : Result (Unit {0}) (Fault Refusal)} (finds : Finds n legs c.price g) where
           pair_found : fault_answer g ≡ first_fault (uncovered_pairs b)
           pair_found = finds.found b legs_of price_is
 
-          pub pair_refused : (before after : Scratch) {f : Fault} → g ≡ Err f → Found two head c before after (Err f)
+          pub pair_refused : (before after : Scratch) {f : Fault Refusal} → g ≡ Err f → Found two head c before after (Err f)
           unfolding fault_answer Found
           pair_refused before after q =
               let found = rw q at pair_found in
@@ -300,7 +300,7 @@ module _ (two : Bool) (head : Head) (c : Columns) where
             saving_found : w.saving ≡ saving (terms_of b) s.lines
             saving_found = walks.saving ∙ rw all_taken
 
-            pub totals_refused : (before after : Scratch) {f : Fault} → (total ≡ w.saving → ⊥) → f ≡ make_fault Seventeen 0 0 → Found two head c before after (Err f)
+            pub totals_refused : (before after : Scratch) {f : Fault Refusal} → (total ≡ w.saving → ⊥) → f ≡ make_fault Seventeen 0 0 → Found two head c before after (Err f)
             unfolding fault_answer Found
             totals_refused before after q g = rw g (totals_differ_lem b s.lines _ figures next (λ z. q (total_found ∙ z ∙ sym saving_found)))
 

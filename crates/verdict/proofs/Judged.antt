@@ -16,6 +16,7 @@ use Rattle.columns.specs.Columns.{Columns, submission, holding_sizes, line_sizes
 use Rattle.sizes.specs.Sizes.{differ}
 use Rattle.proposal.specs.Submission.{Submission, priced, margin, units_of, ranked, InRankingOrder, cents_of, RoundedUp}
 use Rattle.proposal.specs.Outcome.{fault_answer, accepted}
+use Rattle.refusals.specs.declared.Refusal.{Refusal}
 use Rattle.proposal.specs.declared.Fault.{Fault}
 use Rattle.proposal.proofs.Demands.{demands}
 use Rattle.proposal.proofs.Figures.{rounded, rounded_once}
@@ -38,7 +39,7 @@ module _ (s : Submission) where
   all-ranked = (ranking (margin (priced s) s.lines) (priced s).count).order
 
 module _ (two : Bool) (h : Head) (c : Columns) (before after : Scratch) where
-  pub refusal-judged : (f : Fault) → outcome_in two h c ≡ fault_answer {A = ℕ} (Err f) → Judges two h c before after (refusal_of f)
+  pub refusal-judged : (f : Fault Refusal) → outcome_in two h c ≡ fault_answer {A = ℕ} (Err f) → Judges two h c before after (refusal_of f)
   unfolding fault_answer verdict_of outcome_in
   refusal-judged f e =
       let n : number_of f.refusal ≡ 0 → ⊥ = λ z. omega (arith, number-from_1 f.refusal) in

@@ -10,6 +10,7 @@ use Rattle.columns.specs.Columns.{Columns, submission, holding_sizes, line_sizes
 use Rattle.sizes.specs.Sizes.{differ}
 use Rattle.proposal.specs.{Submission.priced, Submission.remainders_of, Submission.margins_of, Submission.ranked, Submission.InRankingOrder, Outcome.outcome, Demands.Demands}
 use Rattle.proposal.specs.{Submission.units_of, Outcome.fault_answer, Outcome.accepted}
+use Rattle.refusals.specs.declared.Refusal.{Refusal}
 use Rattle.proposal.specs.declared.Fault.{Fault}
 use Rattle.verdict.specs.declared.Verdict.{Verdict, TheVariants.Accepted, TheVariants.Refused}
 
@@ -27,7 +28,7 @@ unfoldable pub written : Answer → List ℕ → List ℕ
 written a xs = cond (eqb a.number 0) xs []
 
 -- a refusal: its number and places
-abbrev pub refusal_of : Fault → Verdict
+abbrev pub refusal_of : (Fault Refusal) → Verdict
 refusal_of f = Refused (number_of f.refusal) f.place f.second
 
 -- whether 1 holds of the columns, and the outcome of what they hold with a head; `two` says whether 2 holds of what is lent
@@ -60,7 +61,7 @@ pub record Worked (h : Head) (c : Columns) (before after : Scratch) : Type 0 whe
   pub ranking : after.ranks ≡ front (ranked (priced (submission h c)) (submission h c).lines) before.ranks
 
 -- what it finds: the first fault is the outcome; where there is none the figures are, and total units are at hand
-unfoldable pub Found : Bool → Head → Columns → Scratch → Scratch → Result ℕ Fault → Type 0
+unfoldable pub Found : Bool → Head → Columns → Scratch → Scratch → Result ℕ (Fault Refusal) → Type 0
 Found two h c before after (Ok units) =
     (outcome_in two h c ≡ accepted (priced (submission h c)) (submission h c).lines) × (units ≡ units_of (priced (submission h c)) (submission h c).lines) × Worked h c before after
 Found two h c before after (Err f) = outcome_in two h c ≡ fault_answer {A = ℕ} (Err f)

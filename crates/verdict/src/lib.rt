@@ -59,7 +59,7 @@ fn total_units(
     requires { ScratchRoom (count_in columns.now.holdings) legs.old left.old margins.old ranks.old }
     ensures { Found two head columns.now (make_scratch left.old margins.old ranks.old) (make_scratch left.new margins.new ranks.new) result }
 {
-    sizes::lengths(columns, two)?;
+    sizes::column_lengths(columns, two)?;
     let account = holding::account_of(head)?;
     let n = columns.holdings();
     let mut sums = Sums {
