@@ -27,7 +27,7 @@ use Rattle.daybook.specs.Orders.{whole, lent_faults, rows_faults, totals_faults,
 use Rattle.daybook.specs.Orders.{holdings_after, day_after, book_after, accepted_answer, outcome, accepted, booked}
 use Rattle.daybook.specs.declared.{Day.Day, Refused.Refused}
 use Rattle.daybook.specs.declared.Order.{Order, TheVariants.Add, TheVariants.Take, TheVariants.MoveTo}
-use Rattle.booking.specs.Seeing.{trade_of, on_date, Opened, Opens, OpensLater, Counted, Seen, changed, Concluded}
+use Rattle.booking.specs.Seeing.{trade_of, on_date, Opened, Opens, OpensLater, Counted, Seen, KnownIn, changed, Concluded}
 use Rattle.booking.specs.Settling.{outcome_by, settlement, Settles, Held, Traded, Tradable, Adds, Takes}
 use Rattle.booking.specs.declared.{Scan.Scan, Settled.Settled, Outcome.Outcome, Change.TheVariants.Stay}
 use Rattle.booking.proofs.Seen.{rows-numbered, counted}
@@ -171,16 +171,15 @@ module _ (short : Bool) (d : Day) (list : List Row) (o : Order Row) where
                 })))
             concluded_moving again = moves (moving_on held to later.number (seen-again again))
 
-      -- what was seen without fault serves a trade
-      pub known-trade : {t : Row} → trade_of o ≡ t → d.totals ≡ scan.totals → Tradable d scan a t
-      known-trade {t} p right =
-          let long : length (take d.count list) ≡ d.count = length-take-le d.count list opened.within in
-          record {
-            rows = take d.count list;
-            few = omega (arith, long, opened.few);
-            count = long;
-            valued = opened.valued;
-            clear = sym (ap number seen.fault);
-            counted = subst (λ (x : Row). Counted a x (take d.count list) scan) p (counted seen);
-            totals = right;
-          }
+-- what was seen without fault serves a trade
+module _ {d : Day} {room : ℕ} {o : Order Row} {scan : Scan} {a : Account} (known : KnownIn d room o (Ok scan) a) where
+  pub known-trade : {t : Row} → trade_of o ≡ t → d.totals ≡ scan.totals → Tradable d scan a t
+  known-trade {t} p right = record {
+    rows = known.rows;
+    few = known.few;
+    count = known.count;
+    valued = known.valued;
+    clear = sym (ap number known.seen.fault);
+    counted = subst (λ (x : Row). Counted a x known.rows scan) p (counted known.seen);
+    totals = right;
+  }

@@ -9,5 +9,6 @@ pub mod Settling
 pub mod Moved
 pub mod Tradable
 pub mod Concluded
+pub mod Known
 pub mod Scanned
 pub mod Judged

@@ -3,10 +3,12 @@ use mathlib.Core.Path.{◌≡◌, refl, sym, ap, ◌∙◌}
 use mathlib.Core.Bool.{Bool, true, false}
 use Prim.Native.Nat.{ℕ, ◌≤◌, ◌<◌}
 use native.Mathlib.Omega.{arith}
-use borrow.Author.Tests.{lt-ltb, le-ltb, le-leb, lt-leb}
-use Rattle.std.specs.Prelude.{Result, Ok, Err}
+use borrow.Author.Tests.{lt-ltb, le-ltb, le-leb, lt-leb, leb-false, not-false}
+use Rattle.std.specs.Prelude.{Result, Ok, Err, Some}
 use Rattle.lists.specs.Choice.{first_of}
+use Rattle.lists.proofs.Firsts.{None, none_first}
 use Rattle.refusals.specs.{Refusals.number_of, Refusals.refused_by, Refusals.numbered, declared.Refusal.Refusal, declared.Refusal.TheVariants.Date, declared.Refusal.TheVariants.Booking}
+use Rattle.booking.proofs.Refusals.{has_number}
 use Rattle.dates.specs.Calendar.{is_date}
 use Rattle.dates.proofs.Tested.{date-high}
 use Rattle.holding.specs.Holding.{head_fault, headed_of, account_of}
@@ -15,7 +17,8 @@ use Rattle.holding.proofs.Heads.{head-valued, account-head}
 use Rattle.daybook.specs.Book.{head_of, account_at}
 use Rattle.daybook.specs.Orders.{lent_faults, date_faults}
 use Rattle.daybook.specs.declared.Day.{Day}
-use Rattle.booking.specs.Seeing.{Opened, Opens, OpensLater, on_date}
+use Rattle.daybook.specs.declared.Order.{TheVariants.MoveTo}
+use Rattle.booking.specs.Seeing.{Opened, Opens, OpensLater, OpensAgain, on_date}
 
 module _ (short : Bool) (room : ℕ) (d : Day) where
   abbrev number : ℕ
@@ -81,6 +84,37 @@ module _ {d : Day} {a : Account} {to : ℕ} where
       account = λ x f. cc;
       valued = λ x f. let same : record { date = to; letter = a.letter } ≡ x = cc in ap (λ (y : Account). is_date y.date) (sym same) ∙ real;
     }
+
+  -- an account on it: it is a date, and a later one
+  module _ {x : Account} (opens : OpensLater d a to (Ok x)) where
+    unrefused : None (date_faults d.date to)
+    unfolding date_faults
+    unrefused = (none_first (λ (n : ℕ). n) (date_faults d.date to) 0 (omega arith, (omega arith, tt)) (sym opens.number)).0
+
+    pub later_real : is_date to ≡ true
+    unfolding date_faults
+    later_real = not-false _ unrefused.0
+
+    pub later_than : d.date < to
+    unfolding date_faults
+    later_than = leb-false to d.date unrefused.1.0
+
+  -- none: it is no date, or no later one
+  pub later_none : {x : Refusal} → OpensLater d a to (Err x) → is_date to ≡ true → d.date < to → ⊥
+  unfolding date_faults first_of
+  later_none {x} opens real h =
+      let number : number_of x ≡ 0 = opens.number ∙ rw (real, lt-leb to d.date h) in
+      has_number x number
+
+-- what is to be seen once more
+pub again_on : {a : Account} {to : ℕ} → is_date to ≡ true → OpensAgain (MoveTo to) a (Some (Ok (record { date = to; letter = a.letter })))
+unfolding on_date
+again_on {a} {to} real = record {
+  account = λ x e v. let same : to ≡ x = cc in ap (λ (n : ℕ). Some (Ok (on_date n a))) same;
+  unreal = λ x e v. let same : to ≡ x = cc in absurd (cc);
+  none = λ other. absurd (other to refl);
+  valued = λ x f. let same : record { date = to; letter = a.letter } ≡ x = cc in ap (λ (y : Account). is_date y.date) (sym same) ∙ real;
+}
 
 pub date-fits : (to : ℕ) → is_date to ≡ true → to < 4294967296
 date-fits to v = omega (arith, date-high to v)

@@ -1,8 +1,8 @@
 -- A book seen one holding at a time, and what is to be done to its list: what the core of booking promises. Assumes nothing.
-use mathlib.Core.{Path.◌≡◌, Bool.Bool, Bool.true, List.List, List.[], List.◌∷◌, List.◌++◌}
-use Rattle.std.specs.Prelude.{ℕ, ◌-◌, ◌*◌, ◌≤◌, ◌<◌, length, get_or, take, drop, set, Result, Ok, Err}
+use mathlib.Core.{Path.◌≡◌, Bool.Bool, Bool.true, Bool.false, List.List, List.[], List.◌∷◌, List.◌++◌}
+use Rattle.std.specs.Prelude.{ℕ, ◌-◌, ◌*◌, ◌≤◌, ◌<◌, length, get_or, take, drop, set, Result, Ok, Err, Option, Some, None}
 use Rattle.lists.specs.{Choice.first_of, Tables.overwrite}
-use Rattle.refusals.specs.{Refusals.number_of, Refusals.refused_by, declared.Refusal.Refusal}
+use Rattle.refusals.specs.{Refusals.number_of, Refusals.refused_by, declared.Refusal.Refusal, declared.Refusal.TheVariants.Date}
 use Rattle.dates.specs.Calendar.{is_date}
 use Rattle.holding.specs.declared.{Account.Account, Row.Row}
 use Rattle.article.specs.Answer.{Answer, make_answer}
@@ -10,7 +10,7 @@ use Rattle.proposal.specs.{Submission.no_row, Submission.margin_limit, Outcome.f
 use Rattle.daybook.specs.Book.{valued, place_in, held_in, totals_of, account_at, Book, make_book}
 use Rattle.daybook.specs.Orders.{trade_or, answer_of, lent_faults, rows_faults, date_faults, outcome, booked}
 use Rattle.daybook.specs.declared.{Day.Day, Refused.Refused}
-use Rattle.daybook.specs.declared.Order.{Order}
+use Rattle.daybook.specs.declared.Order.{Order, TheVariants.MoveTo}
 use Rattle.booking.specs.declared.{Scan.Scan, Outcome.Outcome}
 use Rattle.booking.specs.declared.Change.{Change, TheVariants.Stay, TheVariants.Put, TheVariants.CloseUp}
 
@@ -44,6 +44,13 @@ pub record OpensLater (d : Day) (a : Account) (to : ℕ) (r : Result Account Ref
   pub number : refused_by r ≡ first_of (date_faults d.date to) 0
   pub account : (x : Account) → r ≡ Ok x → x ≡ on_date to a
   pub valued : (x : Account) → r ≡ Ok x → is_date x.date ≡ true
+
+-- what is to be seen once more: for a move to a date the same holdings, in the account on it, or 24 where it is none; for any other order nothing
+pub record OpensAgain (o : Order Row) (a : Account) (r : Option (Result Account Refusal)) : Type 0 where
+  pub account : (to : ℕ) → o ≡ MoveTo to → is_date to ≡ true → r ≡ Some (Ok (on_date to a))
+  pub unreal : (to : ℕ) → o ≡ MoveTo to → is_date to ≡ false → r ≡ Some (Err Date)
+  pub none : ((to : ℕ) → o ≡ MoveTo to → ⊥) → r ≡ None
+  pub valued : (x : Account) → r ≡ Some (Ok x) → is_date x.date ≡ true
 
 -- what was counted of holdings without fault: the first one equal to a trade, what it holds, and the totals
 pub record Counted (a : Account) (t : Row) (rows : List Row) (s : Scan) : Type 0 where
@@ -88,6 +95,26 @@ changed Stay entry xs = xs
 changed (Put at value) entry xs = set xs at (entry value)
 changed (CloseUp first end) entry xs = moved_up first end xs
 
+-- what was seen of a book for an order: before its holdings, of them, and for a move to a later date of them once more
+pub record Examined (short : Bool) (b : Book) (o : Order Row) (opening : Result Account Refusal) (scan moved : Result Scan Refused) : Type 0 where
+  pub opens : Opens short (length b.list) b.day opening
+  pub seen : (a : Account) → opening ≡ Ok a → Seen a (trade_of o) (take b.day.count b.list) scan
+  pub again : (a : Account) → opening ≡ Ok a → (to : ℕ) → o ≡ MoveTo to → is_date to ≡ true → b.day.date < to
+      → Seen (on_date to a) (trade_of o) (take b.day.count b.list) moved
+
+-- what was seen in an account was seen of some holdings, as many as are counted, no more than a book may have, and the list has them
+pub record KnownIn (d : Day) (room : ℕ) (o : Order Row) (scan : Result Scan Refused) (a : Account) : Type 0 where
+  pub rows : List Row
+  pub few : length rows ≤ 256
+  pub valued : is_date a.date ≡ true
+  pub seen : Seen a (trade_of o) rows scan
+  pub count : length rows ≡ d.count
+  pub within : d.count ≤ room
+
+-- so it was where nothing refused the book before its holdings
+abbrev pub Known : Day → ℕ → Order Row → Result Account Refusal → Result Scan Refused → Type 0
+Known d room o opening scan = (a : Account) → opening ≡ Ok a → KnownIn d room o scan a
+
 -- a change that a list of so many entries has room for
 pub record Fits (room : ℕ) (c : Change) : Type 0 where
   pub put : (at value : ℕ) → c ≡ Put at value → at < room
@@ -101,6 +128,11 @@ pub record Concluded (short : Bool) (b : Book) (o : Order Row) (r : Outcome) : T
   pub day : r.reply.day ≡ (booked short b o).day
   pub list : changed r.change (valued (trade_of o)) b.list ≡ (booked short b o).list
   pub stays : ((outcome short b o).number ≡ 0 → ⊥) → r.change ≡ Stay
+
+-- of every book of which this was seen
+pub record Concludes (d : Day) (room : ℕ) (o : Order Row) (opening : Result Account Refusal) (scan moved : Result Scan Refused) (r : Outcome) : Type 0 where
+  pub fits : Fits room r.change
+  pub concluded : (short : Bool) (list : List Row) → length list ≡ room → Examined short (make_book d list) o opening scan moved → Concluded short (make_book d list) o r
 
 -- of every book in a list of so many entries whose holdings' rows are given
 pub record Judges (short : Bool) (room : ℕ) (d : Day) (o : Order Row) (given : ℕ → Row → Type 0) (r : Outcome) : Type 0 where

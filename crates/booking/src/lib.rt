@@ -8,7 +8,7 @@ ghost use Rattle.dates.specs.Calendar.{is_date};
 ghost use Rattle.holding.specs.Holding.{Builds};
 ghost use Rattle.holding.specs.declared.Row.{Row};
 ghost use Rattle.daybook.specs.Book.{alike, valued};
-ghost use Rattle.booking.specs.Seeing.{trade_of, Opens, OpensLater, Unseen, Countable, Sees, Lists, Scans, Judges};
+ghost use Rattle.booking.specs.Seeing.{trade_of, Opens, OpensLater, OpensAgain, Unseen, Countable, Sees, Lists, Scans, Known, Concludes, Judges};
 ghost use Rattle.booking.specs.Settling.{Rates, adding_faults, Adds, Takes, outcome_by, Tradable};
 
 use daybook::{Day, Order, Refused, Reply};
@@ -18,7 +18,7 @@ use refusals::Refusal;
 // What was seen of holdings without fault: the place of the first one equal to the trade, or how many were seen where none is, which is where the trade joins;
 // what that one holds; and the five totals.
 #[derive(Clone, Copy)]
-struct Scan {
+pub struct Scan {
     pub at: usize,
     pub held: u64,
     pub totals: [u64; 5],
@@ -55,7 +55,7 @@ struct AtRate {
 }
 
 // A book before its holdings, in a list of so many entries: its account, or 3, 2, 24, 26. `short` says whether 2 holds of another list.
-fn open(day: Day, room: usize, short: bool) -> Result<Account, Refusal>
+pub fn open(day: Day, room: usize, short: bool) -> Result<Account, Refusal>
     ensures { Opens short room day result }
 {
     if day.count > 256 {
@@ -74,7 +74,7 @@ fn open(day: Day, room: usize, short: bool) -> Result<Account, Refusal>
 }
 
 // The account on the date that a book moves to, or 24, and 27 for a date that is not later.
-fn later(day: Day, account: Account, to: u64) -> Result<Account, Refusal>
+pub fn later(day: Day, account: Account, to: u64) -> Result<Account, Refusal>
     ensures { OpensLater day account to result }
 {
     if !dates::is_date(to) {
@@ -87,6 +87,25 @@ fn later(day: Day, account: Account, to: u64) -> Result<Account, Refusal>
         date: to as u32,
         letter: account.letter,
     })
+}
+
+// What is to be seen once more: for a move the same holdings, in the account of the new date, or 24; for any other order nothing.
+pub fn again(order: Order<Row>, account: Account) -> Option<Result<Account, Refusal>>
+    ensures { OpensAgain order account result }
+{
+    match order {
+        Order::Add(_t) => None,
+        Order::Take(_t) => None,
+        Order::MoveTo(to) => {
+            if !dates::is_date(to) {
+                return Some(Err(Refusal::Date));
+            }
+            Some(Ok(Account {
+                date: to as u32,
+                letter: account.letter,
+            }))
+        }
+    }
 }
 
 // The row that a move has for its trade, as the definition has it: what is seen is compared with a row in any case.
@@ -109,7 +128,7 @@ pub fn trade_of(order: Order<Row>) -> Row
 }
 
 // Nothing was seen yet.
-fn unseen() -> Scan
+pub fn unseen() -> Scan
     ensures { Unseen result }
 {
     Scan {
@@ -133,7 +152,7 @@ pub fn is_alike(r: Row, t: Row) -> bool
 
 // One holding more is seen, after i others: its first fault with its place, or its margin alone is added to its period's total, and it is compared with the
 // trade.
-fn see(scan: Scan, i: usize, account: Account, row: Row, trade: Row) -> Result<Scan, Refused>
+pub fn see(scan: Scan, i: usize, account: Account, row: Row, trade: Row) -> Result<Scan, Refused>
     requires { Countable account i scan }
     ensures { Sees account trade scan i row result }
 {
@@ -282,21 +301,20 @@ fn taking(day: Day, scan: Scan, account: Account, t: Row) -> Result<Settled, Ref
     Ok(Settled { day: next, change })
 }
 
-// An order to a book: what is then stored with it and what is to be done to its list, or the first refusal, with its place.
-fn settle<F: Fn(usize) -> Row>(
+// What is then stored with a book and what is to be done to its list, by what was seen of it, or the first refusal, with its place.
+fn settle(
     day: Day,
     room: usize,
-    short: bool,
     order: Order<Row>,
-    row: &F,
+    account: Result<Account, Refusal>,
+    scan: Result<Scan, Refused>,
+    moved: Result<Scan, Refused>,
 ) -> Result<Settled, Refused>
-    requires callable { (i : ℕ) → i < day.count → i < room → F.pre row.now i }
-    requires listed { (list : List Row) × Lists (F.post row.now) day.count list × (length list ≡ room) }
-    ensures { Judges short room day order (F.post row.now) (outcome_by day result) }
+    requires { Known day room order account scan }
+    ensures { Concludes day room order account scan moved (outcome_by day result) }
 {
-    let account = open(day, room, short)?;
-    let trade = trade_of(order);
-    let scan = see_rows(row, day.count, account, trade)?;
+    let account = account?;
+    let scan = scan?;
     if day.totals != scan.totals {
         return Err(Refused::from(Refusal::Booking));
     }
@@ -304,8 +322,8 @@ fn settle<F: Fn(usize) -> Row>(
         Order::Add(t) => adding(day, room, scan, account, t),
         Order::Take(t) => taking(day, scan, account, t),
         Order::MoveTo(to) => {
-            let account = later(day, account, to)?;
-            let moved = see_rows(row, day.count, account, trade)?;
+            later(day, account, to)?;
+            let moved = moved?;
             let totals = moved.totals;
             let mut next = day;
             next.date = to;
@@ -318,19 +336,20 @@ fn settle<F: Fn(usize) -> Row>(
     }
 }
 
-// The outcome of an order to a book in a list of so many entries; `row` gives the row at a place.
-pub fn judge<F: Fn(usize) -> Row>(
+// The outcome of an order to a book, by what was seen of it: before its holdings, of them, and for a move of them once more. Nothing is to be seen of a
+// book that was refused before them, nor once more for an order that is no move to a later date: whatever is given there is not read.
+pub fn conclude(
     day: Day,
     room: usize,
-    short: bool,
     order: Order<Row>,
-    row: &F,
+    account: Result<Account, Refusal>,
+    scan: Result<Scan, Refused>,
+    moved: Result<Scan, Refused>,
 ) -> Outcome
-    requires callable { (i : ℕ) → i < day.count → i < room → F.pre row.now i }
-    requires listed { (list : List Row) × Lists (F.post row.now) day.count list × (length list ≡ room) }
-    ensures { Judges short room day order (F.post row.now) result }
+    requires { Known day room order account scan }
+    ensures { Concludes day room order account scan moved result }
 {
-    match settle(day, room, short, order, row) {
+    match settle(day, room, order, account, scan, moved) {
         Ok(settled) => {
             let day = settled.day;
             let reply = Reply {
@@ -353,4 +372,33 @@ pub fn judge<F: Fn(usize) -> Row>(
             }
         }
     }
+}
+
+// The outcome of an order to a book in a list of so many entries; `row` gives the row at a place.
+pub fn judge<F: Fn(usize) -> Row>(
+    day: Day,
+    room: usize,
+    short: bool,
+    order: Order<Row>,
+    row: &F,
+) -> Outcome
+    requires callable { (i : ℕ) → i < day.count → i < room → F.pre row.now i }
+    requires listed { (list : List Row) × Lists (F.post row.now) day.count list × (length list ≡ room) }
+    ensures { Judges short room day order (F.post row.now) result }
+{
+    let account = match open(day, room, short) {
+        Ok(account) => account,
+        Err(refusal) => {
+            let scan = Ok(unseen());
+            return conclude(day, room, order, Err(refusal), scan, scan);
+        }
+    };
+    let trade = trade_of(order);
+    let scan = see_rows(row, day.count, account, trade);
+    let moved = match again(order, account) {
+        Some(Ok(then)) => see_rows(row, day.count, then, trade),
+        Some(Err(_)) => scan,
+        None => scan,
+    };
+    conclude(day, room, order, Ok(account), scan, moved)
 }
