@@ -39,15 +39,15 @@ fn in_form(text: &[u8]) -> bool
     first.iter().all(|&c| is_character(c)) && last.iter().all(|&c| c.is_ascii_digit())
 }
 
-// The number of a character.
+// The number of a character. The digit is worked out before the test, so that a character takes no branch.
 fn value(c: u8) -> u64
     ensures { (result ≡ value_of c) × (result ≤ 207) }
 {
+    let digit = c.saturating_sub(b'0');
     if c.is_ascii_uppercase() {
-        // One subtraction, so that a character takes no branch.
-        return (c - (b'A' - 10)) as u64;
+        return (digit - 7) as u64;
     }
-    c.saturating_sub(b'0') as u64
+    digit as u64
 }
 
 // The remainder by 97, one character on.

@@ -52,12 +52,12 @@ fn quotable(c: u8) -> bool
 fn text_end(text: &[u8], at: usize) -> usize
     ensures { result ≡ text_end text.now at }
 {
-    for i in at..text.len() {
-        if !text_data(text[i]) {
-            return i;
-        }
+    let mut i = at;
+    // By hand: a for over the places, or take_while, takes more steps for each field, which a text of commas alone shows.
+    while i < text.len() && text_data(text[i]) {
+        i += 1;
     }
-    at.max(text.len())
+    i
 }
 
 // Whether a byte stands at a place.

@@ -28,7 +28,7 @@ unfoldable pub written : Answer → List ℕ → List ℕ
 written a xs = cond (eqb a.number 0) xs []
 
 -- a refusal: its number and places
-abbrev pub refusal_of : (Fault Refusal) → Verdict
+abbrev pub refusal_of : Fault Refusal → Verdict
 refusal_of f = Refused (number_of f.refusal) f.place f.second
 
 -- whether 1 holds of the columns, and the outcome of what they hold with a head; `two` says whether 2 holds of what is lent

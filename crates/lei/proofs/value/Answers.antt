@@ -7,7 +7,10 @@ pub returns-then-is_ascii_uppercase : goal.returns-then-is_ascii_uppercase
 returns-then-is_ascii_uppercase c =
     let range = c.if-is_ascii_uppercase.ensures.cases in
     let value = value-capital _ (capital-test _ range) in
-    (omega (arith, value, range), omega (arith, range))
+    let digit = c.saturating_sub-digit.ensures in
+    (omega (arith, value, range, digit), omega (arith, range, digit))
 
 pub returns : goal.returns
-returns c = (rw c.saturating_sub.ensures (value-other _ (sym (c.if-is_ascii_uppercase.ensures.value ∙ ascii_capital _))), omega (arith, c.saturating_sub.ensures))
+returns c =
+    let digit = c.saturating_sub-digit.ensures in
+    (rw digit (value-other _ (sym (c.if-is_ascii_uppercase.ensures.value ∙ ascii_capital _))), omega (arith, digit))

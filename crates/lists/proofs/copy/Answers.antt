@@ -1,5 +1,5 @@
 -- `copy` has written one byte more after each turn, and all of them at the end. Assumes nothing.
-use Rattle.std.proofs.Common.{List, ℕ, ◌≡◌, length, get_or, refl, ap, ◌∙◌, arith, rules}
+use Rattle.std.proofs.Common.{List, ℕ, ◌≡◌, length, refl, ap, ◌∙◌, arith, rules}
 use Rattle.lists.specs.Tables.{list_to, front}
 use Rattle.lists.proofs.Tables.{to_back}
 use Rattle.lists.proofs.Overwrite.{front-more}
