@@ -8,7 +8,6 @@ use Rattle.std.specs.Prelude.{Result, Ok, Err, Some}
 use Rattle.lists.specs.Choice.{first_of}
 use Rattle.lists.proofs.Firsts.{None, none_first}
 use Rattle.refusals.specs.{Refusals.number_of, Refusals.refused_by, Refusals.numbered, declared.Refusal.Refusal, declared.Refusal.TheVariants.Date, declared.Refusal.TheVariants.Booking}
-use Rattle.booking.proofs.Refusals.{has_number}
 use Rattle.dates.specs.Calendar.{is_date}
 use Rattle.dates.proofs.Tested.{date-high}
 use Rattle.holding.specs.Holding.{head_fault, headed_of, account_of}
@@ -98,13 +97,6 @@ module _ {d : Day} {a : Account} {to : ℕ} where
     pub later_than : d.date < to
     unfolding date_faults
     later_than = leb-false to d.date unrefused.1.0
-
-  -- none: it is no date, or no later one
-  pub later_none : {x : Refusal} → OpensLater d a to (Err x) → is_date to ≡ true → d.date < to → ⊥
-  unfolding date_faults first_of
-  later_none {x} opens real h =
-      let number : number_of x ≡ 0 = opens.number ∙ rw (real, lt-leb to d.date h) in
-      has_number x number
 
 -- what is to be seen once more
 pub again_on : {a : Account} {to : ℕ} → is_date to ≡ true → OpensAgain (MoveTo to) a (Some (Ok (record { date = to; letter = a.letter })))
