@@ -69,6 +69,8 @@ fn stands(text: &[u8], at: usize, byte: u8) -> bool
 }
 
 // The quote that closes a field whose text starts at a place.
+// A call of its own, so that the loop over a field without quotes stays short.
+#[inline(never)]
 #[tactic(auto, using(crate::proofs::Scan::closings))]
 fn close(text: &[u8], at: usize) -> Option<usize>
     ensures { result ≡ close_at text.now at }
