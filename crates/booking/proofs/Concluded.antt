@@ -33,6 +33,19 @@ use Rattle.booking.specs.declared.{Scan.Scan, Settled.Settled, Outcome.Outcome, 
 use Rattle.booking.proofs.Seen.{rows-numbered, counted}
 use Rattle.booking.proofs.Moved.{moving_refused, moving_matured, moving_on}
 
+-- what was seen without fault serves a trade
+module _ {d : Day} {room : ℕ} {o : Order Row} {scan : Scan} {a : Account} (known : KnownIn d room o (Ok scan) a) where
+  pub known_in-trade : {t : Row} → trade_of o ≡ t → d.totals ≡ scan.totals → Tradable d scan a t
+  known_in-trade {t} p right = record {
+    rows = known.rows;
+    few = known.few;
+    count = known.count;
+    valued = known.valued;
+    clear = sym (ap number known.seen.fault);
+    counted = subst (λ (x : Row). Counted a x known.rows scan) p (counted known.seen);
+    totals = right;
+  }
+
 module _ (short : Bool) (d : Day) (list : List Row) (o : Order Row) where
   abbrev b : Book
   b = make_book d list
@@ -71,6 +84,12 @@ module _ (short : Bool) (d : Day) (list : List Row) (o : Order Row) where
     from_rows_lem =
         first-append (at_place 0 (lent_faults short room d)) (from_rows room d rows o) _
         ∙ first_of-none (at_place 0 (lent_faults short room d)) _ (zero_at 0 (lent_faults short room d) lent-listed (sym opens.number))
+
+    -- what is seen of its holdings is known
+    pub known-rows : {r : Result Scan Refused} → Seen a (trade_of o) (take d.count list) r → KnownIn d room o r a
+    known-rows seen =
+        let long : length (take d.count list) ≡ d.count = length-take-le d.count list opened.within in
+        record { rows = take d.count list; few = omega (arith, long, opened.few); valued = opened.valued; seen = seen; count = long; within = opened.within }
 
     seen-rows : {r : Result Scan Refused} → Seen a (trade_of o) (take d.count list) r → Seen (account_at d) (trade_of o) rows r
     unfolding holdings_in
@@ -171,15 +190,6 @@ module _ (short : Bool) (d : Day) (list : List Row) (o : Order Row) where
                 })))
             concluded_moving again = moves (moving_on held to later.number (seen-again again))
 
--- what was seen without fault serves a trade
-module _ {d : Day} {room : ℕ} {o : Order Row} {scan : Scan} {a : Account} (known : KnownIn d room o (Ok scan) a) where
-  pub known-trade : {t : Row} → trade_of o ≡ t → d.totals ≡ scan.totals → Tradable d scan a t
-  known-trade {t} p right = record {
-    rows = known.rows;
-    few = known.few;
-    count = known.count;
-    valued = known.valued;
-    clear = sym (ap number known.seen.fault);
-    counted = subst (λ (x : Row). Counted a x known.rows scan) p (counted known.seen);
-    totals = right;
-  }
+      -- so it serves a trade
+      pub known-trade : {t : Row} → trade_of o ≡ t → d.totals ≡ scan.totals → Tradable d scan a t
+      known-trade p right = known_in-trade (known-rows seen) p right

@@ -18,7 +18,7 @@ use Rattle.booking.specs.Settling.{outcome_by, Tradable, Adds, Takes}
 use Rattle.booking.specs.declared.{Scan.Scan, Settled.Settled, Change.TheVariants.Stay}
 use Rattle.booking.proofs.Changed.{fits_none}
 use Rattle.booking.proofs.Opened.{later_real, later_than}
-use Rattle.booking.proofs.Concluded.{concluded-before, concluded-row, concluded-totals, concluded-adding, concluded-taking, concluded-undated, concluded-matured, concluded_moving, known-trade}
+use Rattle.booking.proofs.Concluded.{concluded-before, concluded-row, concluded-totals, concluded-adding, concluded-taking, concluded-undated, concluded-matured, concluded_moving, known_in-trade}
 
 module _ (d : Day) (room : ℕ) (o : Order Row) (opening : Result Account Refusal) (scan moved : Result Scan Refused) where
   pub concludes-before : {x : Refusal} → opening ≡ Err x → Concludes d room o opening scan moved (outcome_by d (Err (whole x)))
@@ -58,7 +58,7 @@ module _ (d : Day) (room : ℕ) (o : Order Row) (opening : Result Account Refusa
           known_in = subst (λ (r : Result Scan Refused). KnownIn d room o r a) clear (known a opened)
 
           pub tradable : {x : Row} → trade_of o ≡ x → Tradable d s a x
-          tradable p = known-trade known_in p right
+          tradable p = known_in-trade known_in p right
 
           pub concludes-adding : {x : Row} {r : Result Settled Refused} → o ≡ Add x → Adds d room s a x r → Concludes d room o opening scan moved (outcome_by d r)
           concludes-adding {x} {r} p adds = record {

@@ -9,12 +9,22 @@ use native.Mathlib.Omega.{arith}
 use borrow.Author.Tests.{leb-true, leb-false}
 use lib.Dec.{eqb, leb}
 use Rattle.std.proofs.lemmas.List.{take_min}
+use Rattle.std.specs.List.{prefix_len}
 use lib.ListN.{length, get_or, take, drop, length-drop, drop_of_length-le}
 use lib.Seq.{drop-cons, drop-drop}
 use Rattle.lists.proofs.Tests.{by-test, either_way}
 use Rattle.rfc4180.specs.Grammar.{is_text, is_quotable}
 use Rattle.rfc4180.specs.Reading.{piece, part, text_from, text_end, close_from, close_at, followed_by, followed, begins}
 use Rattle.rfc4180.specs.declared.Span.{Span}
+
+-- TEXTDATA ends as many bytes further on as pass
+text_from-prefix : (i : ℕ) (s : List ℕ) → i + prefix_len is_text s ≡ text_from i s
+unfolding text_from
+text_from-prefix i [] = omega arith
+text_from-prefix i (c ∷ s) =
+    by-test (λ (n : ℕ). i + n ≡ text_from i (c ∷ s)) (is_text c)
+    (λ e. rw e (omega (arith, text_from-prefix (i + 1) s)))
+    (λ e. rw e (omega arith))
 
 -- a quote that closes, by the first byte of a list and whether another quote stands next
 pub close_cons : (i c : ℕ) (s : List ℕ)
@@ -37,6 +47,10 @@ module _ (text : List ℕ) (i : ℕ) where
   begins_past b h = rw (drop_of_length-le text h)
 
   -- where TEXTDATA from i on ends
+  pub text_end-prefix : i + prefix_len is_text (drop i text) ≡ text_end text i
+  unfolding text_end
+  text_end-prefix = text_from-prefix i (drop i text)
+
   pub text_turn : i < length text → text_end text i ≡ cond (is_text (get_or text i 0)) (text_end text (i + 1)) i
   unfolding text_end text_from
   text_turn h = rw (here h)
