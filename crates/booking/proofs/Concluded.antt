@@ -33,7 +33,7 @@ use Rattle.booking.specs.declared.{Scan.Scan, Settled.Settled, Outcome.Outcome, 
 use Rattle.booking.proofs.Seen.{rows-numbered, counted}
 use Rattle.booking.proofs.Moved.{moving_refused, moving_matured, moving_on}
 
--- what was seen without fault serves a trade
+-- what is known without fault serves a trade
 module _ {d : Day} {room : ℕ} {o : Order Row} {scan : Scan} {a : Account} (known : KnownIn d room o (Ok scan) a) where
   pub known_in-trade : {t : Row} → trade_of o ≡ t → d.totals ≡ scan.totals → Tradable d scan a t
   known_in-trade {t} p right = record {
@@ -190,6 +190,6 @@ module _ (short : Bool) (d : Day) (list : List Row) (o : Order Row) where
                 })))
             concluded_moving again = moves (moving_on held to later.number (seen-again again))
 
-      -- so it serves a trade
+      -- what was seen without fault serves a trade
       pub known-trade : {t : Row} → trade_of o ≡ t → d.totals ≡ scan.totals → Tradable d scan a t
       known-trade p right = known_in-trade (known-rows seen) p right

@@ -18,7 +18,8 @@ use Rattle.booking.specs.Seeing.{trade_of, on_date, Opens, OpensLater, OpensAgai
 use Rattle.booking.specs.Settling.{outcome_by, Tradable, Adds, Takes}
 use Rattle.booking.specs.declared.{Scan.Scan, Settled.Settled, Outcome.Outcome, Change.TheVariants.Stay}
 use Rattle.booking.proofs.Changed.{fits_none}
-use Rattle.booking.proofs.Concluded.{concluded-before, concluded-row, concluded-totals, concluded-adding, concluded-taking, concluded-undated, concluded-matured, concluded_moving, known-rows, known-trade}
+use Rattle.booking.proofs.Concluded.{concluded-before, concluded-row, concluded-totals, concluded-adding, concluded-taking, concluded-undated, concluded-matured}
+use Rattle.booking.proofs.Concluded.{concluded_moving, known-rows, known-trade}
 
 module _ (short : Bool) (room : ℕ) (d : Day) (o : Order Row) (given : ℕ → Row → Type 0) where
   -- refused before its holdings
@@ -45,13 +46,10 @@ module _ (short : Bool) (room : ℕ) (d : Day) (o : Order Row) (given : ℕ → 
 
     -- no holding refused
     module _ {t : Row} (trade : t ≡ trade_of o) {s : Scan} (seen : Scans a t d.count given (Ok s)) where
-      seen_clear : (list : List Row) → Lists given d.count list → length list ≡ room → Seen a (trade_of o) (take d.count list) (Ok s)
-      seen_clear = seen_in trade seen
-
       pub judged-totals : true ≡ not (pointwise nat_eq d.totals s.totals) → Judges short room d o given (outcome_by d (Err (whole Booking)))
       judged-totals off = record {
         fits = fits_none;
-        concluded = λ list lists l. concluded-totals short d list o (at_list list l) (seen_clear list lists l) (other_text _ _ (sym (not-true _ (sym off))));
+        concluded = λ list lists l. concluded-totals short d list o (at_list list l) (seen_in trade seen list lists l) (other_text _ _ (sym (not-true _ (sym off))));
       }
 
       module _ (equal : false ≡ not (pointwise nat_eq d.totals s.totals)) where
@@ -59,26 +57,26 @@ module _ (short : Bool) (room : ℕ) (d : Day) (o : Order Row) (given : ℕ → 
         right = same_text _ _ (sym (not-false _ (sym equal)))
 
         pub tradable : (x : Row) → (list : List Row) × Lists given d.count list × (length list ≡ room) → trade_of o ≡ x → Tradable d s a x
-        tradable x (list, lists, l) p = known-trade short d list o (at_list list l) (seen_clear list lists l) p right
+        tradable x (list, lists, l) p = known-trade short d list o (at_list list l) (seen_in trade seen list lists l) p right
 
         pub judged-adding : {x : Row} {r : Result Settled Refused} → o ≡ Add x → Adds d room s a x r → Judges short room d o given (outcome_by d r)
         judged-adding {x} {r} p adds = record {
           fits = adds.fits (opens.opened a refl).within;
           concluded = λ list lists l.
-              concluded-adding short d list o (at_list list l) (seen_clear list lists l) right p (subst (λ (n : ℕ). Adds d n s a x r) (sym l) adds);
+              concluded-adding short d list o (at_list list l) (seen_in trade seen list lists l) right p (subst (λ (n : ℕ). Adds d n s a x r) (sym l) adds);
         }
 
         pub judged-taking : {x : Row} {r : Result Settled Refused} → o ≡ Take x → Takes d s a x r → Judges short room d o given (outcome_by d r)
         judged-taking p takes = record {
           fits = takes.fits room (opens.opened a refl).within;
-          concluded = λ list lists l. concluded-taking short d list o (at_list list l) (seen_clear list lists l) right p takes;
+          concluded = λ list lists l. concluded-taking short d list o (at_list list l) (seen_in trade seen list lists l) right p takes;
         }
 
         module _ {to : ℕ} (p : o ≡ MoveTo to) where
           pub judged-undated : {x : Refusal} → OpensLater d a to (Err x) → Judges short room d o given (outcome_by d (Err (whole x)))
           judged-undated later = record {
             fits = fits_none;
-            concluded = λ list lists l. concluded-undated short d list o (at_list list l) (seen_clear list lists l) right p later;
+            concluded = λ list lists l. concluded-undated short d list o (at_list list l) (seen_in trade seen list lists l) right p later;
           }
 
           module _ {then : Account} (later : OpensLater d a to (Ok then)) where
@@ -86,7 +84,7 @@ module _ (short : Bool) (room : ℕ) (d : Day) (o : Order Row) (given : ℕ → 
             judged-matured again = record {
               fits = fits_none;
               concluded = λ list lists l.
-                  concluded-matured short d list o (at_list list l) (seen_clear list lists l) right p later (again list lists (within list l));
+                  concluded-matured short d list o (at_list list l) (seen_in trade seen list lists l) right p later (again list lists (within list l));
             }
 
             pub judged-moved : {w : Row} {moved : Scan} → Scans then w d.count given (Ok moved)
@@ -97,7 +95,7 @@ module _ (short : Bool) (room : ℕ) (d : Day) (o : Order Row) (given : ℕ → 
             judged-moved again = record {
               fits = fits_none;
               concluded = λ list lists l.
-                  concluded_moving short d list o (at_list list l) (seen_clear list lists l) right p later (again list lists (within list l));
+                  concluded_moving short d list o (at_list list l) (seen_in trade seen list lists l) right p later (again list lists (within list l));
             }
 
     module _ {t : Row} (trade : t ≡ trade_of o) {scan : Result Scan Refused} (seen : Scans a t d.count given scan) where
